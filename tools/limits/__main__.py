@@ -24,7 +24,9 @@ RELOADS = [
 FAMILIES = [
     ("255 queues with keys of their own in a chain, one `never`", families.chain_of_own_keys, ("check --out", "verify")),
     ("255 queues with keys of their own through a ring of 255 exchanges, one `never`", families.ring_of_own_keys, ("check --out", "verify")),
+    ("64 `never` over such a ring", families.ring_of_many, ("check --out", "verify")),
     ("a `never` that is broken through such a ring", families.broken_through_the_ring, ("check",)),
+    ("47 certificates of 32,769 states, in each of which a message comes through 255 exchanges", families.many_listed, ("verify",)),
     ("34,660 states of 63 patterns and 1,893 letters", families.many_letters, ("check --out", "verify")),
     ("64,000 states, 64 letters of each", families.letters_that_all_lead, ("check --out", "verify")),
     ("more than 65,536 states by all patterns and by a slice", families.undecided_by_states, ("check",)),
@@ -57,10 +59,12 @@ class Files:
     """The files of a family, in a folder of their own."""
 
     def __init__(self, folder, family):
-        definitions, guarantees = family()
+        definitions, guarantees, *certificates = family()
         self.definitions, self.guarantees, self.certificates, self.script = (os.path.join(folder, it) for it in ("d.json", "g.json", "c.json", "script"))
         write(self.definitions, json.dumps(definitions))
         write(self.guarantees, json.dumps({"guarantees": guarantees}))
+        for listed in certificates:
+            write(self.certificates, json.dumps(listed, separators=(",", ":")))
 
     def words(self, command):
         """The words behind `warren` for a command over these files."""

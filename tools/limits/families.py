@@ -164,11 +164,33 @@ def ring_of_own_keys():
     return ring(255).file(), [guarantee("never", "#", "z")]
 
 
+def ring_of_many():
+    """64 `never` over the same ring, all of which hold."""
+    patterns = ["#", *(f"b{number}.#" for number in range(63))]
+    return ring(255).file(), [guarantee("never", pattern, "z") for pattern in patterns]
+
+
 def broken_through_the_ring():
     """A `never` that is broken by what dies in 255 queues, one after the other, each time through 255 exchanges."""
     topology = ring(255)
     topology.bind("e253", long_key(254), "z")
     return topology.file(), [guarantee("never", "a.#", "z")]
+
+
+def many_listed(count=47, words=14):
+    """So many `never`, each with a certificate of 2^(words + 1) + 1 states of two patterns: as many as a file has room for. In each state a message comes
+    through 255 fanout exchanges, each of which leads to 14 others."""
+    topology = topic_beside("q", *(f"z{number}" for number in range(count)))
+    for number in range(255):
+        topology.exchange(f"e{number}", "fanout")
+    for number in range(255):
+        for further in range(14):
+            topology.bind(f"e{number}", "", f"e{(number + 1 + further * 17) % 255}", "exchange")
+    topology.bind("x", "#", "e0", "exchange")
+    topology.bind("x", stars("a", words), "q")
+    states = [*([2, 2 + 4 * number] for number in range(2 ** (words + 1))), [3, 3]]
+    guarantees = [guarantee("never", "#", f"z{number}") for number in range(count)]
+    return topology.file(), guarantees, [{"form": 1, "states": states, **it} for it in guarantees]
 
 
 def mark(text):

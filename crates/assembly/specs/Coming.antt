@@ -8,7 +8,7 @@ pub record Coming : Type 0 where
   -- how many bytes the storage had when it was last created or grown
   pub kept : ℕ
 
--- a body of which nothing has come has no storage
+-- what has come of a body at first: no byte, and there is no storage
 abbrev pub nothing_came : Coming
 nothing_came = record { bytes = []; kept = 0 }
 

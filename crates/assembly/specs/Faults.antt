@@ -14,14 +14,16 @@ abbrev pub IsFault : (ℕ → Type 0) → Fault → Type 0
 IsFault Why (Broken code) = Why code
 IsFault Why Memory = ⊤
 
--- if the reader of methods refuses the payload by `refusal`, the fault's reply code, if it has one, is one by which the payload is refused
+-- if the reader of methods is right to refuse the payload by `refusal`, the fault is right:
+-- its reply code, if any, is one with which the payload is refused
 abbrev pub RefusesMethod : List ℕ → methods_refusal.BadMethod → Fault → Type 0
 RefusesMethod payload refusal fault = methods.MethodIsRefused payload refusal → IsFault (λ code. SaysMethod payload (Err code)) fault
 
--- if the reader of a header's size refuses the payload by `refusal`, the fault's reply code, if it has one, is one by which the payload is refused
+-- if the reader of a header's size is right to refuse the payload by `refusal`, the fault is right:
+-- its reply code, if any, is one with which the payload is refused
 abbrev pub RefusesSize : List ℕ → headers_refusal.BadHeader → Fault → Type 0
 RefusesSize payload refusal fault = headers.TellsSize payload (Err refusal) → IsFault (λ code. SaysSize payload (Err code)) fault
 
--- if the reader of headers refuses the payload by `refusal`, the fault's reply code, if it has one, is one by which the payload is refused
+-- if the reader of headers is right to refuse the payload by `refusal`, the fault is right: its reply code, if any, is one by which the payload is refused
 abbrev pub RefusesHeader : List ℕ → headers_refusal.BadHeader → Fault → Type 0
 RefusesHeader payload refusal fault = headers.HeaderIsRefused payload refusal → IsFault (λ code. SaysHeader payload (Err code)) fault

@@ -1,4 +1,4 @@
--- The value of a `Stream`.
+-- What contracts see of a `Stream`: begun contents, unread bytes, and what is cached.
 use Rattle.std.specs.Prelude.{ℕ, List, Bool, Option}
 use Rattle.model.specs.Commands.{Stream}
 use Rattle.assembly.specs.declared.contents.Awaited.{Awaited}
@@ -7,13 +7,13 @@ use Rattle.assembly.specs.Pending.{pending_at}
 
 -- the bytes of a connection that are not a command yet: contents that are begun, and unread bytes
 pub record Held : Type 0 where
-  -- the first eight bytes are awaited
+  -- whether the first eight bytes are awaited
   pub is_new : Bool
   -- the longest frame, in bytes
   pub max : ℕ
-  -- contents are kept, as for a connection that runs
+  -- whether contents are kept, as for a connection that runs
   pub keeps : Bool
-  -- what each channel has begun, by channel number
+  -- what each channel awaits, by channel number: a method, or more of a content that is begun
   pub contents : List Awaited
   -- the bytes that were fed and are not read yet
   pub unread : List ℕ

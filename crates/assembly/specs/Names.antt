@@ -6,7 +6,7 @@ use Rattle.model.specs.declared.methods.Publish.{Publish}
 use Rattle.model.specs.declared.methods.Method.TheVariants.{BasicPublish}
 use Rattle.assembly.specs.declared.names.Known.{Known}
 
--- the payload is this publish
+-- the payload encodes the publish
 pub record SpellsPublish (payload : List ℕ) (publish : Publish) : Type 0 where
   pub fits : IsMethod (BasicPublish publish)
   pub says : SaysMethod payload (Ok (BasicPublish publish))

@@ -24,7 +24,7 @@ pub record GivesCommand (old : Stream) (c : Command) (new : Stream) : Type 0 whe
   pub command : IsCommand c
   pub shorter : length new.unread + 8 ≤ length old.unread
 
--- the result and the new stream are correct; an allocation can only fail if there was something to read, and the same is still to come
+-- the result and the new stream are correct; an allocation fails only if there was something to read, and then the same commands are still to come
 abbrev pub YieldsNext : Stream → Result (Option Command) Fault → Stream → Type 0
 YieldsNext old (Ok (Some c)) new = GivesCommand old c new
 YieldsNext old (Ok None) new = Stops old None new

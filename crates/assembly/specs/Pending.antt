@@ -25,7 +25,7 @@ pub record IsPublishBegun (publish : Publish) (properties : Properties) (size : 
   pub body : size ≤ most_body
   pub header : length (header_bytes size properties) ≤ most_header
 
--- what a channel has begun can be encoded again, the storage of its body is at most twice what has come, and at most as much is dropped as was declared
+-- what a channel has begun can be encoded again, its body's storage is at most twice what has come, and no more was dropped than was declared
 abbrev pub IsSpelledSoFar : Awaited → Type 0
 IsSpelledSoFar Nothing = ⊤
 IsSpelledSoFar (WantsHeader publish) = IsMethod (BasicPublish publish)
@@ -57,7 +57,7 @@ IsDropped (Drops d) = ⊤
 abbrev pub content_at : List Awaited → ℕ → Awaited
 content_at contents channel = slice_index_or contents channel Nothing
 
--- what each channel has begun; those past the end of the list have begun nothing
+-- the content that each channel has begun and not completed, if any; channels past the end of the list have begun none
 abbrev pub pending_at : List Awaited → ℕ → Commands.Pending
 pending_at contents channel = pending_of (content_at contents channel)
 

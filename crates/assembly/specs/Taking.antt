@@ -30,7 +30,7 @@ TakesHeader keeps frame old result new =
     → TakesEffect (λ t. (r : Result Header ℕ) × SaysHeader frame.payload r × (t ≡ taken_header keeps frame.channel p r))
     (Commands.Wants_header p) result (pending_of new)
 
--- a frame with this effect was handled on `channel`; the other channels await what they did, and an error changes nothing
+-- a frame with this effect was handled on `channel`; the other channels await what they awaited before, and an error changes nothing
 abbrev pub DoesAt : (Taken → Type 0) → ℕ → (ℕ → Commands.Pending) → Result (Option Command) Fault → (ℕ → Commands.Pending) → Type 0
 DoesAt Effect channel old (Ok None) new = (p : Commands.Pending) × Effect (Goes_on p) × (new ≡ with_one old channel p)
 DoesAt Effect channel old (Ok (Some c)) new = Effect (Makes c) × IsCommand c × (new ≡ with_one old channel Commands.Nothing)

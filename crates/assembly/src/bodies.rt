@@ -14,7 +14,7 @@ use std::mem;
 enum Block {
     /// A vector that still grows.
     Growing(Vec<u8>),
-    /// A block that was complete once, but an allocation failed when it was to become a shared [`Body`].
+    /// A block that was complete already when an allocation failed, so that it did not become a shared [`Body`].
     Closed(BytesMut),
 }
 
@@ -286,7 +286,7 @@ impl Pieces {
 
     /// Returns the whole body, of which `piece` is the last piece. A body of one piece is copied once.
     ///
-    /// Fails only if an allocation fails; nothing has changed then. What is left here afterwards is not specified.
+    /// Fails only if an allocation fails; nothing has changed then. What `self` holds after `Ok` is not specified.
     pub(crate) fn finish(&mut self, piece: &[u8]) -> Result<Body, AllocError>
         ensures ok { IfOk result (λ t. t ≡ self.old.bytes ++ piece.now) }
         ensures err { OnErr result (self.new ≡ self.old) }

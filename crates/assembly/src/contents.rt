@@ -19,7 +19,7 @@ pub(crate) struct Dropping {
     pub(crate) count: u64,
 }
 
-/// What a channel's next frame has to be.
+/// The frame that a channel awaits next.
 #[derive(Drop)]
 pub(crate) enum Awaited {
     /// A method.

@@ -15,7 +15,7 @@ use model::{Command, limits};
 /// The largest payload of a header that is accepted, in bytes.
 const MOST_HEADER: usize = 3_400;
 
-/// Returns whether a content is too large: `payload` is its header's, which declares a body of `size` bytes.
+/// Returns whether a content is too large. `payload` is the payload of its header frame, which declares a body of `size` bytes.
 pub(crate) fn is_too_large(payload: &[u8], size: u64) -> bool
     ensures { result ≡ said.is_too_large payload.now size }
 {
@@ -46,7 +46,7 @@ pub(crate) fn drop_begun(
     Ok(None)
 }
 
-/// Drops one piece of a body, as [`drop_begun`] does for the bytes that have come with it.
+/// Counts and drops the piece of a body in `frame`, and then does what [`drop_begun`] does.
 pub(crate) fn drop_piece(pending: &mut Awaited, frame: &Frame<'_>) -> Result<Option<Command>, Fault>
     requires dropped { IsDropped pending.old }
     requires spelled { IsSpelledSoFar pending.old }

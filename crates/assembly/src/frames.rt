@@ -41,7 +41,7 @@ pub(crate) fn take_frame(
     take_on_channel(alloc, keeps, names, contents, channel, frame)
 }
 
-/// Handles a heartbeat, which has to be empty and on channel 0. It has no effect.
+/// Handles a heartbeat: one that is empty and on channel 0 has no effect, any other is a fault (501).
 fn take_heartbeat(frame: &Frame<'_>) -> Result<Option<Command>, Fault>
     ensures { (old : ℕ → Commands.Pending) → DoesAt (λ t. t ≡ taken_heartbeat (old frame.now.channel) (seen frame.now)) frame.now.channel old result old }
 {
@@ -59,8 +59,8 @@ fn is_on_wrong_channel(frame: &Frame<'_>) -> bool
     frame.channel > 255 || (frame.channel == 0 && frame.kind != 1)
 }
 
-/// Makes `contents` long enough for `channel`; the new channels await a method. Fails only if an allocation fails; each
-/// channel awaits what it did before.
+/// Makes `contents` long enough for `channel`; the new channels await a method. Fails only if an allocation fails. In any case
+/// each channel awaits what it did before.
 fn reach(contents: &mut Vec<Awaited>, channel: usize) -> Result<(), AllocError>
     ensures reached { OnOk result (channel < vec_len contents.new) }
     ensures same { content_at contents.new.items ≡ content_at contents.old.items }

@@ -58,14 +58,14 @@ impl LastNames {
         let _ = &self.names;
     }
 
-    /// Returns the publish that `payload` encodes if it is cached, or else `None`. Sharing its names may fail: that is `None`, too.
+    /// Returns the publish that `payload` encodes if it is cached. Returns `None` if it is not, or if an allocation fails while its names are shared.
     pub(crate) fn publish_of(&self, payload: &[u8]) -> Option<Publish>
         ensures { IfSome result (λ p. SpellsPublish payload.now p) }
     {
         publish_in(&self.publishes, payload)
     }
 
-    /// Caches `publish`, which `payload` encodes, and returns it sharing the names that are cached. If an allocation fails it is returned as it is.
+    /// Caches `publish`, which `payload` encodes, and returns it with names that share cached bytes. A failed allocation only means less caching or sharing.
     pub(crate) fn learn(&mut self, alloc: Global, payload: &[u8], publish: Publish) -> Publish
         requires { SpellsPublish payload.now publish }
         ensures { result ≡ publish }
@@ -222,7 +222,7 @@ fn place_of(bytes: &[u8]) -> usize {
     mixed as usize
 }
 
-/// Returns the name in the slot if it is the same as `name`, or else `name`, which the slot then shares unless an allocation fails.
+/// Returns `name`, sharing the bytes of `place` if they are the same; otherwise `place` shares those of `name`. Shares nothing if an allocation fails.
 fn share(place: &mut Text, name: Text) -> Text
     ensures { result ≡ name }
 {

@@ -16,8 +16,8 @@ use std::alloc::Global;
 
 /// Takes frames up to the end of a command. A frame that is a fault, or for which an allocation fails, is not taken.
 ///
-/// The functions from here to a channel's content are inlined: a function clears the values that it moves when it is
-/// entered, and this way that happens once a command, not once a frame.
+/// The functions from here to a channel's content are inlined: each call of a function clears the slots of the values
+/// that it moves. If the functions are inlined, this happens once a command instead of once a frame.
 #[inline(always)]
 pub(crate) fn next_command(
     alloc: Global,

@@ -20,10 +20,10 @@ use std::marker::Model;
 /// The bytes of one connection that have not been returned as commands yet.
 pub struct Stream {
     alloc: Global,
-    /// The first eight bytes are awaited.
+    /// Whether the first eight bytes are awaited.
     is_new: bool,
     max: u32,
-    /// Contents are kept, not only counted.
+    /// Whether contents are kept, and not only counted.
     keeps: bool,
     contents: Vec<Awaited>,
     unread: Unread,
@@ -32,7 +32,7 @@ pub struct Stream {
     fault: Option<u16>,
 }
 
-/// Written out, so that dropping is one call.
+/// Not derived: a derived drop is expanded, and proved again, in each function that drops the value.
 impl Drop for Stream {
     fn drop(self) {
         let Stream {

@@ -293,7 +293,8 @@ fn take_piece(
     }
 }
 
-/// Handles a piece of a body that is kept. More than the declared size is a fault (501). At that size the publish is a command.
+/// Handles a piece of a body that is kept. A body of more than its declared size is a fault (501). At exactly that size the publish is complete,
+/// and returned as a command.
 fn take_body(pending: &mut Awaited, frame: &Frame<'_>) -> Result<Option<Command>, Fault>
     requires gathered { IsGathered pending.old }
     requires spelled { IsSpelledSoFar pending.old }

@@ -23,8 +23,8 @@ impl Model for Unread {
     ghost view = { λ u. record { bytes = u.bytes.items; room = u.bytes.spare } };
 }
 
-/// Returns a new buffer with `first` and `more`. If there are bytes in `first` it has room for as many again, or for `more`
-/// if that is longer, so that bytes fed one by one are not copied each time.
+/// Returns a new buffer with `first` and `more`. Behind `first` it has room for as many bytes as `first` has, or for `more` if that is longer,
+/// so that bytes fed one by one are not copied each time.
 fn gathered(alloc: Global, first: &[u8], more: &[u8]) -> Result<BytesMut, AllocError>
     ensures { IfOk result (λ b. b.items ≡ first.now ++ more.now) }
 {

@@ -10,7 +10,7 @@ mod written;
 
 pub use clients::{Client, NO_PROPERTIES, SELECT};
 pub use engines::Measured;
-pub use meters::{processor_time, resident_bytes};
+pub use meters::{greatest_bytes, processor_time, resident_bytes};
 pub use parts::{Part, print_parts, print_times};
 pub use shapes::{Keys, Shape};
 pub use topologies::{LARGE, built};

@@ -13,7 +13,7 @@ use std::time::Instant;
 /// The number of guarantees over a large topology.
 const GUARANTEES: u32 = 64;
 
-/// The number of tracked patterns at which 63,489 states accept them in more than 8,192 ways.
+/// A number of tracked patterns with which 63,489 states differ in more than 8,192 ways in what they accept.
 const APART: u32 = 14;
 
 /// Prints the time of checking `certificate`.
@@ -71,7 +71,7 @@ fn measure_large(rt: &HostRuntime, words: u32, numbers: u32) -> io::Result<()> {
     }
 }
 
-/// Prints the same for a slice over 256 exchanges and 4,096 bindings. The guarantee is for all keys, with `patterns` more
+/// Prints the time of searching, and of checking, a slice over 256 exchanges and 4,096 bindings. The guarantee is for all keys, with `patterns` further
 /// patterns tracked.
 fn measure_slice(rt: &HostRuntime, patterns: u32) -> io::Result<()> {
     print!(rt; "256 exchanges and 4,096 bindings, a slice, ")?;
@@ -112,7 +112,7 @@ fn shared(alloc: Global) -> Vec<Guarantee> {
     stated.guarantees
 }
 
-/// Prints the time of searching and of admitting these guarantees of a large topology.
+/// Prints the time of searching and of admitting the guarantees `stated` of a large topology.
 fn measure_admission(
     rt: &HostRuntime,
     topology: Topology,
@@ -130,7 +130,7 @@ fn measure_admission(
     )
 }
 
-/// Prints the same for guarantees that track the patterns of one exchange, and for guarantees that need slices.
+/// Prints the times of admission for guarantees that track the patterns of one exchange, and for guarantees that need slices.
 fn measure_admissions(rt: &HostRuntime) -> io::Result<()> {
     let alloc = rt.alloc();
     match (

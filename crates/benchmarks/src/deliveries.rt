@@ -120,8 +120,7 @@ pub fn fill(engine: &mut Measured, alloc: Global, publisher: u64, messages: u64)
     fill_by(engine, alloc, publisher, messages, Keys::One)
 }
 
-/// Publishes `messages` messages of 12 bytes under these keys, a hundred at a time, or all at once if they are fewer. Returns
-/// whether every allocation succeeded.
+/// Publishes `messages` messages of 12 bytes under `keys`, a hundred at a time, or all at once if they are fewer. Returns whether every allocation succeeded.
 pub fn fill_by(
     engine: &mut Measured,
     alloc: Global,
@@ -138,7 +137,7 @@ pub fn fill_by(
     client.is_whole() && engine.is_whole()
 }
 
-/// Starts an engine over this shape and publishes `messages` messages under these keys. Returns `None` if an allocation fails.
+/// Starts an engine over the shape `shape` and publishes `messages` messages under `keys`. Returns `None` if an allocation fails.
 pub fn filled(alloc: Global, shape: Shape, messages: u64, keys: Keys) -> Option<Measured> {
     let mut engine = Measured::over(alloc, built(alloc, shape)?, Vec::new(alloc))?;
     let publisher = engine.open_ready();

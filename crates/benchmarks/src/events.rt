@@ -12,7 +12,7 @@ use std::time::Instant;
 /// The number of messages that are published at first.
 const WAITING: u64 = 4_000_000;
 
-/// The number of these that are delivered.
+/// The number of the first messages ([`WAITING`]) that are delivered.
 const DELIVERED: u64 = 2_000_000;
 
 /// The number of messages that are published behind the gaps, and again after the purge.
@@ -21,7 +21,7 @@ const BEHIND: u64 = 2_000_000;
 /// The number of messages in an event.
 const WINDOW: u64 = 100;
 
-/// One of this number of deliveries is not acknowledged.
+/// One in `HELD_OF` deliveries is not acknowledged.
 const HELD_OF: u64 = 10;
 
 /// The number of bytes of a body.
@@ -60,7 +60,7 @@ impl Events {
         Ok(())
     }
 
-    /// Prints `what` the events were, the longest of them, and how many took too long.
+    /// Prints what the events were (`what`), how long the longest took, and how many took too long.
     pub fn print(&self, rt: &HostRuntime, what: &str) -> io::Result<()> {
         println!(rt;
             "events, {what}: {} microseconds the longest; {} of {} over {LONG}",

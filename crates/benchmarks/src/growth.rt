@@ -1,9 +1,10 @@
-//! Checks that a process doesn't grow while messages and consumers come and go.
+//! Checks that a process doesn't grow while messages and consumers come and go, nor while many messages are rejected at once.
 
 use crate::deliveries::{engine_of, start};
+use crate::rejects;
 use benchmark_parts::loads::consumers::put_consume_and_cancel;
 use benchmark_parts::loads::delivery_loads::beside;
-use benchmark_parts::measuring::{Measured, Shape, Written, built, resident_bytes};
+use benchmark_parts::measuring::{Measured, Shape, Written, built, greatest_bytes, resident_bytes};
 use std::alloc::Global;
 use std::io;
 
@@ -19,14 +20,20 @@ const FIRST: u64 = 10_000;
 /// The number of consumers that are started and cancelled in one read.
 const WINDOW: u64 = 100;
 
+/// The number of messages that are rejected at once.
+const REJECTED: u64 = 100_000;
+
+/// The number of dead letters that come to each of their queues, by its limit.
+const LETTERS: u64 = 10;
+
 /// The number of bytes below which a process counts as not grown: the allocator keeps some for itself.
 const BOUND: u64 = 2_000_000;
 
-/// Prints whether the process has grown since it had `before` resident bytes, and by how many bytes if it has.
-fn tell(rt: &HostRuntime, what: &str, before: u64, is_whole: bool) -> io::Result<()> {
-    let grown = resident_bytes(rt)?.saturating_sub(before);
+/// Prints whether the process has grown from `before` to `after` bytes, and by how many bytes if it has.
+fn tell(rt: &HostRuntime, what: &str, before: u64, after: u64, is_whole: bool) -> io::Result<()> {
+    let grown = after.saturating_sub(before);
     if before == 0 {
-        return println!(rt; "{what}: how much memory is resident is not known");
+        return println!(rt; "{what}: how much memory it has is not known");
     }
     if !is_whole {
         return println!(rt; "{what}: memory was refused");
@@ -49,7 +56,7 @@ fn messages(rt: &HostRuntime) -> io::Result<()> {
     running.pass(FIRST);
     let before = resident_bytes(rt)?;
     running.pass(MESSAGES);
-    tell(rt, what, before, running.is_whole())
+    tell(rt, what, before, resident_bytes(rt)?, running.is_whole())
 }
 
 /// A connection that starts consumers of a queue and cancels them, one after another.
@@ -62,7 +69,7 @@ struct Consuming {
 }
 
 impl Consuming {
-    /// Opens a connection of this engine.
+    /// Opens a connection of `engine`.
     fn new(alloc: Global, mut engine: Measured) -> Consuming {
         let mut bytes = Written::new(alloc);
         for _ in 0..WINDOW {
@@ -104,11 +111,35 @@ fn consumers(rt: &HostRuntime) -> io::Result<()> {
     consuming.pass(FIRST);
     let before = resident_bytes(rt)?;
     consuming.pass(CONSUMERS);
-    tell(rt, what, before, consuming.is_whole())
+    tell(rt, what, before, resident_bytes(rt)?, consuming.is_whole())
 }
 
-/// Checks both messages and consumers.
+/// Rejects all messages of a queue at once, each of whose dead letters goes to twenty queues that may have ten messages. What the process has at
+/// most meanwhile counts, room that is reserved and given back included.
+fn rejection(rt: &HostRuntime) -> io::Result<()> {
+    let what = "a rejection of 100,000 messages";
+    let load = rejects::LIMITED.with_messages(REJECTED);
+    let Some(mut engine) = rejects::filled(rt.alloc(), load, REJECTED) else {
+        return println!(rt; "{what}: there is no engine");
+    };
+    let holder = rejects::hold(&mut engine, rt.alloc(), b"q0", REJECTED);
+    let before = greatest_bytes(rt)?;
+    rejects::reject(&mut engine, rt.alloc(), holder);
+    let after = greatest_bytes(rt)?;
+    let is_whole = engine.is_whole();
+    let letters = rejects::hold(&mut engine, rt.alloc(), b"f19", REJECTED).held;
+    if holder.held != REJECTED || letters != LETTERS {
+        return println!(rt;
+            "{what}: {} were rejected, and {letters} came to the last queue",
+            holder.held
+        );
+    }
+    tell(rt, what, before, after, is_whole)
+}
+
+/// Checks messages, consumers and a rejection.
 pub fn measure_all(rt: &HostRuntime) -> io::Result<()> {
     messages(rt)?;
-    consumers(rt)
+    consumers(rt)?;
+    rejection(rt)
 }

@@ -3,7 +3,7 @@
 //! It measures what publishes, deliveries, drains, acks, losses, purges, rejects, openings and reloads cost the engine, how long
 //! an event of a large queue takes at most, the memory of ready messages and open connections, and the time of matchers, routes,
 //! large definitions files and certificates. What is printed is for readers; nothing tests it, except `growth`: that nothing
-//! grows while messages and consumers come and go.
+//! grows while messages and consumers come and go, nor while many messages are rejected at once.
 #![tactic(auto)]
 
 mod acks;

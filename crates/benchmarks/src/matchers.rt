@@ -74,7 +74,7 @@ fn long(alloc: Global) -> Result<Vec<String>, AllocError> {
     Ok(keys)
 }
 
-/// Returns the number of matches of these keys; a key whose allocation fails counts 0.
+/// Returns the number of matches of `keys`; a key whose allocation fails counts 0.
 fn count_found<M: Matcher>(alloc: Global, matcher: &M, keys: &[String]) -> usize {
     let mut count: usize = 0;
     for key in keys {
@@ -85,7 +85,7 @@ fn count_found<M: Matcher>(alloc: Global, matcher: &M, keys: &[String]) -> usize
     count
 }
 
-/// Prints the time of building a matcher of these patterns, and the average time of matching one of these keys.
+/// Prints the time of building a matcher of the patterns, and the average time of matching one of `keys`.
 fn measure<M: Matcher + Drop>(
     rt: &HostRuntime,
     name: &str,

@@ -18,7 +18,7 @@ struct Waiting {
     properties: &'static [u8],
 }
 
-/// Returns a load of messages of 12 bytes with these properties.
+/// Returns a load of messages of 12 bytes with the properties `properties`.
 fn small(name: &'static str, properties: &'static [u8]) -> Waiting {
     Waiting {
         name,

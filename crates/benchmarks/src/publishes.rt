@@ -22,7 +22,7 @@ pub struct Running {
 }
 
 impl Running {
-    /// Starts a load over this engine, and opens its connections.
+    /// Starts a load over `engine`, and opens its connections.
     pub fn over(alloc: Global, mut engine: Measured, load: &Load) -> Running {
         open_all(&mut engine, load);
         engine.take_written();
@@ -71,7 +71,7 @@ fn tell(rt: &HostRuntime, running: &mut Running, before: u64) -> io::Result<()> 
     println!(rt; " ns a publish; {grown} bytes a publish; {written} bytes put out")
 }
 
-/// Runs a load over this engine, and prints the time of a publish in each part, and the memory of each publish.
+/// Runs a load over `engine`, and prints the time of a publish in each part, and the memory of each publish.
 fn measure_over(rt: &HostRuntime, engine: Measured, load: &Load) -> io::Result<()> {
     let mut running = Running::over(rt.alloc(), engine, load);
     let before = resident_bytes(rt)?;

@@ -5,13 +5,13 @@ use crate::events::Events;
 use benchmark_parts::loads::consumers::{Acks, put_consume, put_nack_all};
 use benchmark_parts::loads::properties;
 use benchmark_parts::measuring::{
-    Client, Keys, Measured, Shape, Written, built, processor_time, resident_bytes,
+    Client, Keys, Measured, Shape, Written, built, greatest_bytes, processor_time, resident_bytes,
 };
 use std::alloc::Global;
 use std::io;
 use std::time::Instant;
 
-/// The number of messages that are rejected a window at a time, behind those of the last load.
+/// The number of messages that are rejected a window at a time, after those of [`LARGE`].
 const BEHIND: u64 = 500_000;
 
 /// The number of messages that are published, or rejected behind others, at a time.
@@ -23,17 +23,33 @@ const DRAINED: u64 = 100;
 /// The number of bytes of a body.
 const BODY: usize = 12;
 
-/// A load: messages with these properties, encoded as in a content header, that are rejected at once.
+/// A load: messages that are rejected at once. Their properties are encoded as in a content header.
 #[derive(Clone, Copy, Drop)]
-struct RejectLoad {
+pub struct RejectLoad {
     name: &'static str,
     properties: &'static [u8],
     rejected: u64,
     /// The number of queues to which each dead letter goes.
     targets: u32,
-    /// How many messages each of them may have.
+    /// The number of messages that each of these queues may have, or `None` if it has no limit.
     limit: Option<u32>,
 }
+
+impl RejectLoad {
+    /// Returns the same load with `rejected` messages.
+    pub fn with_messages(self, rejected: u64) -> RejectLoad {
+        RejectLoad { rejected, ..self }
+    }
+}
+
+/// A load whose dead letters go to many queues, which refuse nearly all of them.
+pub const LIMITED: RejectLoad = RejectLoad {
+    name: "into 20 queues of at most 10 messages",
+    properties: properties::NONE,
+    rejected: 300_000,
+    targets: 20,
+    limit: Some(10),
+};
 
 const LOADS: [RejectLoad; 3] = [
     RejectLoad {
@@ -50,16 +66,10 @@ const LOADS: [RejectLoad; 3] = [
         targets: 1,
         limit: None,
     },
-    RejectLoad {
-        name: "into 20 queues of at most 10 messages",
-        properties: properties::NONE,
-        rejected: 300_000,
-        targets: 20,
-        limit: Some(10),
-    },
+    LIMITED,
 ];
 
-/// The load behind which more messages are rejected.
+/// The load after which more messages are rejected.
 const LARGE: RejectLoad = RejectLoad {
     name: "behind",
     properties: properties::NONE,
@@ -68,16 +78,17 @@ const LARGE: RejectLoad = RejectLoad {
     limit: None,
 };
 
-/// A connection to which messages were delivered, and the number of these.
+/// A connection to which messages were delivered.
 #[derive(Clone, Copy, Drop)]
-struct Holder {
+pub struct Holder {
     connection: u64,
-    held: u64,
+    /// The number of these messages.
+    pub held: u64,
 }
 
-/// Starts an engine with a queue `q0` that has `messages` messages, and whose dead letters go to the queues `f0`, `f1` .. of a
+/// Starts an engine that keeps no notes, with a queue `q0` that has `messages` messages, and whose dead letters go to the queues `f0`, `f1` .. of a
 /// load. Returns `None` if an allocation fails.
-fn filled(alloc: Global, load: RejectLoad, messages: u64) -> Option<Measured> {
+pub fn filled(alloc: Global, load: RejectLoad, messages: u64) -> Option<Measured> {
     let shape = Shape::Lettered {
         queues: 1,
         forbidden: load.targets,
@@ -85,6 +96,7 @@ fn filled(alloc: Global, load: RejectLoad, messages: u64) -> Option<Measured> {
         limit: load.limit,
     };
     let mut engine = Measured::over(alloc, built(alloc, shape)?, Vec::new(alloc))?;
+    engine.drop_notes();
     let publisher = engine.open_ready();
     let mut client = Client::with_properties(alloc, BODY, Keys::One, load.properties);
     for _ in 0..messages / WINDOW {
@@ -99,7 +111,7 @@ fn filled(alloc: Global, load: RejectLoad, messages: u64) -> Option<Measured> {
 }
 
 /// Delivers messages of `queue`, at most `most`, to a connection of their own.
-fn hold(engine: &mut Measured, alloc: Global, queue: &[u8], most: u64) -> Holder {
+pub fn hold(engine: &mut Measured, alloc: Global, queue: &[u8], most: u64) -> Holder {
     let connection = engine.open_ready();
     let mut consume = Written::new(alloc);
     put_consume(&mut consume, queue);
@@ -108,27 +120,36 @@ fn hold(engine: &mut Measured, alloc: Global, queue: &[u8], most: u64) -> Holder
     Holder { connection, held }
 }
 
-/// Prints the time of a message that is rejected with all others, and by how many bytes the process has grown for each.
+/// Rejects at once all messages that were delivered to `holder`.
+pub fn reject(engine: &mut Measured, alloc: Global, holder: Holder) {
+    let mut bytes = Written::new(alloc);
+    put_nack_all(&mut bytes, holder.held);
+    engine.perform(holder.connection, bytes.as_slice());
+}
+
+/// Prints the time of a message that is rejected with all others, and by how many bytes for each the process has grown, and had
+/// grown at most.
 fn measure_over(rt: &HostRuntime, mut engine: Measured, load: RejectLoad) -> io::Result<()> {
     let holder = hold(&mut engine, rt.alloc(), b"q0", load.rejected);
-    let mut reject = Written::new(rt.alloc());
-    put_nack_all(&mut reject, holder.held);
     let before = resident_bytes(rt)?;
+    let greatest = greatest_bytes(rt)?;
     let start = processor_time(rt)?;
-    engine.perform(holder.connection, reject.as_slice());
+    reject(&mut engine, rt.alloc(), holder);
     let took = processor_time(rt)?.saturating_sub(start);
     let grown = resident_bytes(rt)?.saturating_sub(before);
+    let most = greatest_bytes(rt)?.saturating_sub(greatest);
     let letters = hold(&mut engine, rt.alloc(), b"f0", load.rejected).held;
     println!(rt;
-        "reject of {}, {}: {} ns and {} bytes a message; {letters} dead letters",
+        "reject of {}, {}: {} ns and {} bytes a message, {} at most meanwhile; {letters} dead letters",
         holder.held,
         load.name,
         took.checked_div(load.rejected).unwrap_or(0),
-        grown.checked_div(load.rejected).unwrap_or(0)
+        grown.checked_div(load.rejected).unwrap_or(0),
+        most.checked_div(load.rejected).unwrap_or(0)
     )
 }
 
-/// Rejects the next messages that are delivered to a holder which has rejected all of before, a window at a time.
+/// Delivers further messages to `holder`, which has rejected all before them, and rejects these, a window at a time.
 fn reject_behind(engine: &mut Measured, alloc: Global, holder: Holder) {
     let mut tag = holder.held;
     let mut reject = Written::new(alloc);
@@ -158,12 +179,10 @@ fn drain(rt: &HostRuntime, engine: &mut Measured, messages: u64) -> io::Result<E
     Ok(events)
 }
 
-/// Prints the time of a dead letter that is drained, and the longest events of that, where many came at once and others behind them.
+/// Drains dead letters, of which many came at once and others after them. Prints the time of each, and the longest events of the drain.
 fn measure_behind(rt: &HostRuntime, mut engine: Measured) -> io::Result<()> {
     let holder = hold(&mut engine, rt.alloc(), b"q0", LARGE.rejected);
-    let mut reject = Written::new(rt.alloc());
-    put_nack_all(&mut reject, holder.held);
-    engine.perform(holder.connection, reject.as_slice());
+    reject(&mut engine, rt.alloc(), holder);
     reject_behind(&mut engine, rt.alloc(), holder);
     let start = processor_time(rt)?;
     let letters = LARGE.rejected.saturating_add(BEHIND);

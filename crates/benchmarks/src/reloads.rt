@@ -18,7 +18,7 @@ const CONSUMERS: u32 = 100;
 /// The number of messages that are published before a reload, and again after it.
 const PUBLISHES: u64 = 1_000_000;
 
-/// The connection that publishes them.
+/// The number of the connection that publishes.
 const PUBLISHER: u64 = 1;
 
 /// A microsecond, in nanoseconds.
@@ -67,7 +67,7 @@ fn checked_of(alloc: Global, load: &ReloadLoad) -> Option<Checked> {
 }
 
 impl Reloading {
-    /// Loads this configuration.
+    /// Loads `checked`, without users.
     fn reload(&mut self, checked: Checked) {
         if self.engine.reload(checked, Vec::new(self.alloc)) {
             self.done = self.done.saturating_add(1);
@@ -111,7 +111,7 @@ fn started(alloc: Global, load: &ReloadLoad) -> Option<Reloading> {
     })
 }
 
-/// Loads the load's configuration again and again, and prints the time of each reload, and how much memory they left.
+/// Loads the load's configuration again and again, and prints the time of each reload, and how much memory the reloads left.
 fn measure(rt: &HostRuntime, reloading: &mut Reloading) -> io::Result<()> {
     let before = resident_bytes(rt)?;
     let reloads = reloading.load.reloads;

@@ -56,7 +56,7 @@ pub fn left_of(engine: &mut Measured, alloc: Global, messages: u64) -> u64 {
     deliver_to(engine, consumer, messages)
 }
 
-/// Prints the time of each message that a lost connection held, ten times in a row.
+/// Loses a connection that holds messages, ten times in a row, and prints the time that each loss takes for a message.
 fn measure_losses(rt: &HostRuntime, engine: Measured) -> io::Result<()> {
     let mut losing = Losing {
         alloc: rt.alloc(),

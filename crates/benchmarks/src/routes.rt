@@ -49,7 +49,7 @@ fn measure_built(rt: &HostRuntime, bindings: u32) -> io::Result<()> {
     println!(rt; "topology of {bindings} bindings, built ({is_built}): {microseconds} microseconds")
 }
 
-/// Measures building a topology, and routes past no exchange, past some, and past all.
+/// Measures building topologies, and routing over no links, over 15 and over 255, each of which leads from an exchange to the next.
 pub fn measure_all(rt: &HostRuntime) -> io::Result<()> {
     measure_built(rt, 1)?;
     measure_built(rt, 1_000)?;

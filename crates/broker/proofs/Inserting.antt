@@ -1,5 +1,5 @@
 -- A waiter comes in as the last of its line.
-use Rattle.broker.proofs.Names.{◌∙◌, ◌<◌, ◌≤◌, ◌+◌, ◌++◌, ℕ, zero, suc, List, [], ◌∷◌, Bool, Result, if◌then◌else◌, length, take, drop, get_or, min, inl, inr, refl, sym, ap, subst, arith, insert, is_ok, IsOk, leb_tells, drop_min, take_min, drop_all, take_all, append-nil, take-append-drop, IsIn, bit_of, Kept, Pick, Waiter, turned, AreDistinct, round_of, picks, awake_waiter, asleep_waiter, IsAwake, KeepsRound}
+use Rattle.broker.proofs.Names.{◌∙◌, ◌<◌, ◌≤◌, ◌+◌, ◌++◌, ℕ, zero, suc, List, [], ◌∷◌, Bool, Result, if◌then◌else◌, length, take, drop, get_or, min, inl, inr, refl, sym, ap, subst, arith, insert, is_ok, IsOk, leb_tells, drop_min, take_min, drop_all, take_all, append-nil, take-append-drop, IsIn, bit_of, Kept, Pick, Waiter, turned, AreDistinct, round_of, picks, awake_waiter, asleep_waiter, bit_for, IsAwake, KeepsRound}
 use Rattle.std.proofs.Common.{◌≡◌, ◌⊎◌}
 use Rattle.std.proofs.lemmas.List.{append_assoc}
 use Rattle.broker.proofs.Lining.{in_place}
@@ -93,12 +93,12 @@ awake_in waiters marks p (i, at) =
     let long = picks_length waiters in
     in_place p p (picks waiters) i (omega (arith, within, long)) (picks_at waiters i (awake_waiter p) ∙ ap (λ (s : Waiter). s.pick) (at.there (awake_waiter p)))
 
--- the marks of those before this index stay, and picks look at all behind it
-pub record MarksFrom (old new : List ℕ) (place count : ℕ) : Type 0 where
-  pub more : (i : ℕ) → bit_of old i ≡ 1 → bit_of new i ≡ 1
-  pub marked : (i : ℕ) → place ≤ i → i < count → bit_of new i ≡ 1
+-- the marks of those before this index stay, and picks look at those behind it that are awake
+pub record MarksFrom (waiters : List Waiter) (old new : List ℕ) (place : ℕ) : Type 0 where
+  pub before : (i : ℕ) → i < place → bit_of new i ≡ bit_of old i
+  pub fits : (i : ℕ) (d : Waiter) → place ≤ i → i < length waiters → bit_of new i ≡ bit_for (get_or waiters i d).asleep
 
-module _ (waiters : List Waiter) (place : ℕ) (s : Waiter) (old new : List ℕ) (le : place ≤ length waiters) (m : MarksFrom old new place (length waiters + 1)) where
+module _ (waiters : List Waiter) (place : ℕ) (s : Waiter) (old new : List ℕ) (le : place ≤ length waiters) (m : MarksFrom (insert waiters place s) old new place) where
   long : length (insert waiters place s) ≡ length waiters + 1
   long = insert_length waiters place s le
 
@@ -106,12 +106,13 @@ module _ (waiters : List Waiter) (place : ℕ) (s : Waiter) (old new : List ℕ)
   awake_inserted p (i, at) = elim (leb_tells place i) [
     | inl behind ↦
         let ge = behind.1 in
-        let lt = at.within in (
+        let lt = at.within in
+        let is : (d : Waiter) → get_or (insert waiters place s) (suc i) d ≡ awake_waiter p = λ d. insert_behind waiters place s i d le (omega (arith, ge)) ∙ at.there d in (
           suc i,
           record {
             within = omega (arith, long, lt);
-            there = λ d. insert_behind waiters place s i d le (omega (arith, ge)) ∙ at.there d;
-            marked = m.marked (suc i) (omega (arith, ge)) (omega (arith, lt));
+            there = is;
+            marked = m.fits (suc i) s (omega (arith, ge)) (omega (arith, long, lt)) ∙ ap (λ (z : Waiter). bit_for z.asleep) (is s);
           },
         )
     | inr before ↦
@@ -121,7 +122,7 @@ module _ (waiters : List Waiter) (place : ℕ) (s : Waiter) (old new : List ℕ)
           record {
             within = omega (arith, long, lt);
             there = λ d. insert_before waiters place s i d le (omega (arith, less)) ∙ at.there d;
-            marked = m.more i at.marked;
+            marked = m.before i (omega (arith, less)) ∙ at.marked;
           },
         )
   ]

@@ -4,6 +4,7 @@ mod Found
 mod Inserting
 mod Joined
 mod Later
+mod Leaving
 mod Lining
 mod Listed
 mod Marked
@@ -14,6 +15,7 @@ mod Outcomes
 mod Picks
 mod Present
 mod Reloading
+mod Removing
 mod Rising
 mod Sleepers
 mod Sleeping

@@ -1,7 +1,7 @@
 -- The names that several files of these proofs use.
 pub use Rattle.broker.specs.Lines.{AreDistinct, IsPassed, ahead, standing, turned}
 pub use Rattle.broker.specs.Moving.{AllRoused, ArePlacesApart, IsMoved, IsOfEither, LinesCome, ListsAreMoved, RoundsAreMoved, StandsIn, all_awake, all_moved, channels_moved, listing_moved, listings_moved}
-pub use Rattle.broker.specs.Rounds.{AddsItsOwn, AddsListing, AddsOne, AllAddTheirOwn, AllAreConsumers, AllAreEmpty, AllAreInRounds, AllAreNoted, AllListedAreThere, AllRun, AllWaken, AreBelow, AreItsConsumers, AreItsListings, Dozes, FallsAsleep, FindsWaiter, GoesLast, GoesOn, HasConsumer, HasJoined, HasListRoom, HasNoList, HasRoom, IsAsleep, IsAsleepAt, IsAsleepIn, IsAt, IsAwake, IsAwakeAt, IsExpected, IsInItsRound, IsInRound, IsItsOwn, IsListed, IsListedAt, IsListedOn, IsNextMarked, IsNoted, IsServing, IsWoken, KeepListingsOn, KeepLists, KeepRounds, KeepsAll, KeepsIn, KeepsListings, KeepsRound, KeepsWaiters, LeaveLine, LeaveLines, Listing, Listings, ListingsLeave, Lists, ListsItsOwn, ListsMore, ListsOneMore, ListsRunning, ListsStay, MakesNoList, NoneAwake, NoneAwakePassed, NoneBetween, NoneInRound, NoneMarked, NonePassed, NotesStay, NumbersRise, PicksFirst, PicksFrom, QueuesAreMarked, Rounds, SameListed, SameOrders, SleepMore, StaysAt, Waiters, Wakens, WakesListed, WakesWaiter, asleep_waiter, awake_waiter, channels_of, has_remained, has_taker, is_able, is_consumer, is_listed_there, is_listing, is_numbered_of, is_of, is_on_channel, is_waiter_of, listed_on, listing, listings_of, listings_on, number_of, order, picks, remains, round_at, round_of, rounds_of, takes_from, wakes, wakes_on}
+pub use Rattle.broker.specs.Rounds.{AddsItsOwn, AddsListing, AllAddTheirOwn, AllAreConsumers, AllAreEmpty, AllAreInRounds, AllAreNoted, AllListedAreThere, AllRun, AllWaken, AreBelow, AreItsConsumers, AreItsListings, Dozes, FallsAsleep, FindsWaiter, GoesLast, GoesOn, GoneAreRemoved, HasConsumer, HasJoined, HasLeft, HasListRoom, HasNoList, HasNoWaiter, HasRoom, IsAsleep, IsAsleepAt, IsAsleepIn, IsAt, IsAwake, IsAwakeAt, IsExpected, IsInItsRound, IsInRound, IsItsOwn, IsListed, IsListedAt, IsListedOn, IsListedOnAny, IsListedUnder, IsNextMarked, IsNoted, IsServing, IsWoken, KeepListingsOn, KeepLists, KeepRounds, KeepsAll, KeepsIn, KeepsListings, KeepsRound, KeepsWaiters, LeaveLine, LeaveLines, Listing, Listings, ListingsLeave, Lists, ListsItsOwn, ListsItsWaiters, ListsMore, ListsOneMore, ListsRunning, ListsStay, LosesOne, LosesWaiter, MakesNoList, NoneAwake, NoneAwakePassed, NoneBetween, NoneInRound, NoneMarked, NonePassed, NotesStay, NumbersRise, OthersStay, PicksFirst, PicksFrom, QueuesAreMarked, Rounds, SameListed, SameOrders, SleepMore, StaysAt, Waiters, Wakens, WakesListed, WakesWaiter, asleep_waiter, awake_waiter, bit_for, channels_of, gone_in, gone_on, has_remained, has_taker, is_able, is_consumer, is_listed_gone, is_listed_there, is_listing, is_numbered_of, is_of, is_on_channel, is_other, is_waiter_of, listed_on, listing, listings_of, listings_on, number_of, order, picks, remains, round_at, round_of, rounds_of, takes_from, wakes, wakes_on}
 pub use Rattle.broker.specs.Turns.{WithTurn, with_turn}
 pub use Rattle.broker.specs.Waiting.{AllStand, CanGive, IsFirst, IsServedSoon, IsToldInTurn, LinesMove, LinesStay, NobodyIsPutBack, NobodyWaits, NoneIsLater, QueueWaits, ServesSoon, Stands, WaitersAreConsumers, Waits, ahead_at, line_at, owed, queues, standing_at}
 pub use Rattle.broker.specs.declared.rounds.finding.Found.{Found}
@@ -52,12 +52,13 @@ pub use Rattle.std.proofs.Common.{Bool, Err, List, None, Ok, Option, Result, Som
 pub use Rattle.std.proofs.lemmas.Bool.{eq-eqb, eqb-true, false≢true, lt-ltb}
 pub use Rattle.std.proofs.lemmas.Bool.Decides.{leb_tells}
 pub use Rattle.std.proofs.lemmas.Fn.{filter_same}
-pub use Rattle.std.proofs.lemmas.List.{append-nil, drop_all, drop_at, drop_min, get_or-append-add, get_or-map, get_or-set_other, get_or-set_same, get_or_past, length-append, length-drop, length-map, length-set, length-take, set-get_or, take-append-drop, take_all, take_at, take_min}
+pub use Rattle.std.proofs.lemmas.List.{append-nil, drop_all, drop_at, drop_min, drop_more, get_or-append-add, get_or-map, get_or-set_other, get_or-set_same, get_or_past, length-append, length-drop, length-map, length-set, length-take, set-get_or, take-append-drop, take_all, take_at, take_min}
 pub use Rattle.std.proofs.lemmas.List.Elements.{filter-append}
 pub use Rattle.std.proofs.lemmas.List.Sums.{count_by-le-length, length-filter}
 pub use Rattle.std.proofs.lemmas.Map.Made.{lookup-map_values, map_same_pairs}
 pub use Rattle.std.proofs.lemmas.Option.{same_Some}
-pub use Rattle.std.specs.List.{AllWithin, list_any, position_from}
+pub use Rattle.std.proofs.lemmas.List.Edits.{get_or-remove_above, get_or-remove_below, length-remove}
+pub use Rattle.std.specs.List.{AllWithin, list_any, position_from, remove}
 pub use Rattle.std.specs.Map.{lookup, set_value}
-pub use Rattle.std.specs.Option.{option_copied_mut}
+pub use Rattle.std.specs.Option.{option_copied, option_copied_mut}
 pub use Rattle.std.specs.Prelude.{IfSome, IsOk, OnErr, OnOk, insert, is_ok, is_some, nat_eq, nat_lt, not, option_map, vec_capacity, ◌&&◌, ◌==◌, ◌||◌}

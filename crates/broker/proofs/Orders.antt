@@ -1,5 +1,5 @@
 -- Rounds and queues are gone over in turn.
-use Rattle.broker.proofs.Names.{◌∙◌, ◌<◌, ◌≤◌, ◌+◌, ◌++◌, ℕ, List, [], ◌∷◌, Bool, true, false, length, get_or, set, min, inl, inr, refl, sym, ap, subst, arith, ◌==◌, eqb-true, eq-eqb, Kept, IsPickFrom, Pick, Waiter, turned, IsPassed, AreDistinct, Waiters, Rounds, Lists, round_at, picks, order, awake_waiter, IsInRound, NoneAwake, NoneAwakePassed, NoneBetween, NonePassed, GoesLast, SameOrders, PicksFrom, KeepsWaiters, AddsOne, AddsItsOwn, AllAddTheirOwn, GoesOn, StaysAt, Wakens, AllWaken, is_of}
+use Rattle.broker.proofs.Names.{◌∙◌, ◌<◌, ◌≤◌, ◌+◌, ◌++◌, ℕ, List, [], ◌∷◌, Bool, true, false, length, get_or, set, min, inl, inr, refl, sym, ap, subst, arith, ◌==◌, eqb-true, eq-eqb, Kept, IsPickFrom, Pick, Waiter, IsIn, turned, IsPassed, AreDistinct, Waiters, Rounds, Lists, round_at, picks, order, awake_waiter, IsInRound, NoneAwake, NoneAwakePassed, NoneBetween, NonePassed, GoesLast, SameOrders, PicksFrom, KeepsWaiters, AddsItsOwn, AllAddTheirOwn, GoesOn, StaysAt, Wakens, AllWaken, is_of}
 use Rattle.std.proofs.Common.{◌≡◌}
 use Rattle.commands.specs.State.{broker_of}
 use Rattle.broker.proofs.Lining.{GoneRound, gone_round, passed_on, passed_round, passed_least, distinct_place}
@@ -132,8 +132,9 @@ each_set P rounds queue r lt here same place = go (place == queue) refl
     go false f = subst (λ (x : Waiters). P place (round_at rounds place) x) (sym (set_there rounds queue r lt place f)) (same place (round_at rounds place))
 
 -- one comes in
-pub adds_set : (kept : Kept) (rounds : List Waiters) (queue : ℕ) (r : Waiters) (p : Pick) → queue < length rounds → AddsOne p (round_at rounds queue) r → is_of kept queue p ≡ true → AllAddTheirOwn kept rounds (set rounds queue r)
-adds_set kept rounds queue r p lt adds its =
+pub adds_set : (kept : Kept) (rounds : List Waiters) (queue : ℕ) (r : Waiters) (p : Pick) → queue < length rounds → (IsIn p (order (round_at rounds queue)) → ⊥) → order r ≡ order (round_at rounds queue) ++ p ∷ []
+    → is_of kept queue p ≡ true → AllAddTheirOwn kept rounds (set rounds queue r)
+adds_set kept rounds queue r p lt absent line its =
     each_set (λ (place : ℕ) (x y : Waiters). AddsItsOwn kept place x y) rounds queue r lt
-    (elim adds [ inl there ↦ inl there.1 | inr came ↦ inr (record { newcomer = p; its = its; absent = came.0; line = came.1 }) ])
+    (inr (record { newcomer = p; its = its; absent = absent; line = line }))
     (λ place x. inl refl)

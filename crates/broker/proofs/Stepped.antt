@@ -1,5 +1,5 @@
 -- What a step leaves.
-use Rattle.broker.proofs.Names.{◌∙◌, ◌++◌, ℕ, List, [], ◌∷◌, true, false, Option, Some, None, length, inl, inr, refl, sym, ap, subst, ◌==◌, IfSome, Broker, Acts, IsIn, Event, Send, Note, WasConsumer, ConsumersAreMade, connection_of_event, AllRunStill, AllConsumersStay, TellsEnd, Kept, consumer_to_make, IsConsumed, Ends, Pick, Rounds, Waiters, Lists, KeepsIn, KeepLists, round_at, listing, is_of, wakes, IsServing, AllRun, AllAreConsumers, AllListedAreThere, SameListed, ListsItsOwn, ListingsLeave, HasJoined, AllAddTheirOwn, AllWaken, KeepsWaiters, KeepsAll, LeaveLines, ListsRunning, HasNoList, MakesNoList, NotesStay, IsExpected, WakesWaiter, GoesOn}
+use Rattle.broker.proofs.Names.{◌∙◌, ◌++◌, ℕ, List, [], ◌∷◌, true, false, Option, Some, None, length, inl, inr, refl, sym, ap, subst, ◌==◌, IfSome, Broker, Acts, IsIn, Event, Send, Note, WasConsumer, ConsumersAreMade, connection_of_event, AllRunStill, AllConsumersStay, TellsEnd, Kept, consumer_to_make, IsConsumed, Ends, Pick, Rounds, Waiters, Lists, KeepsIn, KeepLists, round_at, listing, is_of, wakes, IsServing, AllRun, AllAreConsumers, AllListedAreThere, SameListed, ListsItsOwn, ListsItsWaiters, ListingsLeave, HasJoined, AllAddTheirOwn, AllWaken, KeepsWaiters, KeepsAll, LeaveLines, ListsRunning, HasNoList, MakesNoList, NotesStay, IsExpected, WakesWaiter, GoesOn}
 use Rattle.std.proofs.Common.{◌≡◌}
 use Rattle.model.specs.Broker.{Consumer}
 use Rattle.commands.specs.State.{broker_of, topology_kept}
@@ -9,7 +9,8 @@ use Rattle.broker.proofs.Outcomes.{told_some}
 use Rattle.broker.proofs.Joined.{StayAgreed, Holds, holds, serves, serves_kept, serves_next, running_still, running_but, notes_keep, keeps_all}
 use Rattle.broker.proofs.Orders.{goes_then}
 use Rattle.broker.proofs.Sleeping.{joined_kept}
-use Rattle.broker.proofs.Staying.{others_stay, its_connection, own_same, own_joined, own_stays, own_came, listed_stays, listed_same, listed_joined, listed_left}
+use Rattle.broker.proofs.Staying.{others_stay, its_connection, who_came, own_same, own_joined, own_stays, own_came, listed_stays, listed_same, listed_joined, listed_left}
+use Rattle.broker.proofs.Takers.{of_has}
 use Rattle.broker.proofs.Turning.{GoRound, round_joined}
 
 -- ---- what is listed
@@ -81,6 +82,16 @@ module _ (old : Kept) (before woken ready : Rounds) (e : Event) (serving : IsSer
     held_then =
         serves_next agrees law old new e sends notes ready after acts
         (λ place p wants has. (wakens place).awake p (wake p wants (broker_of old) place (serving.joined place p has))) topology has_joined stays notes_stay len held_on
+
+    -- each waiter is listed under its connection
+    pub lists_waiters : (c : ℕ) → AllAddTheirOwn new ready.rounds after.rounds → ListsItsWaiters c after
+    lists_waiters c adds = record {
+      own = λ l i. elim (lists_own.came c i.0 l i.1) [ inl was ↦ ((listed_on c i.0).there l was).connection | inr its ↦ its.connection ];
+      noted = λ place p i its. elim (who_came new place (round_at ready.rounds place) (round_at after.rounds place) (adds place) p i) [
+        | inl was ↦ notes_stay (listing place p) (held_on.noted place p (of_has old place p ((own_on place).there p was)))
+        | inr has ↦ held_then.noted place p (of_has new place p has)
+      ];
+    }
 
     -- where nothing ended
     module _ (tells : AllRunStill (broker_of old) (broker_of new)) (stay_there : AllConsumersStay (broker_of old) (broker_of new)) (adds : AllAddTheirOwn new ready.rounds after.rounds) where

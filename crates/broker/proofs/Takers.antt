@@ -88,6 +88,12 @@ newest_last kept lists p newest own i d lt =
     let its = (own p.connection p.channel).there l (in_at ls i l d lt refl) in
     newest l.consumer its.connection its.channel (has_kept kept l.queue l.consumer (of_has kept l.queue l.consumer its.there))
 
+-- so it has no waiter yet
+pub newest_absent : (kept : Kept) (rounds : List Waiters) (place : ℕ) (p : Pick) → IsNewest kept p → AllAreConsumers kept rounds → IsIn p (order (round_at rounds place)) → ⊥
+newest_absent kept rounds place p newest own i =
+    let less = newest p refl refl (has_kept kept place p (of_has kept place p ((own place).there p i))) in
+    omega (arith, less)
+
 -- ---- the lines of queues
 
 -- the consumers of this queue, in the order of its round

@@ -28,7 +28,7 @@ pub record IsMoved (old new : Waiters) : Type 0 where
 abbrev pub ArePlacesApart : List ℕ → ℕ → Type 0
 ArePlacesApart places count = (i j : ℕ) → i < length places → j < length places → place_now places i < count → place_now places i ≡ place_now places j → i ≡ j
 
--- each round is, all awake, at the index that the table has for it, if there is such a round
+-- each round is at the index that the table has for it, with all waiters awake, if there is such a round
 abbrev pub RoundsAreMoved : List ℕ → List Waiters → List Waiters → Type 0
 RoundsAreMoved places old new = (from : ℕ) → from < length places → place_now places from < length new
     → IsMoved (round_at old from) (round_at new (place_now places from))
@@ -54,7 +54,7 @@ LinesCome places old before new = (at : ℕ) → (order (round_at new at) ≡ or
 abbrev pub listing_moved : List ℕ → Listing → Listing
 listing_moved places l = record l { queue = place_now places l.queue }
 
--- the same for all listings of a channel
+-- the listings of a channel, with the new indices of their queues
 abbrev pub listings_moved : List ℕ → Listings → Listings
 listings_moved places s = record s { all = map (listing_moved places) s.all }
 
@@ -62,11 +62,11 @@ listings_moved places s = record s { all = map (listing_moved places) s.all }
 abbrev pub channels_moved : List ℕ → List Listings → List Listings
 channels_moved places channels = map (listings_moved places) channels
 
--- and for all connections
+-- the listings of all connections, with the new indices of their queues
 abbrev pub all_moved : List ℕ → Lists → Lists
 all_moved places lists = map (λ e. (e.0, channels_moved places e.1)) lists
 
--- What was listed is listed with its queue's new index, nothing else is, and no connection gets a list that had none.
+-- Each old listing is there with its queue's new index, nothing else is listed, and no connection gets a list that had none.
 pub record ListsAreMoved (places : List ℕ) (old new : Lists) : Type 0 where
   pub noted : (l : Listing) → IsNoted old l → IsNoted new (listing_moved places l)
   pub made : MakesNoList old new

@@ -1,6 +1,7 @@
 -- The round of consumers of each queue, over which deliveries go, and which of the consumers are passed over (own).
 use Rattle.std.specs.Prelude.{◌≡◌, ◌==◌, ◌&&◌, ◌<◌, ◌≤◌, ◌*◌, ◌+◌, ◌⊎◌, ◌++◌, ◌||◌, ℕ, List, []}
-use Rattle.std.specs.Prelude.{◌∷◌, map, filter, Bool, true, false, not, Option, Some, None, length, slice_index_or, nat_eq, nat_lt, IfSome}
+use Rattle.std.specs.Prelude.{◌∷◌, map, filter, count_by, sum_by, if◌then◌else◌, Bool, true, false, not, Option, Some, None, length}
+use Rattle.std.specs.Prelude.{slice_index_or, nat_eq, nat_lt, IfSome}
 use Rattle.std.specs.List.{list_any, All}
 use Rattle.std.specs.Map.{lookup}
 use Rattle.std.specs.Str.{bytes_eq}
@@ -29,7 +30,7 @@ use Rattle.broker.specs.Lines.{turned, IsPassed, AreDistinct}
 
 -- ---- waiters
 
--- The waiters of a queue's consumers, in the order in which they were made, with a bit for each: picks look at those whose bit is 1.
+-- The waiters of a queue's consumers, in the cyclic order of their turns, with a bit for each: picks look at those whose bit is 1.
 pub record Waiters : Type 0 where
   pub waiters : List Waiter
   pub marks : List ℕ
@@ -69,7 +70,7 @@ round_at rounds place = slice_index_or rounds place (record { waiters = []; mark
 abbrev pub round_of : List Waiter → List ℕ → Waiters
 round_of waiters marks = record { waiters = waiters; marks = marks; next = 0; capacity = 0 }
 
--- a list of these listings and bits
+-- these listings with these bits, as the list of a channel
 abbrev pub listings_of : List Listing → List ℕ → Listings
 listings_of all asleep = record { all = all; asleep = asleep; capacity = 0 }
 
@@ -89,11 +90,15 @@ order r = turned r.next (picks r.waiters)
 abbrev pub is_consumer : Pick → Pick → Bool
 is_consumer p q = (p.connection == q.connection) && ((p.channel == q.channel) && (p.number == q.number))
 
+-- `q` is another consumer than `p`
+abbrev pub is_other : Pick → Pick → Bool
+is_other p q = not (is_consumer p q)
+
 -- the consumer has number `n` and takes from the queue named `queue`
 abbrev pub is_numbered_of : Text → ℕ → Consumer → Bool
 is_numbered_of queue n k = (k.number == n) && bytes_eq k.queue queue
 
--- the channel exists and has such a consumer
+-- the channel exists and has a consumer with number `n` that takes from the queue named `queue`
 abbrev pub has_taker : Text → ℕ → Option Channel → Bool
 has_taker queue n None = false
 has_taker queue n (Some ch) = list_any (is_numbered_of queue n) ch.consumers
@@ -118,13 +123,17 @@ awake_waiter p = record { pick = p; asleep = false }
 abbrev pub asleep_waiter : Pick → Waiter
 asleep_waiter p = record { pick = p; asleep = true }
 
+-- the bit of a waiter, by whether it sleeps
+abbrev pub bit_for : Bool → ℕ
+bit_for asleep = if asleep then 0 else 1
+
 -- Consumer `p`'s waiter is at this index, awake, and its bit is 1, so that picks look at it.
 pub record StandsAwake (waiters : List Waiter) (marks : List ℕ) (place : ℕ) (p : Pick) : Type 0 where
   pub within : place < length waiters
   pub there : (d : Waiter) → slice_index_or waiters place d ≡ awake_waiter p
   pub marked : bit_of marks place ≡ 1
 
--- the same, in a round
+-- consumer `p`'s waiter is at index `place` of the round, awake, and its bit is 1
 abbrev pub IsAwakeAt : Waiters → ℕ → Pick → Type 0
 IsAwakeAt r place p = StandsAwake r.waiters r.marks place p
 
@@ -165,7 +174,7 @@ pub record IsListedAt (ls : List Listing) (i : ℕ) (l : Listing) : Type 0 where
   pub within : i < length ls
   pub there : (d : Listing) → slice_index_or ls i d ≡ l
 
--- the listings of channel `h`, of those of its connection's channels
+-- the listings of channel `h`, from those of all channels of its connection
 abbrev pub listings_on : List Listings → ℕ → Listings
 listings_on channels h = slice_index_or channels h (listings_of [] [])
 
@@ -184,15 +193,15 @@ pub record IsAsleepAt (ls : List Listing) (asleep : List ℕ) (i : ℕ) (l : Lis
   pub there : (d : Listing) → slice_index_or ls i d ≡ l
   pub marked : bit_of asleep i ≡ 1
 
--- the same, at some index
+-- the listing is in the list, and its bit says that its waiter sleeps
 abbrev pub IsAsleepIn : Listings → Listing → Type 0
 IsAsleepIn s l = (i : ℕ) × IsAsleepAt s.all s.asleep i l
 
--- a waiter is listed on its channel, of those of its connection
+-- the waiter is listed on its channel; `channels` are the listings of its connection
 abbrev pub IsNotedOn : List Listings → Listing → Type 0
 IsNotedOn channels l = IsIn l (listings_on channels l.consumer.channel).all
 
--- the same, and the waiter's bit says that it sleeps
+-- the waiter is listed on its channel, and its bit says that it sleeps
 abbrev pub IsListedOn : List Listings → Listing → Type 0
 IsListedOn channels l = IsAsleepIn (listings_on channels l.consumer.channel) l
 
@@ -202,7 +211,7 @@ pub record IsNoted (lists : Lists) (l : Listing) : Type 0 where
   pub there : lookup (nat_eq l.consumer.connection) lists ≡ Some channels
   pub among : IsNotedOn channels l
 
--- The same, and the waiter's bit says that it sleeps.
+-- The waiter is listed under its connection, on its channel, and its bit says that it sleeps.
 pub record IsListed (lists : Lists) (l : Listing) : Type 0 where
   pub channels : List Listings
   pub there : lookup (nat_eq l.consumer.connection) lists ≡ Some channels
@@ -251,6 +260,10 @@ pub record CanJoin (r : Rounds) (n : Newcomer) : Type 0 where
   pub room : HasRoom (round_at r.rounds n.queue)
   pub listed : CanList r.lists n.consumer
 
+-- the newcomer has no waiter in its round yet
+abbrev pub HasNoWaiter : List Waiters → Newcomer → Type 0
+HasNoWaiter rounds n = IsIn n.consumer (order (round_at rounds n.queue)) → ⊥
+
 -- There is capacity for the newcomer, if any; and the consumer that the event is going to make is this newcomer.
 pub record IsExpected (kept : Kept) (e : Event) (r : Rounds) (newcomer : Option Newcomer) : Type 0 where
   pub room : IfSome newcomer (CanJoin r)
@@ -288,27 +301,27 @@ HasNoList lists c = lookup (nat_eq c) lists ≡ None
 abbrev pub AllRun : Broker → Lists → Type 0
 AllRun b lists = (c : ℕ) → b.connection c ≡ None → HasNoList lists c
 
--- The listing is of an existing consumer of channel h of connection c, which takes from the listed queue.
+-- The listing is of an existing consumer of channel `h` of connection `c`, which takes from the listed queue.
 pub record IsItsOwn (kept : Kept) (c h : ℕ) (l : Listing) : Type 0 where
   pub connection : l.consumer.connection ≡ c
   pub channel : l.consumer.channel ≡ h
   pub there : is_listed_there kept l ≡ true
 
--- What is listed on channel h of connection c are waiters of its existing consumers, none twice.
+-- The listings `ls` are of existing consumers of channel `h` of connection `c`, and none is listed twice.
 pub record AreItsListings (kept : Kept) (c h : ℕ) (ls : List Listing) : Type 0 where
   pub there : (l : Listing) → IsIn l ls → IsItsOwn kept c h l
   pub once : NumbersRise ls
 
--- the same for every channel
+-- the listings of each channel are of existing consumers of that channel, and none is listed twice
 abbrev pub AllListedAreThere : Kept → Lists → Type 0
 AllListedAreThere kept lists = (c h : ℕ) → AreItsListings kept c h (listed_on lists c h)
 
--- The consumers in this order are consumers of the queue at this index, each once.
+-- The consumers in `line` are consumers of the queue at index `queue`, each once.
 pub record AreItsConsumers (kept : Kept) (queue : ℕ) (line : List Pick) : Type 0 where
   pub there : (p : Pick) → IsIn p line → is_of kept queue p ≡ true
   pub once : AreDistinct line
 
--- the same for every round
+-- the consumers in the order of each round are consumers of its queue, each once
 abbrev pub AllAreConsumers : Kept → List Waiters → Type 0
 AllAreConsumers kept rounds = (place : ℕ) → AreItsConsumers kept place (order (round_at rounds place))
 
@@ -333,11 +346,11 @@ pub record QueuesAreMarked (rounds : List Waiters) (marks : List ℕ) : Type 0 w
   pub room : length rounds ≤ length marks * 64
   pub awake : (place : ℕ) (p : Pick) → IsAwake (round_at rounds place) p → bit_of marks place ≡ 1
 
--- no delivery can be made from a queue at these indices whose bit is 1
+-- no delivery can be made from a queue at an index in `from..to` whose bit is 1
 abbrev pub NoneMarked : Kept → List ℕ → ℕ → ℕ → Type 0
 NoneMarked kept marks from to = (place : ℕ) (p : Pick) → from ≤ place → place < to → bit_of marks place ≡ 1 → IsPickFrom kept place p → ⊥
 
--- `place` is an index at or after `from` whose queue has a ready message and bit 1, and no delivery can be made from a queue between with bit 1.
+-- `place` is the index of a queue at or after `from` with a ready message and bit 1. No delivery can be made from a queue with bit 1 in `from..place`.
 pub record IsFirstMarked (kept : Kept) (marks : List ℕ) (from place : ℕ) : Type 0 where
   pub least : from ≤ place
   pub within : place < length (topology_kept kept).queues
@@ -350,7 +363,7 @@ abbrev pub IsNextMarked : Kept → List ℕ → ℕ → Option ℕ → Type 0
 IsNextMarked kept marks from (Some place) = IsFirstMarked kept marks from place
 IsNextMarked kept marks from None = (place : ℕ) (p : Pick) → from ≤ place → bit_of marks place ≡ 1 → IsPickFrom kept place p → ⊥
 
--- no delivery can be made from a queue at these indices to a consumer with a waiter in its round
+-- no delivery can be made from a queue at an index in `from..to` to a consumer with a waiter in that queue's round
 abbrev pub NoneBetween : Kept → Rounds → ℕ → ℕ → Type 0
 NoneBetween kept r from to = (place : ℕ) (p : Pick) → from ≤ place → place < to → IsInItsRound (broker_of kept) r place p → IsPickFrom kept place p → ⊥
 
@@ -366,7 +379,7 @@ NonePassed kept r next to = (at : ℕ) (p : Pick) → IsPassed (length r.rounds)
 abbrev pub NoneAwake : Kept → ℕ → Waiters → ℕ → ℕ → Type 0
 NoneAwake kept queue r from to = (i : ℕ) (p : Pick) → from ≤ i → i < to → IsAwakeAt r i p → IsPickFrom kept queue p → ⊥
 
--- the same for the indices that come before `to` in the cyclic order from `next`
+-- no delivery can be made from the queue to a consumer whose waiter is awake at an index that comes before `to` in the cyclic order from `next`
 abbrev pub NoneAwakePassed : Kept → ℕ → Waiters → ℕ → ℕ → Type 0
 NoneAwakePassed kept queue r next to = (i : ℕ) (p : Pick) → IsPassed (length r.waiters) next to i → IsAwakeAt r i p → IsPickFrom kept queue p → ⊥
 
@@ -390,7 +403,7 @@ pub record PicksFrom (kept : Kept) (lists : Lists) (old new : List Waiters) (que
   pub round : GoesLast kept lists queue (round_at old queue) (round_at new queue) p
   pub others : (at : ℕ) → (at ≡ queue → ⊥) → order (round_at new at) ≡ order (round_at old at)
 
--- The consumer is picked: no delivery can be made from a queue that comes before its own, and the next round over the queues begins behind that.
+-- Consumer `p` is picked: no delivery can be made from a queue that comes before its own, and the next round over the queues begins behind its queue.
 pub record PicksFirst (kept : Kept) (old new : Rounds) (p : Pick) : Type 0 where
   pub queue : ℕ
   pub could : IsPickFrom kept queue p
@@ -405,23 +418,72 @@ pub record PicksFirst (kept : Kept) (old new : Rounds) (p : Pick) : Type 0 where
 abbrev pub remains : Kept → ℕ → ℕ → Pick → Bool
 remains kept queue c p = not (p.connection == c) || is_of kept queue p
 
--- the same for a waiter's consumer
+-- the waiter's consumer is of another connection than `c`, or exists and takes from the queue at this index
 abbrev pub has_remained : Kept → ℕ → ℕ → Waiter → Bool
 has_remained kept queue c s = remains kept queue c s.pick
 
--- the other waiters are removed from the round, and the order of the rest is unchanged
+-- the waiters whose consumer does not remain (`remains`) are removed from the round, and the order of the rest is unchanged
 abbrev pub LeaveLine : Kept → ℕ → ℕ → Waiters → Waiters → Type 0
 LeaveLine kept queue c old new = order new ≡ filter (remains kept queue c) (order old)
 
--- the same for every round
+-- the waiters whose consumer does not remain are removed from each round, and the order of the rest is unchanged
 abbrev pub LeaveLines : Kept → ℕ → List Waiters → List Waiters → Type 0
 LeaveLines kept c old new = (place : ℕ) → LeaveLine kept place c (round_at old place) (round_at new place)
 
--- ---- adding a consumer to a round
+-- each waiter of another consumer than `p` stays, awake or asleep as it is
+abbrev pub OthersStay : Pick → Waiters → Waiters → Type 0
+OthersStay p old new = (b : Broker) (lists : Lists) (queue : ℕ) (q : Pick) → (q ≡ p → ⊥) → IsInRound b lists queue old q → IsInRound b lists queue new q
 
--- `p` is added at the end of the order; or it was in it already, and nothing changes
-abbrev pub AddsOne : Pick → Waiters → Waiters → Type 0
-AddsOne p old new = (IsIn p (order old) × (order new ≡ order old)) ⊎ ((IsIn p (order old) → ⊥) × (order new ≡ order old ++ p ∷ []))
+-- Consumer `p`'s waiter is removed from the round, if it has one. All others stay, and their order is unchanged.
+pub record LosesOne (p : Pick) (old new : Waiters) : Type 0 where
+  pub stay : OthersStay p old new
+  pub line : order new ≡ filter (is_other p) (order old)
+
+-- `LosesOne` in the round of the queue at index `queue`; all other rounds are unchanged.
+pub record LosesWaiter (queue : ℕ) (p : Pick) (old new : List Waiters) : Type 0 where
+  pub round : LosesOne p (round_at old queue) (round_at new queue)
+  pub others : (at : ℕ) → (at ≡ queue → ⊥) → round_at new at ≡ round_at old at
+
+-- the listed consumer is gone, or takes from another queue
+abbrev pub is_listed_gone : Kept → Listing → Bool
+is_listed_gone kept l = not (is_listed_there kept l)
+
+-- how many listed consumers of a channel are gone
+abbrev pub gone_in : Kept → Listings → ℕ
+gone_in kept s = count_by (is_listed_gone kept) s.all
+
+-- how many listed consumers of all channels of a connection are gone
+abbrev pub gone_on : Kept → List Listings → ℕ
+gone_on kept channels = sum_by (gone_in kept) channels
+
+-- if the listed consumer is gone, so is its waiter
+abbrev pub HasLeft : Kept → List Waiters → Listing → Type 0
+HasLeft kept rounds l = is_listed_there kept l ≡ false → IsIn l.consumer (order (round_at rounds l.queue)) → ⊥
+
+-- The waiters of these listings whose consumers are gone are removed, and no others.
+pub record GoneAreRemoved (kept : Kept) (listed : Listing → Type 0) (old new : List Waiters) : Type 0 where
+  pub left : (l : Listing) → listed l → HasLeft kept new l
+  pub were : (place : ℕ) (p : Pick) → IsIn p (order (round_at new place)) → IsIn p (order (round_at old place))
+  pub stay : (b : Broker) (lists : Lists) (place : ℕ) (p : Pick) → is_of kept place p ≡ true → IsInRound b lists place (round_at old place) p
+      → IsInRound b lists place (round_at new place) p
+  -- if all are of connection `c`, the order of those that remain is unchanged
+  pub same : (c : ℕ) → ((l : Listing) → listed l → l.consumer.connection ≡ c) → (place : ℕ)
+      → filter (remains kept place c) (order (round_at new place)) ≡ filter (remains kept place c) (order (round_at old place))
+
+-- the listing is on some channel
+abbrev pub IsListedOnAny : List Listings → Listing → Type 0
+IsListedOnAny channels l = (h : ℕ) × IsIn l (listings_on channels h).all
+
+-- the listing is on some channel of connection `c`
+abbrev pub IsListedUnder : Lists → ℕ → Listing → Type 0
+IsListedUnder lists c l = (h : ℕ) × IsIn l (listed_on lists c h)
+
+-- Under connection `c` are listed only its own consumers, and each waiter of them is.
+pub record ListsItsWaiters (c : ℕ) (r : Rounds) : Type 0 where
+  pub own : (l : Listing) → IsListedUnder r.lists c l → l.consumer.connection ≡ c
+  pub noted : (place : ℕ) (p : Pick) → IsIn p (order (round_at r.rounds place)) → p.connection ≡ c → IsNoted r.lists (listing place p)
+
+-- ---- adding a consumer to a round
 
 -- A consumer that takes from the queue, and was not in its round, is added at the end of the order.
 pub record ComesLast (kept : Kept) (queue : ℕ) (old new : Waiters) : Type 0 where
@@ -430,11 +492,11 @@ pub record ComesLast (kept : Kept) (queue : ℕ) (old new : Waiters) : Type 0 wh
   pub absent : IsIn newcomer (order old) → ⊥
   pub line : order new ≡ order old ++ newcomer ∷ []
 
--- the order is unchanged, or such a consumer is added
+-- the order is unchanged, or a consumer is added as `ComesLast` says
 abbrev pub AddsItsOwn : Kept → ℕ → Waiters → Waiters → Type 0
 AddsItsOwn kept queue old new = (order new ≡ order old) ⊎ ComesLast kept queue old new
 
--- the same for every round
+-- the order of each round is unchanged, or a consumer of its queue is added at the end
 abbrev pub AllAddTheirOwn : Kept → List Waiters → List Waiters → Type 0
 AllAddTheirOwn kept old new = (place : ℕ) → AddsItsOwn kept place (round_at old place) (round_at new place)
 
@@ -452,20 +514,20 @@ pub record GoesOn (old new : Rounds) : Type 0 where
 
 -- ---- what stays
 
--- each waiter of an existing consumer stays in the round of this queue, given what was listed before and is after
+-- each waiter of an existing consumer stays in the round of the queue at index `queue`; the lists are `before` and `after`
 abbrev pub KeepsIn : Kept → ℕ → Lists → Lists → Waiters → Waiters → Type 0
 KeepsIn kept queue before after old new =
     (p : Pick) → IsInRound (broker_of kept) before queue old p → is_of kept queue p ≡ true → IsInRound (broker_of kept) after queue new p
 
--- the same, for any lists that don't change
+-- each waiter of an existing consumer stays in the round if the lists don't change, whatever lists they are
 abbrev pub KeepsRound : Kept → ℕ → Waiters → Waiters → Type 0
 KeepsRound kept queue old new = (lists : Lists) → KeepsIn kept queue lists lists old new
 
--- the same for every round
+-- each waiter of an existing consumer stays in its round if the lists don't change, whatever lists they are
 abbrev pub KeepRounds : Kept → List Waiters → List Waiters → Type 0
 KeepRounds kept old new = (place : ℕ) → KeepsRound kept place (round_at old place) (round_at new place)
 
--- the same for every round, given the lists of both
+-- each waiter of an existing consumer stays in its round, with the lists of `old` and of `new`
 abbrev pub KeepsWaiters : Kept → Rounds → Rounds → Type 0
 KeepsWaiters kept old new = (place : ℕ) → KeepsIn kept place old.lists new.lists (round_at old.rounds place) (round_at new.rounds place)
 
@@ -477,11 +539,11 @@ KeepsAll old new = (b : Broker) (place : ℕ) (p : Pick) → IsInItsRound b old 
 abbrev pub StaysAt : Waiters → Waiters → ℕ → Type 0
 StaysAt old new i = (p : Pick) → IsAwakeAt old i p → IsAwakeAt new i p
 
--- what was listed as sleeping still is
+-- each listing whose waiter sleeps is still there, and its waiter still sleeps
 abbrev pub ListsStay : Lists → Lists → Type 0
 ListsStay old new = (l : Listing) → IsListed old l → IsListed new l
 
--- what was listed still is, asleep or not
+-- each listing is still there, its waiter asleep or not
 abbrev pub NotesStay : Lists → Lists → Type 0
 NotesStay old new = (l : Listing) → IsNoted old l → IsNoted new l
 
@@ -490,12 +552,12 @@ pub record KeepLists (kept : Kept) (old new : Lists) : Type 0 where
   pub noted : (l : Listing) → IsNoted old l → is_of kept l.queue l.consumer ≡ true → IsNoted new l
   pub listed : (l : Listing) → IsListed old l → is_of kept l.queue l.consumer ≡ true → IsListed new l
 
--- the same for the list of one channel
+-- On one channel, each listing of an existing consumer is still there, and its waiter still sleeps if it slept.
 pub record KeepsListings (kept : Kept) (old new : Listings) : Type 0 where
   pub noted : (l : Listing) → IsIn l old.all → is_of kept l.queue l.consumer ≡ true → IsIn l new.all
   pub asleep : (l : Listing) → IsAsleepIn old l → is_of kept l.queue l.consumer ≡ true → IsAsleepIn new l
 
--- for all channels of a connection
+-- the waiters of existing consumers are listed as before, on each channel of a connection
 abbrev pub KeepListingsOn : Kept → List Listings → List Listings → Type 0
 KeepListingsOn kept old new = (h : ℕ) → KeepsListings kept (listings_on old h) (listings_on new h)
 
@@ -512,14 +574,14 @@ MakesNoList old new = (c : ℕ) → HasNoList old c → HasNoList new c
 abbrev pub SameListed : Lists → Lists → Type 0
 SameListed old new = (c h : ℕ) → listed_on new c h ≡ listed_on old c h
 
--- The listings of each channel are unchanged, those that sleep still do, and no connection gets a list that had none.
+-- The listings of each channel are unchanged, those that sleep still do, and no connection that had no list gets one.
 pub record ListsMore (old new : Lists) : Type 0 where
   pub stay : ListsStay old new
   pub noted : NotesStay old new
   pub none : MakesNoList old new
   pub same : SameListed old new
 
--- What is listed on channel h stays as before; nothing is added but, if it is of this channel, `one`.
+-- What was listed on channel `h` still is. Only `one` may be added, and only if it is of this channel.
 pub record AddsListing (one : Listing) (h : ℕ) (old new : Listings) : Type 0 where
   pub noted : (l : Listing) → IsIn l old.all → IsIn l new.all
   pub asleep : (l : Listing) → IsAsleepIn old l → IsAsleepIn new l
@@ -530,18 +592,18 @@ pub record AddsListing (one : Listing) (h : ℕ) (old new : Listings) : Type 0 w
 abbrev pub ListOnce : Lists → Lists → Type 0
 ListOnce old new = (c h : ℕ) → NumbersRise (listed_on old c h) → NumbersRise (listed_on new c h)
 
--- Nothing is added but `one`, on the channel of its consumer.
+-- No listing is added but `one`, on the channel of its consumer.
 pub record ListsOneMore (one : Listing) (old new : Lists) : Type 0 where
   pub came : (c h : ℕ) (l : Listing) → IsIn l (listed_on new c h)
       → IsIn l (listed_on old c h) ⊎ ((l ≡ one) × ((one.consumer.connection ≡ c) × (one.consumer.channel ≡ h)))
   pub once : ListOnce old new
 
--- Nothing is added but waiters of existing consumers of their channel.
+-- Each added listing is of an existing consumer of its channel.
 pub record ListsItsOwn (kept : Kept) (old new : Lists) : Type 0 where
   pub came : (c h : ℕ) (l : Listing) → IsIn l (listed_on new c h) → IsIn l (listed_on old c h) ⊎ IsItsOwn kept c h l
   pub once : ListOnce old new
 
--- Nothing is added; and what is left of connection `c` is of existing consumers.
+-- No listing is added, and each listing of connection `c` that is left is of an existing consumer.
 pub record ListingsLeave (kept : Kept) (c : ℕ) (old new : Lists) : Type 0 where
   pub left : (d h : ℕ) (l : Listing) → IsIn l (listed_on new d h)
       → IsIn l (listed_on old d h) × ((d == c) ≡ true → is_listed_there kept l ≡ true)
@@ -574,7 +636,7 @@ pub record FallsAsleep (b : Broker) (lists : Lists) (queue : ℕ) (old new : Wai
   pub cannot : CannotTake b old.pick
   pub listed : IsListed lists (listing queue old.pick)
 
--- a waiter that was awake, and whose consumer exists, fell asleep
+-- the waiter fell asleep (`FallsAsleep`), if it was awake and its consumer exists
 abbrev pub Dozes : Kept → Lists → ℕ → Waiter → Waiter → Type 0
 Dozes kept lists queue old new = old.asleep ≡ false → is_of kept queue old.pick ≡ true → FallsAsleep (broker_of kept) lists queue old new
 
@@ -585,7 +647,7 @@ pub record Wakens (old new : Waiters) : Type 0 where
   pub same : picks new.waiters ≡ picks old.waiters
   pub next : new.next ≡ old.next
 
--- the same for every round
+-- the waiters of each round are woken, as `Wakens` says
 abbrev pub AllWaken : List Waiters → List Waiters → Type 0
 AllWaken old new = (place : ℕ) → Wakens (round_at old place) (round_at new place)
 
@@ -593,7 +655,7 @@ AllWaken old new = (place : ℕ) → Wakens (round_at old place) (round_at new p
 abbrev pub IsWoken : List Waiters → List Waiters → Listing → Type 0
 IsWoken old new l = IsAsleep (round_at old l.queue) l.consumer → IsAwake (round_at new l.queue) l.consumer
 
--- the same for each listing that says that its waiter sleeps
+-- each waiter that is listed as sleeping is awake now if it was asleep
 abbrev pub WakesListed : Listings → List Waiters → List Waiters → Type 0
 WakesListed s old new = (l : Listing) → IsAsleepIn s l → IsWoken old new l
 
@@ -601,13 +663,13 @@ WakesListed s old new = (l : Listing) → IsAsleepIn s l → IsWoken old new l
 abbrev pub WakesWaiter : Rounds → Rounds → Pick → Type 0
 WakesWaiter old new p = (b : Broker) (place : ℕ) → IsInItsRound b old place p → IsAwake (round_at new.rounds place) p
 
--- whether the method may let a consumer of its channel take more: any but a publish and a get
+-- whether the method may let a consumer of its channel take more messages: any but a publish and a get
 abbrev pub wakes_on : Method → Bool
 wakes_on (BasicPublish m) = false
 wakes_on (BasicGet m) = false
 wakes_on _ = true
 
--- whether consumer `p` may be able to take more after this event
+-- whether consumer `p` may be able to take more messages after this event
 abbrev pub wakes : Event → Pick → Bool
 wakes (Command c h m content) p = wakes_on m && ((p.connection == c) && (p.channel == h))
 wakes (Resume c) p = p.connection == c
@@ -618,6 +680,6 @@ abbrev pub is_on_channel : Option ℕ → Pick → Bool
 is_on_channel None p = true
 is_on_channel (Some h) p = p.channel == h
 
--- the consumer is of connection `c` and of this channel, `None` being any
+-- the consumer is of connection `c` and of this channel; `None` means any channel
 abbrev pub IsAt : ℕ → Option ℕ → Pick → Type 0
 IsAt c channel p = (p.connection ≡ c) × (is_on_channel channel p ≡ true)

@@ -17,7 +17,7 @@ pub record WithTurn : Type 0 where
   -- the index of the queue at which the round over the queues begins
   pub next : ℕ
 
--- this state, served by these rounds
+-- the broker with the state `kept` and the rounds `r`, whose picked consumer is `turn`
 abbrev pub with_turn : Kept → Rounds → Option Pick → WithTurn
 with_turn kept r turn = record {
   kept = kept;

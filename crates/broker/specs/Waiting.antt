@@ -27,11 +27,11 @@ queues b = length (topology_kept b).queues
 abbrev pub standing_at : WithTurn → ℕ → Pick → ℕ
 standing_at b place p = standing (is_consumer p) (line_at b place)
 
--- how many queues come before the one at this index
+-- how many queues come before the one at this index in the round over the queues
 abbrev pub ahead_at : WithTurn → ℕ → ℕ
 ahead_at b place = ahead (queues b) b.next place
 
--- 1 if a consumer is picked, to which a delivery has not been made yet
+-- 1 if a consumer is picked, as the delivery to it is still to be made; otherwise 0
 abbrev pub owed : Option Pick → ℕ
 owed None = 0
 owed (Some told) = 1
@@ -40,7 +40,7 @@ owed (Some told) = 1
 abbrev pub TakesAt : WithTurn → ℕ → Pick → Type 0
 TakesAt b place p = HasConsumer (topology_kept b) (broker_of b) place p
 
--- each consumer of a queue is in its order, and nothing else is
+-- the order of each queue has each of the queue's consumers, and nothing else
 abbrev pub AllStand : WithTurn → Type 0
 AllStand b = (place : ℕ) (p : Pick) → (TakesAt b place p → IsIn p (line_at b place)) × (IsIn p (line_at b place) → TakesAt b place p)
 
@@ -61,13 +61,13 @@ pub record NobodyIsPutBack (old new : WithTurn) : Type 0 where
   pub next : new.next ≡ old.next
   pub lines : (place : ℕ) (p : Pick) → TakesAt old place p → TakesAt new place p → standing_at new place p ≤ standing_at old place p
 
--- The same, and no consumer is added.
+-- No consumer is put back or added: each was there before, and has at most as many before it as it had.
 pub record NoneIsLater (old new : WithTurn) : Type 0 where
   pub next : new.next ≡ old.next
   pub took : (place : ℕ) (p : Pick) → TakesAt new place p → TakesAt old place p
   pub lines : (place : ℕ) (p : Pick) → TakesAt new place p → standing_at new place p ≤ standing_at old place p
 
--- Each queue that is still declared keeps its order, whatever its index is now, and the round over the queues begins at the first.
+-- The consumers of each queue that is still declared keep their order, whatever index the queue has now, and the round over the queues begins at index 0.
 pub record LinesMove (old new : WithTurn) : Type 0 where
   pub next : new.next ≡ 0
   pub lines : (from to : ℕ) → from < queues old → to < queues new → queue_name (topology_kept old) from ≡ queue_name (topology_kept new) to
@@ -79,8 +79,8 @@ pub record LinesMove (old new : WithTurn) : Type 0 where
 abbrev pub CanGive : WithTurn → ℕ → Type 0
 CanGive b place = (p : Pick) × IsPickFrom b.kept place p
 
--- A consumer of the queue at this index is picked: no delivery can be made from a queue that comes before it, nor to a consumer that comes before
--- this one in the queue's order. It goes to the end, with those that came before it; all other orders are unchanged.
+-- Consumer `told` is picked, from the queue at index `queue`: no delivery can be made from a queue whose turn is before that, nor to a consumer
+-- ahead of `told` in the queue's order. `told` goes to the end of the order, behind those that were ahead of it; all other orders are unchanged.
 pub record IsFirst (old : WithTurn) (told : Pick) (queue : ℕ) (new : WithTurn) : Type 0 where
   pub could : IsPickFrom old.kept queue told
   pub queues_before : (at : ℕ) → IsPassed (queues old) old.next queue at → CanGive old at → ⊥
@@ -92,13 +92,13 @@ pub record IsFirst (old : WithTurn) (told : Pick) (queue : ℕ) (new : WithTurn)
   pub before : (p : Pick) → IsIn p front → IsPickFrom old.kept queue p → ⊥
   pub others : (at : ℕ) → (at ≡ queue → ⊥) → line_at new at ≡ line_at old at
 
--- a consumer that was picked and not served is picked again, and nothing changes; or the picked consumer is the first
+-- `told` was picked and not served, and is picked again, and no order changes; or it is the first to which a delivery can be made (`IsFirst`)
 abbrev pub IsToldInTurn : WithTurn → Pick → WithTurn → Type 0
 IsToldInTurn old told new = ((old.turn ≡ Some told) × LinesStay old new) ⊎ ((queue : ℕ) × IsFirst old told queue new)
 
 -- ---- a consumer that waits
 
--- Another consumer of the queue at this index is picked, though a delivery could be made from it to this one.
+-- Another consumer of the queue at index `place` is picked, though a delivery could be made from the queue to consumer `p`.
 pub record IsPassedOver (old new : WithTurn) (place : ℕ) (p : Pick) : Type 0 where
   pub told : Pick
   pub stands : Stands old place p
@@ -121,7 +121,7 @@ pub record IsServedAnother (old new : WithTurn) (place : ℕ) (p : Pick) : Type 
   pub later : NoneIsLater old new
   pub still : TakesAt new place p
 
--- Something else happens, and consumer `p` still exists.
+-- No consumer is put back, and consumer `p` exists before and after.
 pub record IsLeft (old new : WithTurn) (place : ℕ) (p : Pick) : Type 0 where
   pub back : NobodyIsPutBack old new
   pub was : TakesAt old place p
@@ -131,9 +131,9 @@ pub record IsLeft (old new : WithTurn) (place : ℕ) (p : Pick) : Type 0 where
 -- queue is owed to the consumer that was picked.
 pub data Waits (place : ℕ) (p : Pick) (start : WithTurn) : ℕ → ℕ → WithTurn → Type 0 where
   begins : Waits place p start 0 (owed start.turn) start
-  -- another consumer is picked
+  -- another consumer of the queue is picked, though a delivery to consumer `p` could be made
   passed : {served owes : ℕ} {old new : WithTurn} → Waits place p start served owes old → IsPassedOver old new place p → Waits place p start served 1 new
-  -- the delivery that was owed to the picked consumer, another one, is made
+  -- the delivery to another consumer, which was picked, is made
   other : {served owes : ℕ} {old new : WithTurn} → Waits place p start served owes old → IsServedAnother old new place p
       → Waits place p start (served + owes) 0 new
   -- a consumer of another queue is picked
@@ -148,10 +148,10 @@ pub data Waits (place : ℕ) (p : Pick) (start : WithTurn) : ℕ → ℕ → Wit
 -- A sequence of steps while the queue at this index waits: `served` deliveries were made from other queues, and `owes` is 1 if another is owed.
 pub data QueueWaits (place : ℕ) (start : WithTurn) : ℕ → ℕ → WithTurn → Type 0 where
   begins : QueueWaits place start 0 (owed start.turn) start
-  -- a consumer of another queue is picked, though a delivery could be made from this one
+  -- a consumer of another queue is picked, though a delivery could be made from the queue at index `place`
   passed : {served owes : ℕ} {old new : WithTurn} (told : Pick) (queue : ℕ) → QueueWaits place start served owes old → CanGive old place
       → (place ≡ queue → ⊥) → IsFirst old told queue new → new.kept ≡ old.kept → QueueWaits place start served 1 new
-  -- the delivery that was owed is made, or something else happens
+  -- the delivery that was owed, if any, is made, or something else happens; an owed delivery counts as made in either case
   other : {served owes : ℕ} {old new : WithTurn} → QueueWaits place start served owes old → new.next ≡ old.next
       → topology_kept new ≡ topology_kept old → QueueWaits place start (served + owes) 0 new
   -- nothing is delivered
@@ -164,7 +164,7 @@ pub data QueueWaits (place : ℕ) (start : WithTurn) : ℕ → ℕ → WithTurn 
 abbrev pub IsServedSoon : WithTurn → ℕ → ℕ → ℕ → Type 0
 IsServedSoon start place served owes = served + owes < length (line_at start place) + owed start.turn
 
--- each consumer that waits while `told` is served was passed over by fewer deliveries of its queue than that, this one among them
+-- each consumer that waits while `told` is served was passed over by few deliveries of its queue (`IsServedSoon`), this delivery among them
 abbrev pub ServesSoon : WithTurn → Pick → Type 0
 ServesSoon old told = (place : ℕ) (p : Pick) (start : WithTurn) (served owes : ℕ) → Stands start place p → Waits place p start served owes old
     → IsServedSoon start place served owes
@@ -177,7 +177,7 @@ pub record NobodyWaits : Type 0 where
   -- a waiting consumer's queue makes fewer deliveries to others than it has consumers, not counting one that was owed
   pub fewer : (place : ℕ) (p : Pick) (start now : WithTurn) (served owes : ℕ) → Stands start place p → Waits place p start served owes now
       → IsServedSoon start place served owes
-  -- the same for each delivery: whoever waits then was passed over by fewer deliveries
+  -- whoever waits at a delivery was passed over by fewer deliveries of its queue than the queue has consumers, not counting one that was owed
   pub soon : (b : WithTurn) (told : Pick) → ServesSoon b told
   -- a queue from which a delivery can be made is passed over by fewer deliveries than there are queues, not counting one that was owed
   pub queue : (place : ℕ) (start now : WithTurn) (served owes : ℕ) → place < queues start → QueueWaits place start served owes now

@@ -41,7 +41,7 @@ pub struct Broker {
     turn: Option<Pick>,
 }
 
-/// Written out so that a drop is one call.
+/// Not derived: a derived drop is expanded, and proved again, in each function that drops the value.
 impl Drop for Broker {
     fn drop(self) {
         let Broker {
@@ -114,7 +114,7 @@ impl Broker {
 
     /// Performs `event`, and returns what it sends and notes. If the event's method can be encoded, each send is for the event's own
     /// connection, by a method that can be encoded. No consumer is put back in its queue's order: a new one is behind all others.
-    /// Fails only if an allocation fails; nothing has changed then. An opening, a loss, a pause and its end, a command that is ignored, and a
+    /// Fails only if an allocation fails; nothing has changed then. The events `Open`, `First`, `Lose`, `Pause` and `Resume`, an ignored command, and a
     /// rejection that requeues never allocate.
     pub fn step(&mut self, alloc: Global, event: &Event) -> Result<Step, AllocError>
         requires asked { IsAsked event.now }
@@ -190,7 +190,7 @@ impl Broker {
     }
 
     /// Delivers the first ready message of the picked consumer's queue to it, and ends its turn.
-    /// A consumer that waits in the same queue is passed over by fewer deliveries than the queue has consumers, this one among them.
+    /// A consumer that waits in the same queue is passed over by fewer deliveries than the queue has consumers, this delivery among them.
     /// If each message can be encoded and consumers are named, the send is for the consumer's own connection, by a method that can be encoded.
     /// Fails only if an allocation fails; nothing has changed then, so the same consumer is picked again, as
     /// long as a delivery to it can be made.
@@ -215,8 +215,8 @@ impl Broker {
         Ok(step)
     }
 
-    /// Makes `connection` a running one, with channels 1 to `channels` open and new. What an earlier connection of this number held is ready
-    /// again. Fails only if an allocation fails; nothing has changed then.
+    /// Makes `connection` a running one, with channels 1 to `channels` open and new. The unacknowledged messages of an earlier connection of this
+    /// number are ready again. Fails only if an allocation fails; nothing has changed then.
     pub fn open(
         &mut self,
         alloc: Global,

@@ -6,8 +6,7 @@
 //! message, the waiter falls asleep, and costs nothing until an event of its own channel, or the end of its connection's pause, wakes it.
 //! A command wakes the waiters that sleep on its channel, and looks at no other. Each waiter is listed at its channel when it is made, with
 //! a bit that says whether it sleeps, so that a pick never allocates. A waiter is removed with its consumer, and so is its listing: when
-//! consumers of a connection may have left, all waiters and the connection's listings are checked, and those of consumers that are gone
-//! are removed.
+//! consumers of a connection may have left, the connection's listings are checked, and no others. If several have left, each round is swept once.
 
 mod finding;
 mod queue_rounds;
@@ -21,8 +20,8 @@ ghost use Rattle.broker.specs.Rounds.{wakes_on};
 use crate::rounds::finding::is_of;
 use crate::rounds::queue_rounds::QueueRounds;
 use crate::rounds::sleepers::{
-    Sleepers, forget_connection, join_listing, leave_lists, move_sleepers, reserve_listing,
-    wake_connection,
+    Sleepers, forget_connection, join_listing, leave_lists, leave_waiters, move_sleepers,
+    reserve_listing, wake_connection,
 };
 use crate::rounds::waiters::Newcomer;
 use commands::{Core, Ends, Pick};
@@ -31,7 +30,7 @@ use std::alloc::{AllocError, Global};
 use std::collections::HashMap;
 use std::marker::Model;
 
-/// Returns whether a command may let a consumer of its channel take more.
+/// Returns whether a command may let a consumer of its channel take more messages.
 fn wakes_on(method: &Method) -> bool
     ensures { result ≡ wakes_on method.now }
 {
@@ -46,7 +45,7 @@ pub(crate) struct ConsumerRounds {
     next: usize,
 }
 
-/// Written out so that a drop is one call.
+/// Not derived: a derived drop is expanded, and proved again, in each function that drops the value.
 impl Drop for ConsumerRounds {
     fn drop(self) {
         let ConsumerRounds {
@@ -72,8 +71,9 @@ impl ConsumerRounds {
     ghost use Rattle.commands.specs.State.{Kept, broker_of, topology_kept};
     ghost use Rattle.commands.specs.Picked.{IsPickFrom};
     ghost use Rattle.commands.specs.NewConsumers.{consumer_to_make};
-    ghost use Rattle.broker.specs.Rounds.{is_of, wakes, AllAreNoted, AllListedAreThere, IsAt, IsInItsRound, IsExpected, CanJoin, HasJoined};
-    ghost use Rattle.broker.specs.Rounds.{KeepLists, ListsRunning, KeepsWaiters, KeepsAll, AllAddTheirOwn, LeaveLines, AllWaken, WakesWaiter};
+    ghost use Rattle.broker.specs.Rounds.{is_of, wakes, AllAreNoted, AllAreConsumers, AllListedAreThere, IsAt, IsInItsRound};
+    ghost use Rattle.broker.specs.Rounds.{HasNoWaiter, IsExpected, CanJoin, HasJoined};
+    ghost use Rattle.broker.specs.Rounds.{KeepLists, ListsRunning, KeepsWaiters, KeepsAll, AllAddTheirOwn, ListsItsWaiters, LeaveLines, AllWaken, WakesWaiter};
     ghost use Rattle.broker.specs.Rounds.{NotesStay, SameListed, ListsItsOwn, ListingsLeave, HasNoList, MakesNoList, PicksFirst, GoesOn, AllAreEmpty};
     ghost use Rattle.broker.specs.Moving.{ArePlacesApart, RoundsAreMoved, LinesCome, ListsAreMoved};
 
@@ -91,8 +91,8 @@ impl ConsumerRounds {
         })
     }
 
-    /// Returns the consumer that `event` is going to make, if any, with capacity for its waiter in the round of its queue and on its channel's list.
-    /// Fails only if an allocation fails. Either way the waiters of existing consumers stay, and every order is unchanged.
+    /// Reserves capacity for the waiter of the consumer that `event` is going to make, if any, in the round of its queue and on its channel's list, and
+    /// returns that consumer. Fails only if an allocation fails. Either way the waiters of existing consumers stay, and every order is unchanged.
     pub fn expect_next(
         &mut self,
         alloc: Global,
@@ -100,9 +100,11 @@ impl ConsumerRounds {
         event: &Event,
     ) -> Result<Option<Newcomer>, AllocError>
         requires rounds { length self.old.rounds ≡ length (topology_kept core.now).queues }
+        requires own { AllAreConsumers core.now self.old.rounds }
         requires listed { AllListedAreThere core.now self.old.lists }
         // The newcomer, and capacity for it.
         ensures expected { IfOk result (IsExpected core.now event.now self.new) }
+        ensures absent { IfOk result (λ n. IfSome n (HasNoWaiter self.new.rounds)) }
         // The frame: waiters and listings stay, and so does every order.
         ensures kept { KeepsWaiters core.now self.old self.new }
         ensures noted { NotesStay self.old.lists self.new.lists }
@@ -127,7 +129,8 @@ impl ConsumerRounds {
     /// Adds the waiter of `newcomer`, if there is one and it is a consumer now: awake, at the end of its queue's order, and listed. All other
     /// waiters stay. Never allocates.
     pub fn join(&mut self, core: &Core, newcomer: Option<Newcomer>)
-        requires { IfSome newcomer (CanJoin self.old) }
+        requires room { IfSome newcomer (CanJoin self.old) }
+        requires absent { IfSome newcomer (HasNoWaiter self.old.rounds) }
         // The newcomer is added if it is a consumer.
         ensures joined { IfSome newcomer (λ n. is_of core.now n.queue n.consumer ≡ true → HasJoined self.new n.queue n.consumer) }
         // The frame: waiters and listings stay, and nothing else is added.
@@ -144,19 +147,20 @@ impl ConsumerRounds {
             return;
         };
         if is_of(core, queue, consumer) {
-            join_listing(&mut self.sleepers, queue, consumer);
-            self.rounds.join(queue, consumer);
+            let place = self.rounds.join(queue, consumer);
+            join_listing(&mut self.sleepers, queue, consumer, place);
         }
     }
 
     /// Removes the waiters and the listings of those consumers of `connection` that are gone, and all its lists if it is no longer running. The
-    /// order of the others is unchanged. Never allocates.
+    /// order of the others is unchanged. Looks at no other connection's listings. Never allocates.
     pub fn leave(&mut self, core: &Core, connection: u64, ends: Ends)
-        requires { ends ≡ ended.Connection → (broker_of core.now).connection connection ≡ None }
-        // Those of existing consumers stay.
+        requires ended { ends ≡ ended.Connection → (broker_of core.now).connection connection ≡ None }
+        requires listed { ListsItsWaiters connection self.old }
+        // The waiters and listings of existing consumers stay.
         ensures kept { KeepsWaiters core.now self.old self.new }
         ensures noted { KeepLists core.now self.old.lists self.new.lists }
-        // Those of this connection whose consumer is gone are removed.
+        // The listings of those consumers of this connection that are gone are removed.
         ensures left { ListingsLeave core.now connection self.old.lists self.new.lists }
         ensures gone { ends ≡ ended.Connection → HasNoList self.new.lists connection }
         // The frame.
@@ -165,15 +169,14 @@ impl ConsumerRounds {
         ensures len { length self.new.rounds ≡ length self.old.rounds }
         ensures next { self.new.next ≡ self.old.next }
     {
-        self.rounds.leave(core, connection);
+        leave_waiters(&self.sleepers, &mut self.rounds, core, connection);
         match ends {
             Ends::Connection => forget_connection(&mut self.sleepers, connection),
             _ => leave_lists(&mut self.sleepers, core, connection),
         }
     }
 
-    /// Wakes the waiters of consumers of `connection` and `channel`; `None` is all channels. Never
-    /// allocates.
+    /// Wakes the waiters of the consumers of `connection` on `channel`, or on all its channels if that is `None`. Never allocates.
     pub fn wake(&mut self, connection: u64, channel: Option<u16>)
         // The waiters are woken.
         ensures woken { (p : Consumer) → IsAt connection channel p → WakesWaiter self.old self.new p }
@@ -189,7 +192,7 @@ impl ConsumerRounds {
         wake_connection(&mut self.sleepers, &mut self.rounds, connection, channel);
     }
 
-    /// Wakes the waiters of consumers that may be able to take more after `event`. Never allocates.
+    /// Wakes the waiters of consumers that may be able to take more messages after `event`. Never allocates.
     pub fn wake_for(&mut self, event: &Event)
         // The waiters are woken.
         ensures woken { (p : Consumer) → wakes event.now p ≡ true → WakesWaiter self.old self.new p }
@@ -218,8 +221,8 @@ impl ConsumerRounds {
         }
     }
 
-    /// Moves the waiters of `old` to the rounds at the indices that `indices` has for their queues, all awake, and their listings too. Those
-    /// of a queue whose new index is past the end are removed. Never allocates.
+    /// Moves the waiters of `old` to the rounds at the indices that `indices` has for their queues, all awake, and their listings too. The waiters
+    /// and listings of a queue whose new index is past the end are removed. Never allocates.
     pub fn take_over(&mut self, old: ConsumerRounds, indices: &[usize])
         requires len { length indices.now ≡ length old.rounds }
         requires apart { ArePlacesApart indices.now (length self.old.rounds) }
@@ -252,10 +255,10 @@ impl ConsumerRounds {
         ensures same { SameListed self.old.lists self.new.lists }
         ensures no_list { MakesNoList self.old.lists self.new.lists }
         ensures len { length self.new.rounds ≡ length self.old.rounds }
-        // A delivery can be made to the picked consumer; if none is picked, none can be made to a consumer with a waiter.
+        // A delivery can be made to the picked consumer; if no consumer is picked, no delivery can be made to a consumer with a waiter.
         ensures some { IfSome result (λ p. (place : ℕ) × IsPickFrom core.now place p) }
         ensures none { result ≡ None → (place : ℕ) (p : Consumer) → IsInItsRound (broker_of core.now) self.old place p → IsPickFrom core.now place p → ⊥ }
-        // It is the first in order; if none is picked, every order is unchanged.
+        // The picked consumer is the first in order; if none is picked, every order is unchanged.
         ensures told { IfSome result (λ p. PicksFirst core.now self.old self.new p) }
         ensures on { result ≡ None → GoesOn self.old self.new }
     {

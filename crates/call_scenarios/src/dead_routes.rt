@@ -61,7 +61,7 @@ fn expect_none(topology: &Topology) -> Result<(), Unmet> {
     expect("a queue that is not there sends none on", !has_absent)
 }
 
-/// Checks that a dead letter goes to the exchange of its queue, under the queue's key or its own.
+/// Checks that a dead letter goes to the exchange of its queue, under the key that the queue sets, or else under its own.
 pub(crate) fn a_dead_letter_goes_to_the_exchange_of_its_queue(alloc: Global) -> Result<(), Unmet> {
     let topology = topology(alloc)?;
     expect_letter(&topology, b"fixed", b"pay")?;

@@ -14,11 +14,11 @@ use std::alloc::Global;
 const CONSUME: &[u8] =
     b"\x01\x00\x01\x00\x00\x00\x13\x00\x3c\x00\x14\x00\x00\x05audit\x01t\x00\x00\x00\x00\x00\xce";
 
-/// The same without acknowledgements.
+/// [`CONSUME`] without acknowledgements.
 const CONSUME_WITHOUT_ACKS: &[u8] =
     b"\x01\x00\x01\x00\x00\x00\x13\x00\x3c\x00\x14\x00\x00\x05audit\x01t\x02\x00\x00\x00\x00\xce";
 
-/// consume-ok of either.
+/// consume-ok, the answer to [`CONSUME`] and to [`CONSUME_WITHOUT_ACKS`].
 const CONSUMED: &[u8] = b"\x01\x00\x01\x00\x00\x00\x06\x00\x3c\x00\x15\x01t\xce";
 
 /// basic.cancel of the consumer `t`.
@@ -31,14 +31,14 @@ const CANCELLED: &[u8] = b"\x01\x00\x01\x00\x00\x00\x06\x00\x3c\x00\x1f\x01t\xce
 const CLOSE: &[u8] =
     b"\x01\x00\x01\x00\x00\x00\x0b\x00\x14\x00\x28\x00\xc8\x00\x00\x00\x00\x00\xce\x01\x00\x00\x00\x00\x00\x0b\x00\x0a\x00\x32\x00\xc8\x00\x00\x00\x00\x00\xce";
 
-/// The close-ok of each.
+/// The close-ok of the channel, and that of the connection.
 const CLOSED: &[u8] =
     b"\x01\x00\x01\x00\x00\x00\x04\x00\x14\x00\x29\xce\x01\x00\x00\x00\x00\x00\x04\x00\x0a\x00\x33\xce";
 
 /// The number of bytes that are left when all other memory is taken. The broker has them beside its reserve.
 const LEFT: usize = 16_777_216;
 
-/// The least number of messages that have to fit in it.
+/// The least number of messages that have to fit in [`LEFT`] bytes.
 const LEAST: u64 = 50_000;
 
 /// The number of clients that log in once the broker is full.
@@ -262,7 +262,7 @@ impl Emptying {
     }
 }
 
-/// Returns a full broker, to which clients have logged in since, and the memory that is taken from the process.
+/// Fills a broker, and logs in clients. Returns the broker, and the memory that is taken from the process.
 fn full_broker(rt: &HostRuntime, alloc: Global) -> Result<(Emptying, Room), Unmet> {
     let mut emptying = Emptying::new(alloc)?;
     let left: Vec<u8> = value_of("Vec::with_capacity", Vec::with_capacity(alloc, LEFT))?;

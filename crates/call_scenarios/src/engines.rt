@@ -112,7 +112,7 @@ pub(crate) fn a_lost_connection_is_over_and_its_number_is_not_given_again(
     expect("connection 2 is not over", !engine.is_over(2))
 }
 
-/// The number of open connections at most.
+/// The largest number of open connections.
 const MOST_CONNECTIONS: u64 = 1_024;
 
 /// Checks that a further connection is refused, in either way of opening.

@@ -21,7 +21,7 @@ const FRAME_MAX: u32 = 131_072;
 /// The length of the first frame of `MESSAGE`, in bytes.
 const FIRST_FRAME: u64 = 26;
 
-/// The payload of its content header.
+/// The payload of the content header of `MESSAGE`.
 const HEADER: &[u8] = b"\x00\x3c\x00\x00\x00\x00\x00\x00\x00\x00\x00\x02\x00\x00";
 
 /// The front of a frame that is too long.
@@ -211,7 +211,7 @@ impl Parts {
         })
     }
 
-    /// Checks that a broken stream reports its fault again, whatever is set.
+    /// Checks that a broken stream reports its fault again, whatever frame size is set.
     fn expect_stream(&mut self) -> Result<(), Unmet> {
         self.stream.set_max(FRAME_MAX);
         self.stream.set_running(false);
@@ -275,7 +275,7 @@ impl Machines {
         })
     }
 
-    /// Checks that a nack requeues the message, which has no consumer; and pauses, resumes and loses the connection.
+    /// Checks that a nack requeues the message, whose queue has no consumer; and pauses, resumes and loses the connection.
     fn expect_broker(&mut self, alloc: Global) -> Result<(), Unmet> {
         let nack = Method::BasicNack(Nack {
             delivery_tag: 1,
@@ -305,7 +305,7 @@ impl Machines {
         expect("connection 3 is over", self.engine.is_over(3))
     }
 
-    /// Checks that a reload without a queue in use is refused, and names that queue.
+    /// Checks that a reload that lacks a queue in use is refused, and that the refusal names the queue.
     fn expect_reload(&mut self, alloc: Global) -> Result<(), Unmet> {
         let lacking = value_of("what lacks the queue", self.lacking.take().ok_or(()))?;
         let reload = self.engine.reload(alloc, lacking, Vec::new(alloc));
@@ -336,7 +336,7 @@ impl Frugal {
         })
     }
 
-    /// Makes each call. Takes the memory that some of them free before the next one.
+    /// Makes each call, and takes the memory that a call frees before the next one.
     pub(crate) fn expect_all(&mut self, alloc: Global, room: &mut Room) -> Result<(), Unmet> {
         expect_wire()?;
         self.judged.expect_logins()?;

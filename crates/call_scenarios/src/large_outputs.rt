@@ -13,10 +13,10 @@ const PUBLISH: &[u8] =
 /// The number of body frames.
 const BODY_FRAMES: usize = 15;
 
-/// The number of bytes of the body in each of them.
+/// The number of bytes of the body in each body frame.
 const PIECE: usize = 60_000;
 
-/// What comes before those bytes in the frame.
+/// What precedes the piece of the body in each body frame.
 const BODY_FRONT: &[u8] = b"\x03\x00\x02\x00\x00\xea\x60";
 
 /// basic.get of `audit` on channel 2 with no-ack.
@@ -56,8 +56,8 @@ fn perform(alloc: Global, engine: &mut Engine, command: &[u8]) -> Result<(), Unm
     expect("the command is performed", matches!(turn, Turn::Did(_)))
 }
 
-/// Returns an engine whose connection 1 has got a large message, which nobody takes. It has a consumer for which another is
-/// ready.
+/// Returns an engine with a large message in the output of connection 1, which nobody takes. The connection has a consumer, for which another
+/// message is ready.
 fn full_engine(alloc: Global) -> Result<Engine, Unmet> {
     let mut engine = new_broker(alloc)?;
     value_of("Engine::open_ready", engine.open_ready(alloc, 2))?;

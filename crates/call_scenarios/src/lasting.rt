@@ -13,11 +13,11 @@ const ONE_AT_A_TIME: &[u8] =
 const CONSUME: &[u8] =
     b"\x01\x00\x01\x00\x00\x00\x13\x00\x3c\x00\x14\x00\x00\x05audit\x01w\x00\x00\x00\x00\x00\xce";
 
-/// The same with the consumer tag `u`, and basic.cancel of `u`, both with no-wait.
+/// basic.consume of `audit` on channel 1 with the consumer tag `u`, and basic.cancel of `u`, both with no-wait.
 const CONSUME_AND_CANCEL: &[u8] =
     b"\x01\x00\x01\x00\x00\x00\x13\x00\x3c\x00\x14\x00\x00\x05audit\x01u\x08\x00\x00\x00\x00\xce\x01\x00\x01\x00\x00\x00\x07\x00\x3c\x00\x1e\x01u\x01\xce";
 
-/// basic.ack on channel 1, up to its delivery tag.
+/// The beginning of a basic.ack on channel 1: all that is before its delivery tag.
 const ACK: &[u8] = b"\x01\x00\x01\x00\x00\x00\x0d\x00\x3c\x00\x50";
 
 /// The end of a basic.ack of one delivery.
@@ -35,7 +35,7 @@ const KEEPER: u64 = 3;
 /// The number of messages that are published, then delivered and acknowledged, at a time.
 const WINDOW: u64 = 100;
 
-/// The number of consumers that are started and cancelled meanwhile.
+/// The number of consumers that are started and cancelled for each [`WINDOW`] of messages.
 const CONSUMERS: u64 = 10;
 
 /// The size of a page of memory, in bytes.
@@ -168,7 +168,7 @@ fn resident_bytes(rt: &HostRuntime) -> Result<u64, Unmet> {
 
 /// Checks that the process hardly grows while a broker works. 200,000 messages are published, delivered and acknowledged, besides
 /// one that is unacknowledged and one that is ready all the time, and 20,000 consumers are started and cancelled. A tenth of that
-/// comes first, so that the memory that is kept for reuse is there.
+/// is done before the first measurement, so that the memory that is kept for reuse is already allocated.
 pub(crate) fn a_broker_that_works_for_long_keeps_no_more_room(
     rt: &HostRuntime,
     alloc: Global,

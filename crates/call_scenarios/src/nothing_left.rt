@@ -1,7 +1,7 @@
 //! Calls that are made while no memory is left, and again after it was given back.
 
 use crate::frugal::Frugal;
-use crate::parts::{Stated, checked, new_engine};
+use crate::parts::{Stated, checked, engine_after};
 use crate::room::{Room, can_be_taken};
 use certificate::{CertFault, Certificate, Checked, Refutation, check, disprove};
 use definitions::{FileCause, read_definitions};
@@ -11,7 +11,7 @@ use guarantees::read_guarantees;
 use model::{Note, Text};
 use runs::ReloadFault;
 use scenario_parts::files::{CERTIFICATES, DEFINITIONS, GUARANTEES};
-use scenario_parts::{Unmet, expect, expect_bytes, value_of};
+use scenario_parts::{CONSUME, MESSAGE, Unmet, expect, expect_bytes, value_of};
 use std::alloc::Global;
 
 /// The outcome of a call.
@@ -43,12 +43,16 @@ const FIRST_HEARTBEATS: usize = 512;
 /// A heartbeat frame.
 const HEARTBEAT: &[u8] = b"\x08\x00\x00\x00\x00\x00\x00\xce";
 
-/// consume-ok of the consumer `t`.
-const CONSUMED: &[u8] = b"\x01\x00\x01\x00\x00\x00\x06\x00\x3c\x00\x15\x01t\xce";
+/// A get from the queue while it is empty. It leaves the output with room for a content, so no delivery there gives a small storage back.
+const GET: &[u8] = b"\x01\x00\x01\x00\x00\x00\x0d\x00\x3c\x00\x46\x00\x00\x05audit\x01\xce";
 
-/// The same, and the delivery of `MESSAGE` to it with delivery tag 1, with the content.
+/// get-empty, and consume-ok of the consumer `t`.
+const CONSUMED: &[u8] =
+    b"\x01\x00\x01\x00\x00\x00\x05\x00\x3c\x00\x48\x00\xce\x01\x00\x01\x00\x00\x00\x06\x00\x3c\x00\x15\x01t\xce";
+
+/// [`CONSUMED`], and the delivery of `MESSAGE` to that consumer with delivery tag 1, with the content.
 const CONSUMED_AND_DELIVERED: &[u8] =
-    b"\x01\x00\x01\x00\x00\x00\x06\x00\x3c\x00\x15\x01t\xce\x01\x00\x01\x00\x00\x00\x1a\x00\x3c\x00\x3c\x01t\x00\x00\x00\x00\x00\x00\x00\x01\x00\x06orders\x03new\xce\x02\x00\x01\x00\x00\x00\x0e\x00\x3c\x00\x00\x00\x00\x00\x00\x00\x00\x00\x02\x00\x00\xce\x03\x00\x01\x00\x00\x00\x02hi\xce";
+    b"\x01\x00\x01\x00\x00\x00\x05\x00\x3c\x00\x48\x00\xce\x01\x00\x01\x00\x00\x00\x06\x00\x3c\x00\x15\x01t\xce\x01\x00\x01\x00\x00\x00\x1a\x00\x3c\x00\x3c\x01t\x00\x00\x00\x00\x00\x00\x00\x01\x00\x06orders\x03new\xce\x02\x00\x01\x00\x00\x00\x0e\x00\x3c\x00\x00\x00\x00\x00\x00\x00\x00\x00\x02\x00\x00\xce\x03\x00\x01\x00\x00\x00\x02hi\xce";
 
 /// The values that the calls are made on.
 #[derive(Drop)]
@@ -97,7 +101,7 @@ impl Calls {
     /// Builds the values, while there is memory.
     fn new(alloc: Global) -> Result<Calls, Unmet> {
         Ok(Calls {
-            engine: new_engine(alloc)?,
+            engine: engine_after(alloc, &[GET, CONSUME, MESSAGE])?,
             first_heartbeats: heartbeats(alloc, FIRST_HEARTBEATS)?,
             heartbeats: heartbeats(alloc, HEARTBEATS)?,
             stated: Stated::with(alloc, GUARANTEES)?,
@@ -164,8 +168,8 @@ impl Calls {
         }
     }
 
-    /// Checks that a publish is refused, and that fed bytes use the engine's reserve. The refused publish was read with the memory of the reserve,
-    /// and has allocated what it could of that again, so the rest is taken before the bytes are fed.
+    /// Checks that a publish is refused, and that fed bytes use the engine's reserve. The refused publish was read with the memory of the reserve. Then
+    /// the engine has allocated as much of the reserve again as it could, so what memory is left is taken before the bytes are fed.
     fn expect_reserve(&mut self, alloc: Global, room: &mut Room) -> Result<(), Unmet> {
         expect_outcome(
             "a publish leaves the reserve",
@@ -257,7 +261,7 @@ impl Calls {
         expect_outcome("disprove does as expected", self.disprove(alloc), expected)
     }
 
-    /// Checks the outcome of each call.
+    /// Checks that each call has the outcome `expected`.
     fn expect_all(&mut self, alloc: Global, expected: Outcome) -> Result<(), Unmet> {
         self.expect_engine(alloc, expected)?;
         self.expect_readings(alloc, expected)?;

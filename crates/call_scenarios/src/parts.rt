@@ -21,7 +21,7 @@ pub(crate) struct Stated {
 }
 
 impl Stated {
-    /// Reads the files, with this guarantees file.
+    /// Reads the files, with `guarantees` as the guarantees file.
     pub(crate) fn with(alloc: Global, guarantees: &[u8]) -> Result<Stated, Unmet> {
         let definitions = value_of("read_definitions", read_definitions(alloc, DEFINITIONS))?;
         let (topology, _) = definitions.into_parts();
@@ -99,11 +99,17 @@ pub(crate) fn checked(alloc: Global) -> Result<Checked, Unmet> {
 /// Returns an engine with three connections, each with channel 1. The first has a consumer, for which a message is ready; the
 /// second has a publish to be performed; the third is lost.
 pub(crate) fn new_engine(alloc: Global) -> Result<Engine, Unmet> {
+    engine_after(alloc, &[CONSUME, MESSAGE])
+}
+
+/// Returns an engine with three connections, each with channel 1. The first has performed `commands`; the second has a publish to be
+/// performed; the third is lost.
+pub(crate) fn engine_after(alloc: Global, commands: &[&[u8]]) -> Result<Engine, Unmet> {
     let mut engine = new_broker(alloc)?;
     for _ in 0..3 {
         value_of("Engine::open_ready", engine.open_ready(alloc, 1))?;
     }
-    for command in [CONSUME, MESSAGE] {
+    for command in commands {
         value_of("Engine::feed", engine.feed(1, command))?;
         let turn = value_of("Engine::turn", engine.turn(alloc, 1))?;
         expect("the command is performed", matches!(turn, Turn::Did(_)))?;

@@ -7,19 +7,20 @@ use std::fs;
 /// The size of the largest block that is requested, in bytes.
 const LARGEST: usize = 1 << 40;
 
-/// The size, in bytes, up to which an allocator keeps freed blocks of each size apart.
+/// The size, in bytes, up to which an allocator keeps a list of freed blocks for each size.
 const SMALL: usize = 1_024;
 
-/// The distance between these sizes, in bytes.
+/// The distance in bytes between the sizes, up to [`SMALL`], for which an allocator keeps such a list.
 const STEP: usize = 16;
 
 /// The largest number of blocks that are taken.
 const MOST_BLOCKS: usize = 100_000;
 
-/// The largest number of allocations that are tried: each size fails once.
+/// The largest number of allocations that are tried: one for each block that is taken, and one that fails for each size.
+/// There are fewer than 128 sizes.
 const MOST_CALLS: usize = MOST_BLOCKS + 128;
 
-/// The largest number of pages of address space that a process has before its memory is taken: a tebibyte, in pages of 4,096 bytes.
+/// All memory is taken only in a process whose address space has fewer pages than this before: a tebibyte, in pages of 4,096 bytes.
 const MOST_PAGES: u64 = 1 << 28;
 
 /// Blocks that are taken and never written, so that the machine uses no page for them.
@@ -77,7 +78,7 @@ impl Room {
     }
 }
 
-/// Returns the number of pages of the process's address space, as Linux reports it.
+/// Returns the number of pages of the process's address space, as Linux reports it, or `None` if that can't be read.
 fn pages(rt: &HostRuntime) -> Option<u64> {
     let text = fs::read_to_string(rt, "/proc/self/statm").ok()?;
     let (pages, _) = text.as_str().split_once(' ')?;

@@ -1,4 +1,4 @@
--- What one client of a server in memory receives (own).
+-- The bytes that one client of a server in memory receives (own).
 use Rattle.std.specs.Prelude.{◌≡◌, ℕ, List, Some, flat_map}
 use Rattle.model.specs.State.{Config}
 use Rattle.model.specs.Arrivals.{World}
@@ -7,8 +7,8 @@ use Rattle.serving.specs.Wire.{Call}
 use Rattle.serving.specs.Joined.{written_to}
 use Rattle.memory_wire.specs.Served.{TellsBytes}
 
--- `bytes` are those that calls of a server in memory wrote to the client's socket. As for each such server the promises are kept, and the bytes
--- are the beginning of the output of the client's connection.
+-- `bytes` are those that a server in memory wrote to the socket of its first client, by its log. `TellsBytes` says that the promises were kept, and that
+-- the bytes are a prefix of the output of the client's connection.
 pub record IsServed (L : Lacks) (f : Config) (bytes : List ℕ) : Type 0 where
   pub calls : List Call
   pub last : World

@@ -10,7 +10,7 @@ pub enum Cut {
     Whole,
     /// Into single bytes.
     Bytes,
-    /// In two, after this number of bytes, if it has more.
+    /// Into two parts, the first of this number of bytes, if the piece has more.
     At(usize),
 }
 

@@ -14,7 +14,7 @@ pub struct Case {
     pub expected: String,
 }
 
-/// Reads the file of a case with this extension.
+/// Reads the file of case `name` with the extension `ending`.
 fn text_of(folder: Folder<'_>, name: &str, ending: &str) -> io::Result<String> {
     let file = format!(in folder.rt.alloc(); "{name}.{ending}")?;
     folder.text(file.as_str())

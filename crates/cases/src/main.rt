@@ -30,7 +30,7 @@ struct Tally {
 }
 
 impl Tally {
-    /// Counts a case with this number of rows, or with `None` if it failed.
+    /// Counts a case that has this number of rows; `None` says that it failed.
     fn and(self, rows: Option<u64>) -> Tally {
         Tally {
             cases: self.cases.saturating_add(1),

@@ -9,10 +9,11 @@ use crate::rows::{CaseRow, rows_of, text_at};
 use std::alloc::Global;
 use std::io;
 
-/// The length, in bytes, up to which a piece is cut into single bytes and at every place. A longer one is cut near its ends.
+/// The pieces of a script are cut in two at every place, and also into single bytes, if the longest has at most this number of bytes.
+/// If it has more, they are cut in two at places near its ends only.
 const CUT_EVERYWHERE: usize = 4_096;
 
-/// The number of places that are near an end.
+/// A place is near an end if it is at most this number of bytes from it.
 const NEAR: usize = 12;
 
 /// A row of a case.
@@ -124,7 +125,7 @@ impl<'a> CaseTable<'a> {
         )
     }
 
-    /// Returns the script of a row, with its repetitions expanded.
+    /// Returns the script of the row at index `place`, with its repetitions expanded, or `None` if the case has no scripts.
     fn script(&self, alloc: Global, place: usize, row: &str) -> io::Result<Option<String>> {
         if self.scripts.is_empty() {
             return Ok(None);

@@ -1,6 +1,8 @@
 -- Admission by certificates, one for each guarantee (own).
-use Rattle.std.specs.Prelude.{◌≡◌, ◌<◌, ◌⊎◌, ℕ, List, length, slice_get, Some, None, Result, Ok, Err}
+use Rattle.std.specs.Prelude.{◌≡◌, ◌<◌, ◌⊎◌, ℕ, List, Bool, true, false, length, slice_get, Some, None, Result, Ok, Err}
 use Rattle.model.specs.Topology.{Topology}
+use Rattle.model.specs.declared.topologies.Mode.{Mode}
+use Rattle.model.specs.declared.topologies.Mode.TheVariants.{Reaches, Never}
 use Rattle.model.specs.Guarantee.{Guarantee, AllHold}
 use Rattle.model.specs.Certificates.{Certificate, Accepts}
 use Rattle.certificate.specs.Checks.{Faults}
@@ -14,13 +16,13 @@ pub record IsCertifiedAt (t : Topology) (g : Guarantee) (cs : List Certificate) 
   pub is : slice_get cs place ≡ Some certificate
   pub accepted : Accepts t g certificate
 
--- the certificate at index `place` has this fault
+-- the certificate at index `place` has fault `f`
 pub record HasFault (t : Topology) (g : Guarantee) (cs : List Certificate) (place : ℕ) (f : CertFault) : Type 0 where
   pub certificate : Certificate
   pub is : slice_get cs place ≡ Some certificate
   pub fault : Faults t g certificate f
 
--- guarantee `g` has no accepted certificate at index `place`: there is none at all, or it has this fault
+-- guarantee `g` has no accepted certificate at index `place`: there is none, and `f` is `Form`; or the one there has fault `f`
 abbrev pub IsUncertified : Topology → Guarantee → List Certificate → ℕ → CertFault → Type 0
 IsUncertified t g cs place f = ((slice_get cs place ≡ None) × (f ≡ Form)) ⊎ HasFault t g cs place f
 
@@ -38,13 +40,13 @@ pub record AreCertified (t : Topology) (gs : List Guarantee) (cs : List Certific
   pub count : length gs ≡ length cs
   pub all : (i : ℕ) (g : Guarantee) → slice_get gs i ≡ Some g → IsCertifiedAt t g cs i
 
--- the guarantee at index `place` has no accepted certificate, for this fault
+-- the guarantee at index `place` has no accepted certificate, and `f` is the fault
 pub record FailsAt (t : Topology) (gs : List Guarantee) (cs : List Certificate) (place : ℕ) (f : CertFault) : Type 0 where
   pub guarantee : Guarantee
   pub is : slice_get gs place ≡ Some guarantee
   pub fault : IsUncertified t guarantee cs place f
 
--- there is a certificate behind that of the last guarantee
+-- there are more certificates than guarantees, and `place` is the index of the first one left over
 pub record IsOneTooMany (gs : List Guarantee) (cs : List Certificate) (place : ℕ) (f : CertFault) : Type 0 where
   pub place_is : place ≡ length gs
   pub more : length gs < length cs
@@ -55,7 +57,7 @@ pub record FailsFirst (t : Topology) (gs : List Guarantee) (cs : List Certificat
   pub before : AreCertifiedBelow t gs cs place
   pub fails : FailsAt t gs cs place f ⊎ IsOneTooMany gs cs place f
 
--- each guarantee has an accepted certificate and none is left over; or this is the least index at fault, and its fault
+-- each guarantee has an accepted certificate and none is left over; or the error is the least index at fault, and its fault
 abbrev pub Certifies : Topology → List Guarantee → List Certificate → Result Unit (ℕ × CertFault) → Type 0
 Certifies t gs cs (Ok u) = AreCertified t gs cs
 Certifies t gs cs (Err e) = FailsFirst t gs cs e.0 e.1
@@ -64,3 +66,8 @@ Certifies t gs cs (Err e) = FailsFirst t gs cs e.0 e.1
 abbrev pub Admits : Topology → List Guarantee → List Certificate → Result Admitted (ℕ × CertFault) → Type 0
 Admits t gs cs (Ok k) = (k ≡ record { topology = t; guarantees = gs }) × AllHold t gs × AreCertified t gs cs
 Admits t gs cs (Err e) = FailsFirst t gs cs e.0 e.1
+
+-- the mode is `never`
+abbrev pub is_never : Mode → Bool
+is_never Reaches = false
+is_never Never = true

@@ -17,30 +17,30 @@ abbrev pub listed : Bool → List Certificate → List ℕ
 listed later [] = []
 listed later (c ∷ cs) = comma_if later ++ (compact_text (certificate_data c) ++ listed true cs)
 
--- the file of these certificates without the closing bracket
+-- the file of the certificates `cs` without the closing bracket
 abbrev pub begun : List Certificate → List ℕ
 begun cs = 91 ∷ listed false cs
 
--- `bytes` are the file of these certificates without the closing bracket, short enough for it, and can be read back
+-- `bytes` are the file of `cs` without the closing bracket, which fits within the size limit; each certificate can be read back
 pub record IsBegun (bytes : List ℕ) (cs : List Certificate) : Type 0 where
   pub text : bytes ≡ begun cs
   pub short : length bytes < 16777216
   pub utf8 : IsUtf8 bytes
   pub back : AllByRecursion (λ c. ReadsBackWithin (certificate_data c)) cs
 
--- `bytes` are the file of these certificates: compact, within the size limit, and read back as exactly these
+-- `bytes` are the file of `cs`: compact, within the size limit, and read back as exactly `cs`
 pub record IsFile (bytes : List ℕ) (cs : List Certificate) : Type 0 where
   pub compact : bytes ≡ compact_text (file_data cs)
   pub short : length bytes ≤ 16777216
   pub states : IsCertificatesFile bytes cs
 
--- why these certificates have no file within the size limit; an allocation failure says nothing about them
+-- why `cs` have no file within the size limit; an allocation failure says nothing about them
 abbrev pub HasNoFile : Unwritten → List Certificate → Type 0
 HasNoFile NotText cs = AllByRecursion AreTexts cs → ⊥
 HasNoFile TooLong cs = 16777216 < length (compact_text (file_data cs))
 HasNoFile Memory cs = Unit {0}
 
--- the draft is that of the file of these certificates
+-- the draft of the certificates `cs`: their file so far, or why they have none
 abbrev pub IsDraft : Draft → List Certificate → Type 0
 IsDraft (draft.Text text) cs = IsBegun text.items cs
 IsDraft (draft.Refused why) cs = HasNoFile why cs
@@ -56,7 +56,7 @@ abbrev pub Puts : Result (Unit {0}) Unwritten → List ℕ → List ℕ → Cert
 Puts (Ok u) old new c = HasPut old new c
 Puts (Err e) old new c = FailsToWrite e (AreTexts c)
 
--- the draft of these certificates was extended by `cs`; no draft stays none
+-- `cs` were appended to the draft of some certificates; without a draft (`None`) there is none afterwards
 abbrev pub Adds : Option Draft → Option Draft → List Certificate → Type 0
 Adds None after cs = after ≡ None
 Adds (Some before) None cs = ⊥

@@ -10,17 +10,17 @@ use Rattle.model.specs.Certificates.{Certificate, Form}
 use Rattle.json_file.specs.declared.causes.FileCause.{FileCause}
 use Rattle.certificate.specs.Stated.{certificates_stated}
 
--- the states that the value states are returned, or it is refused because it states none
+-- the result is the states that the value spells, or the value is refused because it spells none, or an allocation failed
 abbrev pub GivesStates : Result (Vec (Vec ℕ Global) Global) FileCause → Option (List (List ℕ)) → Type 0
 GivesStates (Ok v) o = o ≡ Some (states_of v.items)
 GivesStates (Err e) o = FailsJson e (o ≡ None)
 
--- the form that the value states is returned, or it is refused because it states none
+-- the form that the value states is returned; or the value states none, or an allocation failed
 abbrev pub GivesForm : Result stated.Form FileCause → Option Form → Type 0
 GivesForm (Ok form) o = o ≡ Some (form_view form)
 GivesForm (Err e) o = FailsJson e (o ≡ None)
 
--- the file is JSON and states these certificates
+-- the file is JSON and states the certificates `cs`
 abbrev pub IsCertificatesFile : List ℕ → List Certificate → Type 0
 IsCertificatesFile bytes cs = IsFileOf certificates_stated bytes cs
 

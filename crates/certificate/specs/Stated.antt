@@ -29,7 +29,7 @@ excepts_at d = option_and_then (each as_str) (array_member (codes "except") d)
 abbrev pub whole_names : List (List ℕ)
 whole_names = codes "exchange" ∷ codes "form" ∷ codes "mode" ∷ codes "pattern" ∷ codes "queue" ∷ codes "states" ∷ []
 
--- the members of form 2
+-- the names of the members of a certificate of form 2
 abbrev pub sliced_names : List (List ℕ)
 sliced_names = codes "exchange" ∷ codes "form" ∷ codes "mode" ∷ codes "pattern" ∷ codes "queue" ∷ codes "states" ∷ codes "tracked" ∷ []
 
@@ -52,7 +52,7 @@ excepting_of d = do
   places ← tracked_at d
   Some (Excepting excepts places)
 
--- form 3, if the object has no other members
+-- form 3, if the object has no members but those of this form
 unfoldable pub excepting_at : Data → Option Form
 excepting_at d = if has_only excepting_names d then excepting_of d else None
 
@@ -60,7 +60,7 @@ excepting_at d = if has_only excepting_names d then excepting_of d else None
 unfoldable pub form_of : ℕ → Data → Option Form
 form_of n d = if n == 1 then whole_at d else if n == 2 then sliced_at d else if n == 3 then excepting_at d else None
 
--- the form whose number is the member `form`, with its own members
+-- the form whose number is the member `form`, read from the members that belong to this form
 unfoldable pub form_at : Data → Option Form
 form_at d = option_and_then (λ n. form_of n d) (option_and_then whole_number (get (codes "form") d))
 

@@ -28,7 +28,7 @@ pub record AreTexts (c : Certificate) : Type 0 where
   pub queue : IsUtf8 c.queue
   pub excepts : HasTexts c.form
 
--- nothing was written: a text is not UTF-8, or an allocation failed. Never because of a length.
+-- the error is right: `why` (all the texts are UTF-8) doesn't hold, or an allocation failed; the length is never a reason
 abbrev pub FailsToWrite : Unwritten → Type 0 → Type 0
 FailsToWrite NotText why = why → ⊥
 FailsToWrite TooLong why = ⊥
@@ -39,7 +39,7 @@ abbrev pub LendsText : Result (Bor (List ℕ)) Unwritten → Text → Type 0
 LendsText (Ok s) text = s.now ≡ text
 LendsText (Err e) text = FailsToWrite e (IsUtf8 text)
 
--- the text as JSON, or it is not UTF-8, or an allocation failed
+-- the result is the text as JSON, or the error is right: the text is not UTF-8, or an allocation failed
 abbrev pub GivesText : Result Value Unwritten → Text → Type 0
 GivesText (Ok v) text = view v ≡ string text
 GivesText (Err e) text = FailsToWrite e (IsUtf8 text)
@@ -49,7 +49,7 @@ abbrev pub GivesTexts : Result Value Unwritten → List Text → Type 0
 GivesTexts (Ok v) texts = view v ≡ excepts_data texts
 GivesTexts (Err e) texts = FailsToWrite e (AllByRecursion IsUtf8 texts)
 
--- a certificate of this form with these texts and states as JSON, or a text of the form is not UTF-8, or an allocation failed
+-- a certificate of this form, with `texts` and `states`, as JSON; or a text of the form is not UTF-8, or an allocation failed
 abbrev pub GivesMembers : Result Value Unwritten → Form → Texts → Data → Type 0
 GivesMembers (Ok v) form texts states = view v ≡ form_data form texts states
 GivesMembers (Err e) form texts states = FailsToWrite e (HasTexts form)
@@ -64,12 +64,12 @@ abbrev pub GivesCertificates : Result (Vec Value Global) Unwritten → List Cert
 GivesCertificates (Ok vs) cs = map view vs.items ≡ map certificate_data cs
 GivesCertificates (Err e) cs = FailsToWrite e (AllByRecursion AreTexts cs)
 
--- the file is compact, and is read back as these certificates if it isn't too long
+-- the file is compact, and is read back as `cs` if it isn't too long
 pub record IsWritten (bytes : List ℕ) (cs : List Certificate) : Type 0 where
   pub compact : bytes ≡ compact_text (file_data cs)
   pub reads_back : length bytes ≤ 16777216 → IsCertificatesFile bytes cs
 
--- the file of these certificates was written, or a text of one is not UTF-8, or an allocation failed
+-- the file of `cs` was written, or a text of one is not UTF-8, or an allocation failed
 abbrev pub Writes : Result (Vec ℕ Global) Unwritten → List Certificate → Type 0
 Writes (Ok bytes) cs = IsWritten bytes.items cs
 Writes (Err e) cs = FailsToWrite e (AllByRecursion AreTexts cs)

@@ -20,7 +20,7 @@ pub struct Checked {
     guarantees: Vec<Guarantee>,
 }
 
-/// Written out, so that a drop is one call.
+/// Not derived: a derived drop is expanded, and proved again, in each function that drops the value.
 impl Drop for Checked {
     fn drop(self) {
         let Checked {
@@ -62,7 +62,7 @@ pub fn admit(
 }
 
 impl Checked {
-    /// Shows what each `Checked` satisfies. Does nothing at run time.
+    /// Shows that the guarantees hold of the topology, and what routing needs of it. Does nothing at run time.
     pub fn ghost_holds(&self)
         ensures guarantees { AllHold self.now.topology self.now.guarantees }
         ensures topology { IsWellFormed self.now.topology }
@@ -76,7 +76,7 @@ impl Checked {
         &self.topology
     }
 
-    /// The guarantees, all of them, in order.
+    /// Returns all guarantees, in order.
     pub fn guarantees(&self) -> &[Guarantee]
         ensures { result.now ≡ self.now.guarantees }
     {

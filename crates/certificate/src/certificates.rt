@@ -19,7 +19,7 @@ pub struct Certificate {
     states: Vec<Vec<u64>>,
 }
 
-/// Written out, so that a drop is one call.
+/// Not derived: a derived drop is expanded, and proved again, in each function that drops the value.
 impl Drop for Certificate {
     fn drop(self) {
         let Certificate {
@@ -51,7 +51,7 @@ impl Model for Certificate {
 }
 
 impl Certificate {
-    /// Returns the certificate of these parts.
+    /// Returns a certificate with these parts. They are not checked.
     pub fn new(
         form: Form,
         exchange: Text,
@@ -93,7 +93,7 @@ impl Certificate {
         &self.exchange
     }
 
-    /// The mode of its guarantee, by name.
+    /// Returns the name of the mode of the certificate's guarantee.
     pub fn mode(&self) -> &Text
         ensures { result.now ≡ self.now.mode }
     {

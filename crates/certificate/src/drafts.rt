@@ -45,7 +45,7 @@ fn put_certificate(
     Ok(())
 }
 
-/// Returns the draft that begins with `begun` and has one certificate more.
+/// Returns the draft `begun` with `certificate` appended, or a refused draft.
 fn longer(alloc: Global, begun: Vec<u8>, certificate: &Certificate) -> Draft
     ensures { (cs : List Shown) → IsBegun begun.items cs → IsDraft result (cs ++ certificate.now ∷ []) }
 {

@@ -14,7 +14,7 @@ pub enum CertFault {
     Open { state: usize, word: Option<Text> },
     /// 3, for a `reaches`: the guarantee covers the state at index `state`, and messages are not sure to reach the queue.
     Missed { state: usize },
-    /// 4, for a `never`: the guarantee covers the state at index `state`, and it is not sure that no message comes to the queue.
+    /// 4, for a `never`: the guarantee covers the state at index `state`, and messages may reach the queue.
     Forbidden { state: usize },
     /// 5: it doesn't have the form that the guarantee needs.
     Form,

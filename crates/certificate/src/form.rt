@@ -38,14 +38,14 @@ fn is_of(guarantee: &Guarantee, certificate: &Certificate) -> bool
         && certificate.queue().as_bytes() == guarantee.queue().as_bytes()
 }
 
-/// Returns whether the texts are the same.
+/// Returns whether `text` and `other` are the same.
 fn is_same(text: &Text, other: &Text) -> bool
     ensures { result ≡ bytes_eq text.now other.now }
 {
     text.as_bytes() == other.as_bytes()
 }
 
-/// Returns whether the texts are the same, one by one.
+/// Returns whether `texts` and `others` are the same, by comparing them one by one.
 fn are_equal(texts: &[Text], others: &[Text]) -> bool
     ensures { result ≡ same_texts texts.now others.now }
 {
@@ -60,7 +60,7 @@ fn are_equal(texts: &[Text], others: &[Text]) -> bool
     true
 }
 
-/// Returns whether the texts are the same, in the same order.
+/// Returns whether `texts` and `others` are the same, in the same order.
 fn are_same(texts: &[Text], others: &[Text]) -> bool
     ensures { Decides result (texts.now ≡ others.now) }
 {
@@ -104,7 +104,7 @@ pub fn fits(patterns: &[Tracked], state: &[u64]) -> bool
     true
 }
 
-/// Returns whether each state fits the patterns in this way.
+/// Returns whether each of `states` fits the patterns, as [`fits`] checks it.
 fn all_fit(patterns: &[Tracked], states: &[Vec<u64>]) -> bool
     requires { AllByRecursion IsShort patterns.now }
     ensures { Decides result (AllByRecursion (FitsEach patterns.now) (states_of states.now)) }
@@ -117,7 +117,7 @@ fn all_fit(patterns: &[Tracked], states: &[Vec<u64>]) -> bool
     true
 }
 
-/// Returns whether no state is dropped, if `drops` says that states are.
+/// Returns whether none of `states` is dropped. If `drops` is clear, none is.
 fn none_dropped(drops: bool, states: &[Vec<u64>]) -> bool
     ensures { Decides result (AllByRecursion (λ s. IsPassedOver drops s → ⊥) (states_of states.now)) }
 {
@@ -129,7 +129,7 @@ fn none_dropped(drops: bool, states: &[Vec<u64>]) -> bool
     true
 }
 
-/// Returns whether the certificate has the form, as far as it can be seen without the tracked patterns.
+/// Returns whether the certificate fits the guarantee, as far as that can be seen without the tracked patterns.
 pub fn fits_guarantee(guarantee: &Guarantee, certificate: &Certificate) -> bool
     ensures { Decides result (FitsGuarantee guarantee.now certificate.now) }
 {

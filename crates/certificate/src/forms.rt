@@ -5,11 +5,11 @@ use model::Text;
 /// Which of the tracked patterns a certificate's states have numbers for.
 #[derive(Drop)]
 pub enum Form {
-    /// Form 1: all of them.
+    /// Form 1: all tracked patterns.
     Whole,
-    /// Form 2: those at these indices of their list.
+    /// Form 2: the tracked patterns at these indices.
     Sliced(Vec<u64>),
-    /// Form 3: those at the indices `places`, for a guarantee with these `excepts`.
+    /// Form 3: the tracked patterns at the indices `places`, for a guarantee with the `except` patterns `excepts`.
     Excepting {
         excepts: Vec<Text>,
         places: Vec<u64>,

@@ -25,7 +25,8 @@ mod writing;
 
 pub use admitted::{Checked, admit};
 pub use certificates::Certificate;
-pub use checking::check;
+pub use certified::deaths_for;
+pub use checking::{check, check_by};
 pub use covering::Covering;
 pub use drafts::Draft;
 pub use faults::CertFault;

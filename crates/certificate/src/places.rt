@@ -88,14 +88,14 @@ pub fn is_passed_over(drops: bool, state: &[u64]) -> bool
     drops && is_zero_first(state)
 }
 
-/// Returns whether each is less than `count`.
+/// Returns whether each of `places` is less than `count`.
 fn are_below(places: &[u64], count: usize) -> bool
     ensures { result ≡ list_all (λ i. nat_lt i count) places.now }
 {
     places.iter().all(|place| *place < count as u64)
 }
 
-/// Returns whether each is an index of a list of length `count`.
+/// Returns whether each of `places` is an index of a list of length `count`.
 fn are_within(places: &[u64], count: usize) -> bool
     ensures { Decides result (AllByRecursion (λ i. i < count) places.now) }
 {

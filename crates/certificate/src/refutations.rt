@@ -12,7 +12,7 @@ use paths::is_path;
 use std::alloc::{AllocError, Global};
 use std::marker::Model;
 
-/// Evidence that a guarantee fails: a routing key, and for a `never` the path by which a message with it comes to the queue.
+/// Evidence that a guarantee fails: a routing key, and for a `never` the path by which a message with it reaches the queue.
 #[derive(Drop)]
 pub struct Refutation {
     key: Text,
@@ -28,7 +28,7 @@ impl Model for Refutation {
 }
 
 impl Refutation {
-    /// Returns the refutation of these parts.
+    /// Returns a refutation with these parts. They are not checked.
     pub fn new(key: Text, path: Vec<Text>) -> Refutation
         ensures { result ≡ record { key = key; path = path.items } }
     {
@@ -42,7 +42,7 @@ impl Refutation {
         &self.key
     }
 
-    /// The path of names by which a message comes to the queue; empty for a `reaches`.
+    /// Returns the path of names by which a message reaches the queue; empty for a `reaches`.
     pub fn path(&self) -> &[Text]
         ensures { result.now ≡ self.now.path }
     {
@@ -123,7 +123,7 @@ pub fn refutes(
     breaks(alloc, topology, guarantee, refutation)
 }
 
-/// Returns whether the refutation is seen to show that the guarantee fails. Returns `false` if it doesn't, or if an allocation fails.
+/// Returns whether the refutation shows that the guarantee fails. Returns `false` also if an allocation fails.
 pub fn disprove(
     alloc: Global,
     topology: &Topology,

@@ -154,8 +154,7 @@ fn excepting_value(
     })
 }
 
-/// Returns a certificate of this form, with these texts and states, as JSON.
-/// Fails if a text of the form is not UTF-8, or if an allocation fails.
+/// Returns a certificate of form `form`, with `texts` and `states`, as JSON. Fails if a text of the form is not UTF-8, or if an allocation fails.
 fn value_of(
     alloc: Global,
     form: &Form,
@@ -204,9 +203,8 @@ fn certificate_values(alloc: Global, certificates: &[Certificate]) -> Result<Vec
 }
 
 impl Certificate {
-    /// Returns the file of these certificates, in order: compact, the members in the order of their names.
-    /// It is read back as the same certificates if it has at most 16,777,216 bytes. Fails if a text of a certificate is not UTF-8, or if an
-    /// allocation fails.
+    /// Returns the file of `certificates`, in order: compact, the members in the order of their names. It is read back as the same certificates if it has at
+    /// most 16,777,216 bytes. Fails if a text of a certificate is not UTF-8, or if an allocation fails.
     pub fn write(alloc: Global, certificates: &[Certificate]) -> Result<Vec<u8>, Unwritten>
         ensures { Writes result certificates.now }
     {

@@ -158,6 +158,10 @@ may_at g number k e = ap (λ (o : Option Consumer). has_tag_left g.next_tag && m
 pub taker_left : (g : Given) (number : ℕ) (r : Option Consumer) → has_tag_left g.next_tag ≡ true → r ≡ taker_among g.limit g.outstanding (consumer_at g number) → r ≡ taker_at g number
 taker_left g number r left e = e ∙ sym (ap (λ (b : Bool). if (b && may_of g.limit g.outstanding (consumer_at g number)) then consumer_at g number else None) left)
 
+-- where no tag is left none may
+pub none_left : (g : Given) (number : ℕ) → has_tag_left g.next_tag ≡ false → None ≡ taker_at g number
+none_left g number left = sym (ap (λ (b : Bool). if (b && may_of g.limit g.outstanding (consumer_at g number)) then consumer_at g number else None) left)
+
 pub is_one : (ch : Open) (number : ℕ) (k : Consumer) → AreNumbered ch.given.next_number ch.given.consumers → consumer_at ch.given number ≡ Some k → IsOne ch number k
 is_one ch number k rise e = let one = found ch.given.next_number number ch.given.consumers k rise e in record {
   numbered = one.numbered;

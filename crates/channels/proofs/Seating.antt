@@ -4,7 +4,7 @@ use Rattle.std.proofs.Common.{filter, Result, Ok, Err}
 use Rattle.std.specs.Prelude.{nat_le, ◌==◌, if◌then◌else◌}
 use Rattle.std.proofs.lemmas.Bool.{eq-eqb}
 use Rattle.model.specs.Broker as seen
-use Rattle.model.specs.Consuming.{is_tagged, is_in_use, server_tag, next_free, tag_for, name_after, is_tag_taken, is_tag_wanting, consumer_of}
+use Rattle.model.specs.Consuming.{without_consumer, is_tagged, is_in_use, server_tag, next_free, tag_for, name_after, is_tag_taken, is_tag_wanting, consumer_of}
 use Rattle.model.specs.Consuming as said
 use Rattle.model.specs.Step.{Refusal as Stands}
 use Rattle.model.specs.declared.methods.Consume.{Consume}
@@ -22,7 +22,7 @@ any_tagged names tag [] = refl
 any_tagged names tag (c ∷ cs) = ap (λ (b : Bool). is_named tag c || b) (any_tagged names tag cs)
 
 -- those of a tag are taken out there as they are here
-pub without_tagged : (names : List Text) (tag : Text) (cs : List Consumer)
+without_tagged : (names : List Text) (tag : Text) (cs : List Consumer)
     → map (consumer_in names) (filter (λ c. not (is_named tag c)) cs) ≡ filter (λ k. not (is_tagged tag k)) (map (consumer_in names) cs)
 without_tagged names tag [] = refl
 without_tagged names tag (c ∷ cs) = go (not (is_named tag c)) (without_tagged names tag cs)
@@ -36,6 +36,11 @@ without_tagged names tag (c ∷ cs) = go (not (is_named tag c)) (without_tagged 
     go : (b : Bool) → map (consumer_in names) left ≡ seen_left → map (consumer_in names) (cond b (c ∷ left) left) ≡ cond b (consumer_in names c ∷ seen_left) seen_left
     go true e = ap (λ (ks : List seen.Consumer). consumer_in names c ∷ ks) e
     go false e = e
+
+pub named_out : (names : List Text) (tag : Text) (old : Open) (cs : List Consumer) (seats : ℕ) → cs ≡ filter (λ c. not (is_named tag c)) old.given.consumers
+    → open_in names (record old { given = record old.given { consumers = cs; seats = seats } }) ≡ without_consumer (open_in names old) tag
+named_out names tag old cs seats e =
+    ap (λ (ks : List seen.Consumer). record (open_in names old) { consumers = ks }) (ap (map (consumer_in names)) e ∙ without_tagged names tag old.given.consumers)
 
 -- ---- the reason against one more consumer
 

@@ -13,7 +13,7 @@ channels_moved places channels = map (option_map (open_moved places)) channels
 abbrev pub running_moved : List ℕ → Running → Running
 running_moved places l = record l { channels = channels_moved places l.channels }
 
--- all connections, with the queues that their channels name at their new indices
+-- all connections, with the new indices of the queues that their channels name
 abbrev pub connections_moved : List ℕ → List (ℕ × Running) → List (ℕ × Running)
 connections_moved places connections = map (λ e. (e.0, running_moved places e.1)) connections
 

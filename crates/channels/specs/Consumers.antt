@@ -10,7 +10,7 @@ abbrev pub consumer_numbered : Option Open → ℕ → Option Consumer
 consumer_numbered None number = None
 consumer_numbered (Some ch) number = consumer_at ch.given number
 
--- The consumer with this number is one of channel h of the connection, and the only one with it.
+-- `k` is the consumer with this number of channel `h` of the connection, and the only one with it.
 pub record IsOneOn (l : Running) (h number : ℕ) (k : Consumer) : Type 0 where
   pub channel : Open
   pub there : channel_in l h ≡ Some channel
@@ -25,7 +25,7 @@ next_number (Some ch) = if ch.is_closing then None else Some ch.given.next_numbe
 abbrev pub AreBelow : Option Open → ℕ → Type 0
 AreBelow ch next = (number : ℕ) → IsSome (consumer_numbered ch number) → number < next
 
--- The consumer with this number on channel h of the connection can take a message now.
+-- `k` is the consumer with this number on channel `h` of the connection, and can take a message now.
 pub record MayTakeOn (l : Running) (h number : ℕ) (k : Consumer) : Type 0 where
   pub awake : l.is_paused ≡ false
   pub channel : Open

@@ -23,7 +23,7 @@ pub record ConsumerCounts : Type 0 where
 abbrev pub consumers_of : List CountedConsumer → List Consumer
 consumers_of seats = map (λ (s : CountedConsumer). s.consumer) seats
 
--- their counts
+-- the counts of the consumers
 abbrev pub counts_of : List CountedConsumer → List ℕ
 counts_of seats = map (λ (s : CountedConsumer). s.held) seats
 
@@ -55,7 +55,7 @@ counted_out gone s = record s { held = s.held - count_to taker_of s.consumer.num
 abbrev pub uncounted : Taker → CountedConsumer → CountedConsumer
 uncounted by s = if is_to s.consumer.number by then record s { held = s.held - 1 } else s
 
--- the consumer exists, and neither its own prefetch nor `limit`, the channel's, is used up
+-- the consumer exists, and needs no acknowledgement, or neither its own prefetch nor the channel's, `limit`, is used up
 abbrev pub may_held : ℕ → ℕ → Option CountedConsumer → Bool
 may_held limit given None = false
 may_held limit given (Some s) = s.consumer.no_ack || (is_below s.consumer.limit s.held && is_below limit given)
@@ -65,17 +65,17 @@ abbrev pub taker_held : ℕ → ℕ → Option CountedConsumer → Option Consum
 taker_held limit given None = None
 taker_held limit given (Some s) = if may_held limit given (Some s) then Some s.consumer else None
 
--- The counts are those of the unacknowledged deliveries.
+-- The counts are right for the unacknowledged deliveries `outstanding`.
 pub record CountsAgree (s : ConsumerCounts) (outstanding : List Delivery) : Type 0 where
   pub each : s.held ≡ map (λ (c : Consumer). count_to taker_of c.number outstanding) s.consumers
   pub all : s.given ≡ count_given taker_of outstanding
 
--- their numbers ascend, and each is below the next one
+-- the consumers' numbers ascend, and each is below `next`
 abbrev pub AreNumbered : ℕ → List Consumer → Type 0
 AreNumbered next [] = Unit {0}
 AreNumbered next (c ∷ cs) = (c.number < next) × (AllByRecursion (λ (d : Consumer). c.number < d.number) cs × AreNumbered next cs)
 
--- their numbers ascend
+-- the consumers' numbers ascend
 abbrev pub NumbersRise : List Consumer → Type 0
 NumbersRise cs = (next : ℕ) × AreNumbered next cs
 
@@ -84,15 +84,15 @@ pub record IsConsumerAt (seats : List CountedConsumer) (number place : ℕ) : Ty
   pub within : place < length seats
   pub numbered : (d : CountedConsumer) → (slice_index_or seats place d).consumer.number ≡ number
 
--- the number of the consumer to which something was given; 0 for a get (own)
+-- the number of the consumer to which a message was given; 0 for a get (own)
 abbrev pub number_given : Taker → ℕ
 number_given Get = 0
 number_given (To_consumer number) = number
 
--- none of these was given to a consumer with a number above `most`
+-- no delivery of `given` went to a consumer with a number above `most`
 abbrev pub NoneAbove : ℕ → List Delivery → Type 0
 NoneAbove most given = (number : ℕ) → most < number → count_to taker_of number given ≡ 0
 
--- the unacknowledged deliveries are those that are gone and those that are left: of each kind there are as many in both as there were
+-- the deliveries `outstanding` are `gone` and `left` together: for each property `p`, the two have as many with it as `outstanding`
 abbrev pub AreParts : List Delivery → List Delivery → List Delivery → Type 0
 AreParts outstanding gone left = (p : Delivery → Bool) → count_by p outstanding ≡ count_by p gone + count_by p left

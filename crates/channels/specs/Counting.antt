@@ -8,24 +8,24 @@ use Rattle.channels.specs.Open.{Open, consumers_from}
 use Rattle.channels.specs.declared.consumers.Consumer.{Consumer}
 use Rattle.channels.specs.RunningConnections.{Running, channel_of}
 
--- how many consumers of a channel take from the queue at this index; 0 if it is not open
+-- how many consumers of a channel take from the queue at this index; 0 if the channel is not open
 abbrev pub consumers_at : ℕ → Option Open → ℕ
 consumers_at queue None = 0
 consumers_at queue (Some ch) = consumers_from queue ch
 
--- how many on all channels of a connection do
+-- how many consumers on all channels of a connection take from the queue at index `queue`
 abbrev pub consumers_counted : ℕ → Running → ℕ
 consumers_counted queue l = sum_by (consumers_at queue) l.channels
 
--- This many consumers on all channels together take from the queue at this index, at most 2^64 - 1.
+-- `count` is the number of consumers on all channels together that take from the queue at index `queue`, at most 2^64 - 1.
 pub record CountsConsumers (connections : List (ℕ × Running)) (queue count : ℕ) : Type 0 where
-  -- every open channel is among these, which are distinct
+  -- a list of distinct channels that has every open one
   pub channels : List ChannelName
   pub all : (c h : ℕ) (ch : Open) → channel_of connections c h ≡ Some ch → IsIn (record { connection = c; number = h }) channels
   pub apart : AllPairs (λ (x y : ChannelName). x ≡ y → ⊥) channels
   pub counted : count ≡ min (sum_by (λ (x : ChannelName). consumers_at queue (channel_of connections x.connection x.number)) channels) greatest
 
--- how many consumers of all connections do
+-- how many consumers of all connections take from the queue at index `queue`
 abbrev pub all_consumers : List (ℕ × Running) → ℕ → ℕ
 all_consumers connections queue = sum_by (consumers_counted queue) (values_of connections)
 

@@ -24,7 +24,7 @@ pub record Given : Type 0 where
   pub next_number : ℕ
   -- the number of the next consumer tag that the server makes
   pub next_name : ℕ
-  -- the prefetch of consumers that are made later, and that of all of them together; 0 is no limit (RabbitMQ, "Consumer Prefetch")
+  -- the prefetch of each consumer that is made later, and that of all consumers together; 0 is no limit (RabbitMQ, "Consumer Prefetch")
   pub each_limit : ℕ
   pub limit : ℕ
   pub consumers : List Consumer
@@ -94,30 +94,30 @@ pub record MaySeat (g : Given) (name : Text) : Type 0 where
   pub few : length g.consumers < 256
   pub left : g.next_number < greatest
 
--- the first reason against it, in this order, or `None` if there is none
+-- the first reason against a consumer with the tag `name`, in this order, or `None` if there is none
 abbrev pub JudgesNamed : Given → Text → Option ConsumerRefusal → Type 0
 JudgesNamed g name None = MaySeat g name
 JudgesNamed g name (Some InUse) = list_any (is_named name) g.consumers ≡ true
 JudgesNamed g name (Some TooMany) = (list_any (is_named name) g.consumers ≡ false) × (256 ≤ length g.consumers)
 JudgesNamed g name (Some Spent) = (list_any (is_named name) g.consumers ≡ false) × ((length g.consumers < 256) × (g.next_number ≡ greatest))
 
--- a consumer was made; there is spare capacity for at most one fewer now
+-- a consumer was made, and the spare capacity for further ones is at most one less
 abbrev pub AddsConsumer : Given → Text → ℕ → Bool → Given → Type 0
 AddsConsumer old name queue no_ack new = (new ≡ with_consumer_added old name queue no_ack new.seats) × (old.seats ≤ new.seats + 1)
 
--- why a consumer without a tag of its own is refused, in this order: there are 256; the numbers or the server's tags are used up
+-- why a consumer without a tag of its own is refused, in this order: the channel has 256 consumers; the numbers or the server's tags are used up
 abbrev pub RefusesUnnamed : Given → ConsumerRefusal → Type 0
 RefusesUnnamed g InUse = ⊥
 RefusesUnnamed g TooMany = 256 ≤ length g.consumers
 RefusesUnnamed g Spent = (length g.consumers < 256) × ((g.next_number ≡ greatest) ⊎ AreNamesSpent g.consumers g.next_name)
 
--- the next tag for a consumer without one of its own, which can be made; or why it can't be
+-- the next tag for a consumer without a tag of its own, if one can be made; otherwise why it can't
 abbrev pub NamesUnnamed : Given → Result Name ConsumerRefusal → Type 0
 NamesUnnamed g (Ok name) =
     (length g.consumers < 256) × ((g.next_number < greatest) × (IsNextName g.consumers g.next_name name.number × (name.tag.bytes ≡ server_name name.number)))
 NamesUnnamed g (Err refusal) = RefusesUnnamed g refusal
 
--- the first reason against a consumer without a tag of its own, or `None` if a tag is left and there is none
+-- the first reason against a consumer without a tag of its own, or `None` if there is none
 abbrev pub JudgesUnnamed : Given → Option ConsumerRefusal → Type 0
 JudgesUnnamed g None = (length g.consumers < 256) × ((g.next_number < greatest) × ((n : ℕ) × IsNextName g.consumers g.next_name n))
 JudgesUnnamed g (Some refusal) = RefusesUnnamed g refusal
@@ -129,7 +129,7 @@ pub record IsMadeUnder (old : Given) (queue : ℕ) (no_ack : Bool) (tag : Text) 
   pub made : new ≡ record (with_consumer_added old (server_name n) queue no_ack new.seats) { next_name = n + 1 }
 
 -- what each result of making a consumer without a tag of its own means: it was made with the next free tag, which is returned; or it was
--- refused; or an allocation failed, and there is no reason against it. If none was made nothing changed.
+-- refused; or an allocation failed, and there was no reason to refuse it. If no consumer was made, nothing changed.
 abbrev pub ConsumesUnnamed : Given → ℕ → Bool → Result Text ConsumeError → Given → Type 0
 ConsumesUnnamed old queue no_ack (Ok tag) new =
     (length old.consumers < 256) × ((old.next_number < greatest) × ((old.seats ≤ new.seats + 1) × ((n : ℕ) × IsMadeUnder old queue no_ack tag new n)))

@@ -7,15 +7,15 @@ use Rattle.channels.specs.RunningConnections.{Running, channel_of, with_channel_
 use Rattle.channels.specs.contracts.running.RunningConnection.{the_row as connection_row}
 use Rattle.channels.specs.contracts.connections.RunningConnections.{the_row as connections_row}
 
--- a connection ends with the channel as it was written last
+-- when the borrow `r` ends, channel `h` of the connection is what was last written to it
 abbrev pub LendsChannelIn : MutBor Running → ℕ → Option (MutBor Open) → Fml
 LendsChannelIn l h r = LendsIf connection_row channel_row l r (with_channel_in l.now h) l.now
 
--- all connections end with this one as it was written last
+-- when the borrow `r` ends, connection `c` is what was last written to it, and the others are unchanged
 abbrev pub LendsConnection : MutBor (List (ℕ × Running)) → ℕ → Option (MutBor Running) → Fml
 LendsConnection ls c r = LendsSo connections_row connection_row ls r (λ n w. n ≡ with_running ls.now c w) (λ n. n ≡ ls.now)
 
--- all connections end with this channel as it was written last
+-- when the borrow `r` ends, channel `h` of connection `c` is what was last written to it, and all others are unchanged
 abbrev pub LendsChannel : MutBor (List (ℕ × Running)) → ℕ → ℕ → Option (MutBor Open) → Fml
 LendsChannel ls c h r = LendsSo connections_row channel_row ls r (λ n w. n ≡ with_channel ls.now c h w) (λ n. n ≡ ls.now)
 

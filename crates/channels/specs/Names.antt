@@ -19,7 +19,7 @@ pub record IsNextName (consumers : List Consumer) (from n : ℕ) : Type 0 where
   pub free : list_any (is_named (server_name n)) consumers ≡ false
   pub before : (k : ℕ) → from ≤ k → k < n → list_any (is_named (server_name k)) consumers ≡ true
 
--- Consumers have the tags of all numbers at or after `from`.
+-- Consumers have the tags of all numbers from `from` to 2^64 - 2.
 pub record AreNamesSpent (consumers : List Consumer) (from : ℕ) : Type 0 where
   pub within : from ≤ greatest
   pub used : (k : ℕ) → from ≤ k → k < greatest → list_any (is_named (server_name k)) consumers ≡ true

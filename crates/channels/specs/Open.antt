@@ -32,31 +32,31 @@ pub record Open : Type 0 where
 abbrev pub with_qos : Open → Qos → Open
 with_qos ch m = record ch { given = with_limit ch.given m.prefetch_count m.global }
 
--- a message of the queue at this index was given out under the next tag, and waits to be settled (AMQP 0-9-1, basic.get-ok)
+-- a message of the queue at this index was given out under the next tag, and is unacknowledged (AMQP 0-9-1, basic.get-ok)
 abbrev pub given_on : Open → ℕ → ℕ → Taker → Open
 given_on ch queue arrival by = record ch { given = with_given ch.given queue arrival by (ch.given.room - 1) }
 
--- the same for a message that needs no acknowledgement
+-- a message that needs no acknowledgement was given out under the next tag
 abbrev pub settled_on : Open → Open
 settled_on ch = record ch { given = record ch.given { next_tag = ch.given.next_tag + 1 } }
 
--- the channel without what this tag settles, with this spare capacity (AMQP 0-9-1, basic.ack)
+-- the channel without the deliveries that `tag` settles, with spare capacity `room` (AMQP 0-9-1, basic.ack)
 abbrev pub without_settled : Open → ℕ → Bool → ℕ → Open
 without_settled ch tag multiple room = record ch { given = record ch.given { outstanding = kept tag_of tag multiple ch.given.outstanding; room = room } }
 
--- the channel without the consumers with this tag, with this spare capacity (AMQP 0-9-1, basic.cancel)
+-- the channel without the consumers with the tag `tag`, with spare capacity `seats` for consumers (AMQP 0-9-1, basic.cancel)
 abbrev pub without_named : Open → Text → ℕ → Open
 without_named ch tag seats = record ch { given = record ch.given { consumers = filter (λ c. not (is_named tag c)) ch.given.consumers; seats = seats } }
 
--- how many of its consumers take from the queue at this index
+-- how many of the channel's consumers take from the queue at index `queue`
 abbrev pub consumers_from : ℕ → Open → ℕ
 consumers_from queue ch = count_by (takes_from queue) ch.given.consumers
 
--- a consumer as the model has it, if queues have these names
+-- the consumer `c` as the model has it; `names` are the names of the queues, by index
 abbrev pub consumer_in : List Text → Consumer → seen.Consumer
 consumer_in names c = record { number = c.number; tag = c.tag; queue = slice_index_or names c.queue []; no_ack = c.no_ack; limit = c.limit }
 
--- the channel as the model has it, if queues have these names
+-- the channel as the model has it, if queues have these names, by index
 abbrev pub open_in : List Text → Open → seen.Channel
 open_in names ch = record {
   confirm = ch.confirm;
@@ -76,16 +76,16 @@ places_of consumers = map (λ (c : Consumer). c.queue) consumers
 
 -- A consumer of the queue at this index was made with this tag (AMQP 0-9-1, basic.consume).
 pub record IsConsumerSeated (old : Open) (queue : ℕ) (m : Consume) (tag : Text) (new : Open) : Type 0 where
-  -- there was no reason against it
+  -- there was no reason to refuse the consumer
   pub free : (names : List Text) → refusal_of_consumer (open_in names old) m ≡ None
   pub named : (names : List Text) → tag ≡ tag_for (open_in names old) m.consumer_tag
-  -- the model's channel has it, if the queue at this index has the name that the consume gives
+  -- the model's channel has the consumer, if the queue at this index has the name that the consume gives
   pub made : (names : List Text) → slice_index_or names queue [] ≡ m.queue → open_in names new ≡ with_consumer (open_in names old) m
-  -- the deliveries stay, and so do the queues of the other consumers
+  -- the deliveries are unchanged, and so are the queues of the other consumers
   pub outstanding : new.given.outstanding ≡ old.given.outstanding
   pub places : places_of new.given.consumers ≡ places_of old.given.consumers ++ queue ∷ []
 
--- the refusal, as the model has it
+-- the refusal of a consumer as the model has it: its reply code, which closes the connection
 abbrev pub consumer_refusal : ConsumerRefusal → Refusal
 consumer_refusal InUse = Of_connection 530
 consumer_refusal TooMany = Of_connection 506
@@ -102,16 +102,16 @@ SeatsConsumer old queue m (Ok tag) new = IsConsumerSeated old queue m tag new
 SeatsConsumer old queue m (Err (Refused refusal)) new = JudgesConsumer old m (Some refusal) × (new ≡ old)
 SeatsConsumer old queue m (Err Memory) new = JudgesConsumer old m None × (new ≡ old)
 
--- The consumer with this number is the channel's, the only one with it, and may be given one more message.
+-- `k` is the channel's only consumer with this number, and may be given one more message.
 pub record IsTaker (ch : Open) (number : ℕ) (k : Consumer) : Type 0 where
   pub numbered : k.number ≡ number
   pub seat : IsIn k ch.given.consumers
-  -- the model's channel has it, if queues have these names
+  -- the model's channel has `k`, if the queues have these names
   pub its : (names : List Text) → IsIn (consumer_in names k) (open_in names ch).consumers
   pub only : (names : List Text) (other : seen.Consumer) → IsIn other (open_in names ch).consumers → other.number ≡ number → other ≡ consumer_in names k
   pub may : (names : List Text) → may_take (open_in names ch) (consumer_in names k) ≡ true
 
--- The consumer with this number is the channel's, and the only one with it.
+-- `k` is the channel's only consumer with this number.
 pub record IsOne (ch : Open) (number : ℕ) (k : Consumer) : Type 0 where
   pub numbered : k.number ≡ number
   pub seat : IsIn k ch.given.consumers

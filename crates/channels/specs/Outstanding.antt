@@ -39,7 +39,7 @@ pub record AreInOrder (last : ℕ) (places : List Delivery) : Type 0 where
   pub rises : Rises given_tag places
   pub most : (k : ℕ) (d : Delivery) → k < length places → given_tag (get_or places k d) ≤ last
 
--- The entries behind `front` are in order, and `count` of them wait; at most as many entries as wait, and 32, are of settled deliveries.
+-- The entries from index `front` on are in order, and `count` of them are unacknowledged. At most `count + 32` of all entries are settled.
 pub record AreKept (places : List Delivery) (front count last : ℕ) : Type 0 where
   pub within : front ≤ length places
   pub order : AreInOrder last (drop front places)

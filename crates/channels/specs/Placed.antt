@@ -1,4 +1,4 @@
--- Unacknowledged deliveries are from queues that exist, and consumers take from such.
+-- Unacknowledged deliveries are from queues that exist, and consumers take from queues that exist.
 use Rattle.std.specs.Prelude.{◌<◌, List, length, All}
 use Rattle.model.specs.Topology.{Topology}
 use Rattle.channels.specs.Open.{Open}
@@ -9,7 +9,7 @@ use Rattle.channels.specs.declared.consumers.Consumer.{Consumer}
 abbrev pub TakeWithin : Topology → List Consumer → Type 0
 TakeWithin t consumers = All (λ (k : Consumer). k.queue < length t.queues) consumers
 
--- The channel's unacknowledged deliveries are from queues that exist, and its consumers take from such.
+-- The channel's unacknowledged deliveries are from queues that exist, and its consumers take from queues that exist.
 pub record IsPlaced (t : Topology) (ch : Open) : Type 0 where
   pub outstanding : AreWithin t ch.given.outstanding
   pub consumers : TakeWithin t ch.given.consumers

@@ -17,7 +17,7 @@ pub record Running : Type 0 where
 abbrev pub channel_in : Running → ℕ → Option Open
 channel_in l h = slice_index_or l.channels h None
 
--- the same as the model has it, if queues have these names, by index
+-- the open channel with this number as the model has it, if queues have these names, by index
 abbrev pub channel_seen : List Text → Running → ℕ → Option Channel
 channel_seen names l h = option_map (open_in names) (channel_in l h)
 
@@ -29,7 +29,7 @@ running_in connections c = lookup (nat_eq c) connections
 abbrev pub limits_of : Running → Connection
 limits_of l = record { channel_max = l.channel_max; is_paused = l.is_paused }
 
--- a running connection as the model has it: with its limits only, since its channels are apart
+-- a running connection as the model has it: only its limits, since the model keeps channels separately
 abbrev pub connection_at : Option Running → Option Connection
 connection_at None = None
 connection_at (Some l) = Some (limits_of l)
@@ -43,23 +43,23 @@ channel_at (Some l) h = channel_in l h
 abbrev pub connection_of : List (ℕ × Running) → ℕ → Option Connection
 connection_of connections c = connection_at (running_in connections c)
 
--- their channels
+-- the open channel `h` of connection `c`
 abbrev pub channel_of : List (ℕ × Running) → ℕ → ℕ → Option Open
 channel_of connections c h = channel_at (running_in connections c) h
 
--- their channels as the model has them
+-- the open channel `h` of connection `c` as the model has it, if queues have these names, by index
 abbrev pub seen_in : List Text → List (ℕ × Running) → ℕ → ℕ → Option Channel
 seen_in names connections c h = option_map (open_in names) (channel_of connections c h)
 
--- the connection with this channel at a number at which one was open
+-- the connection with `ch` in place of its open channel `h`
 abbrev pub with_channel_in : Running → ℕ → Open → Running
 with_channel_in l h ch = record l { channels = slice_set l.channels h (Some ch) }
 
--- the connections with this one in place of the one with the same number
+-- the connections with `l` in place of connection `c`
 abbrev pub with_running : List (ℕ × Running) → ℕ → Running → List (ℕ × Running)
 with_running connections c l = set_value (nat_eq c) connections l
 
--- the connections with this channel in a connection, if that is running
+-- `connections` with `ch` as channel `h` of connection `c`, if that is running; otherwise unchanged
 abbrev pub with_channel_at : List (ℕ × Running) → ℕ → ℕ → Option Running → Open → List (ℕ × Running)
 with_channel_at connections c h None ch = connections
 with_channel_at connections c h (Some l) ch = with_running connections c (with_channel_in l h ch)
@@ -72,7 +72,7 @@ with_channel connections c h ch = with_channel_at connections c h (running_in co
 abbrev pub IsChannelSet : List (Option Open) → ℕ → Option Open → List (Option Open) → Type 0
 IsChannelSet old h ch new = (k : ℕ) → slice_index_or new k None ≡ with_one (λ (i : ℕ). slice_index_or old i None) h ch k
 
--- the same for the channels of a connection, of which nothing else changes
+-- channel `h` of the connection is `ch` now, and nothing else of the connection changed
 pub record PutsIn (old : Running) (h : ℕ) (ch : Option Open) (new : Running) : Type 0 where
   pub max : new.channel_max ≡ old.channel_max
   pub pause : new.is_paused ≡ old.is_paused
@@ -97,7 +97,7 @@ pub record HoldsConnections (new : List (ℕ × Running)) (connections : ℕ →
   pub connections_are : (d : ℕ) → connection_of new d ≡ connections d
   pub channels_are : (d k : ℕ) → channel_of new d k ≡ channels d k
 
--- Connection c is running now, with this channel-max, and its channels 1 to k are open and new.
+-- Connection `c` is running now, with channel-max `max`, and its channels 1 to `k` are open and new. All others are unchanged.
 pub record OpensConnection (old : List (ℕ × Running)) (c max k : ℕ) (new : List (ℕ × Running)) : Type 0 where
   pub connections_are : (d : ℕ) → connection_of new d ≡ with_one (connection_of old) c (Some (record { channel_max = max; is_paused = false })) d
   pub channels_are : (names : List Text) (d h : ℕ) → seen_in names new d h ≡ with_row (seen_in names old) c (channels_up_to k) d h

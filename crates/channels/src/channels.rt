@@ -1,7 +1,7 @@
-//! An open channel.
+//! An open channel: its confirm numbers, its delivery tags, its unacknowledged deliveries, and its consumers with their limits.
 
 ghost use Rattle.std.specs.Prelude.{◌≡◌, ◌+◌, ◌*◌, ◌<◌, ◌≤◌, List, length, None, Some, true, false, IfSome, OnOk, OnErr, option_map, nat_lt};
-ghost use Rattle.model.specs.Words.{Text as Name};
+ghost use Rattle.model.specs.Words.{Text as Word};
 ghost use Rattle.model.specs.Consuming.{is_in_use, without_consumer};
 ghost use Rattle.model.specs.Step.{started, next_of, is_spent};
 ghost use Rattle.model.specs.Prefetch.{has_tag_left};
@@ -9,16 +9,20 @@ ghost use Rattle.model.specs.Settling.{settled};
 ghost use Rattle.model.specs.Placed.{waiting};
 ghost use Rattle.channels.specs.Spans.{settled_by, TellsSpan};
 ghost use Rattle.channels.specs.Deliveries.{nothing_given, may_be_given, consumer_at};
+ghost use Rattle.channels.specs.Deliveries.{AddsConsumer, ConsumesUnnamed, JudgesNamed, JudgesUnnamed, MaySeat, NamesUnnamed};
 ghost use Rattle.channels.specs.Open.{with_qos, given_on, settled_on, without_settled, without_named, consumers_from, open_in};
 ghost use Rattle.channels.specs.Open.{JudgesConsumer, SeatsConsumer, IsOne, TellsTaker};
 ghost use Rattle.channels.specs.Consumers.{AreBelow};
 ghost use Rattle.channels.specs.Moving.{open_moved};
 ghost use Rattle.channels.specs.Outstanding.{tag_of};
 
-use crate::consumers::{ConsumeError, Consumer, ConsumerRefusal};
-use crate::deliveries::Deliveries;
+use crate::consumers::{ConsumeError, Consumer, ConsumerRefusal, held_by, number_of};
+use crate::counted_consumers::CountedConsumers;
+use crate::names::{Name, next_name};
+use crate::pending::Unsettled;
 use crate::settled::Settled;
 use crate::spans::Span;
+use crate::tags::count_waiting;
 use laws::next_tags_are_found;
 use model::{Consume, Delivery, Qos, Taker, Text};
 use std::alloc::{AllocError, Global};
@@ -31,15 +35,42 @@ pub struct Channel {
     confirm: Option<u64>,
     /// Whether a close was sent, and close-ok is awaited.
     is_closing: bool,
-    deliveries: Deliveries,
+    pending: Unsettled,
+    seats: CountedConsumers,
+    next_tag: u64,
+    next_number: u64,
+    /// The greatest number among the consumers that were given a message; 0 before the first.
+    most_given: u64,
+    next_name: u64,
+    each_limit: u16,
+    limit: u16,
 }
 
 impl Model for Channel {
+    ghost use Rattle.std.specs.Prelude.{◌<◌};
+    ghost use Rattle.channels.specs.CountedConsumers.{CountsAgree, AreNumbered, NoneAbove};
     ghost use Rattle.channels.specs.Open.{Open};
 
     ghost Value = { Open };
 
-    ghost view = { λ c. record { confirm = c.confirm; is_closing = c.is_closing; given = c.deliveries } };
+    ghost view = { λ c. record {
+      confirm = c.confirm;
+      is_closing = c.is_closing;
+      given = record {
+        next_tag = c.next_tag;
+        next_number = c.next_number;
+        next_name = c.next_name;
+        each_limit = c.each_limit;
+        limit = c.limit;
+        consumers = c.seats.consumers;
+        outstanding = c.pending.outstanding;
+        room = c.pending.room;
+        seats = c.seats.room;
+      };
+    } };
+
+    ghost invariant = { λ c. (c.pending.last < c.next_tag) × CountsAgree c.seats c.pending.outstanding
+        × AreNumbered c.next_number c.seats.consumers × NoneAbove c.most_given c.pending.outstanding };
 }
 
 impl Channel {
@@ -47,11 +78,7 @@ impl Channel {
     pub fn new(alloc: Global) -> Channel
         ensures { result ≡ record { confirm = None; is_closing = false; given = nothing_given 0 0 } }
     {
-        Channel {
-            confirm: None,
-            is_closing: false,
-            deliveries: Deliveries::new(alloc),
-        }
+        Channel::with_nothing(alloc, false)
     }
 
     /// Makes a channel on which a close was sent, and which ignores all but a close and close-ok. Never
@@ -59,10 +86,24 @@ impl Channel {
     pub fn closing(alloc: Global) -> Channel
         ensures { result ≡ record { confirm = None; is_closing = true; given = nothing_given 0 0 } }
     {
+        Channel::with_nothing(alloc, true)
+    }
+
+    /// Makes a channel without deliveries and consumers. Never allocates.
+    fn with_nothing(alloc: Global, is_closing: bool) -> Channel
+        ensures { result ≡ record { confirm = None; is_closing = is_closing; given = nothing_given 0 0 } }
+    {
         Channel {
             confirm: None,
-            is_closing: true,
-            deliveries: Deliveries::new(alloc),
+            is_closing,
+            pending: Unsettled::new(alloc),
+            seats: CountedConsumers::new(alloc),
+            next_tag: 1,
+            next_number: 1,
+            most_given: 0,
+            next_name: 1,
+            each_limit: 0,
+            limit: 0,
         }
     }
 
@@ -108,12 +149,16 @@ impl Channel {
         self.confirm = self.next_confirm();
     }
 
-    /// Sets the prefetch of all its consumers together, or of each that is made later. Source: AMQP 0-9-1,
-    /// basic.qos; RabbitMQ, "Consumer Prefetch".
+    /// Sets the prefetch that `qos` asks for: of all the channel's consumers together if it is global, otherwise of each consumer that is made
+    /// later. Source: AMQP 0-9-1, basic.qos; RabbitMQ, "Consumer Prefetch".
     pub fn limit(&mut self, qos: &Qos)
         ensures { self.new ≡ with_qos self.old qos.now }
     {
-        self.deliveries.limit(qos.prefetch_count, qos.global);
+        if qos.global {
+            self.limit = qos.prefetch_count;
+        } else {
+            self.each_limit = qos.prefetch_count;
+        }
     }
 
     /// Returns the first reason against the consumer that `consume` asks for: its tag is in use on the channel (530), the channel has 256 consumers
@@ -124,9 +169,53 @@ impl Channel {
     {
         if consume.consumer_tag.len() == 0 {
             next_tags_are_found();
-            return self.deliveries.refusal_unnamed();
+            return self.refusal_unnamed();
         }
-        self.deliveries.refusal(consume.consumer_tag.as_bytes())
+        self.refusal_named(consume.consumer_tag.as_bytes())
+    }
+
+    /// Returns the first reason against a consumer with this tag. Never allocates.
+    fn refusal_named(&self, tag: &[u8]) -> Option<ConsumerRefusal>
+        ensures { JudgesNamed self.now.given tag.now result }
+    {
+        if self.seats.has(tag) {
+            return Some(ConsumerRefusal::InUse);
+        }
+        if self.seats.len() >= 256 {
+            return Some(ConsumerRefusal::TooMany);
+        }
+        if self.next_number == u64::MAX {
+            return Some(ConsumerRefusal::Spent);
+        }
+        None
+    }
+
+    /// Returns the next tag for a consumer without one of its own: `amq.ctag-N`, with N counted from 1 on the channel, past those in use. Refused
+    /// if the channel has 256 consumers (506), or if the numbers or the tags are used up (541), in this order.
+    /// Never allocates.
+    fn next_unnamed(&self) -> Result<Name, ConsumerRefusal>
+        ensures { NamesUnnamed self.now.given result }
+    {
+        if self.seats.len() >= 256 {
+            return Err(ConsumerRefusal::TooMany);
+        }
+        if self.next_number == u64::MAX {
+            return Err(ConsumerRefusal::Spent);
+        }
+        match next_name(&self.seats, self.next_name) {
+            Some(name) => Ok(name),
+            None => Err(ConsumerRefusal::Spent),
+        }
+    }
+
+    /// Returns the first reason to refuse a consumer without a tag of its own, or `None` if there is none. Never allocates.
+    fn refusal_unnamed(&self) -> Option<ConsumerRefusal>
+        ensures { JudgesUnnamed self.now.given result }
+    {
+        match self.next_unnamed() {
+            Ok(_) => None,
+            Err(refusal) => Some(refusal),
+        }
     }
 
     /// Makes a consumer of the queue at index `queue`, and returns its tag: the one that `consume` gives, or else one of the server's. Refused as
@@ -143,16 +232,57 @@ impl Channel {
     {
         if consume.consumer_tag.len() == 0 {
             next_tags_are_found();
-            return self
-                .deliveries
-                .consume_unnamed(alloc, queue, consume.no_ack);
+            return self.consume_unnamed(alloc, queue, consume.no_ack);
         }
-        if let Some(refusal) = self.deliveries.refusal(consume.consumer_tag.as_bytes()) {
+        if let Some(refusal) = self.refusal_named(consume.consumer_tag.as_bytes()) {
             return Err(ConsumeError::Refused(refusal));
         }
         let tag = consume.consumer_tag.clone()?;
-        self.deliveries
-            .consume(consume.consumer_tag.clone()?, queue, consume.no_ack)?;
+        self.add_consumer(consume.consumer_tag.clone()?, queue, consume.no_ack)?;
+        Ok(tag)
+    }
+
+    /// Makes a consumer with this tag, which is not refused. Fails only if there is no spare capacity and the allocation fails; nothing has
+    /// changed then.
+    fn add_consumer(&mut self, tag: Text, queue: usize, no_ack: bool) -> Result<(), AllocError>
+        requires { MaySeat self.old.given tag }
+        ensures same { self.new ≡ record self.old { given = self.new.given } }
+        ensures ok { OnOk result (AddsConsumer self.old.given tag queue no_ack self.new.given) }
+        ensures full { OnErr result (self.old.given.seats ≡ 0) }
+        ensures err { OnErr result (self.new ≡ self.old) }
+    {
+        let number = self.next_number;
+        if self.seats.reserve().is_err() {
+            return Err(AllocError);
+        }
+        let consumer = Consumer {
+            number,
+            tag,
+            queue,
+            no_ack,
+            limit: self.each_limit,
+        };
+        let held = held_by(self.pending.all(), self.most_given, number);
+        self.seats.push(consumer, held);
+        self.next_number = number + 1;
+        Ok(())
+    }
+
+    /// Makes a consumer with the server's next tag, which is returned. Fails if the consumer is refused or an allocation fails; nothing has
+    /// changed then.
+    fn consume_unnamed(
+        &mut self,
+        alloc: Global,
+        queue: usize,
+        no_ack: bool,
+    ) -> Result<Text, ConsumeError>
+        ensures same { self.new ≡ record self.old { given = self.new.given } }
+        ensures consumes { ConsumesUnnamed self.old.given queue no_ack result self.new.given }
+    {
+        let name = self.next_unnamed()?;
+        let tag = Text::from_slice(alloc, name.tag.as_bytes())?;
+        self.add_consumer(tag.clone()?, queue, no_ack)?;
+        self.next_name = name.number + 1;
         Ok(tag)
     }
 
@@ -160,9 +290,9 @@ impl Channel {
     /// AMQP 0-9-1, basic.cancel.
     pub fn cancel(&mut self, tag: &[u8])
         ensures whole { self.new ≡ without_named self.old tag.now self.new.given.seats }
-        ensures seen { (names : List Name) → open_in names self.new ≡ without_consumer (open_in names self.old) tag.now }
+        ensures seen { (names : List Word) → open_in names self.new ≡ without_consumer (open_in names self.old) tag.now }
     {
-        self.deliveries.cancel(tag);
+        self.seats.remove_by_tag(tag);
     }
 
     /// Returns the number of the next consumer. No consumer had it yet, and each has a smaller one.
@@ -170,7 +300,7 @@ impl Channel {
         ensures next { result ≡ self.now.given.next_number }
         ensures above { AreBelow (Some self.now) result }
     {
-        self.deliveries.next_number()
+        self.next_number
     }
 
     /// Returns the consumer with this number if it is the channel's and can take a message now: a delivery tag is left, and neither its prefetch nor
@@ -178,7 +308,11 @@ impl Channel {
     pub fn taker(&self, number: u64) -> Option<&Consumer>
         ensures { TellsTaker self.now number (option_map (λ k. k.now) result) }
     {
-        self.deliveries.taker(number)
+        let found = self.seats.taker(number, self.limit);
+        if !self.has_tag_left() {
+            return None;
+        }
+        found
     }
 
     /// Returns whether the consumer with this number is the channel's and can take a message now: a delivery tag is left, and neither its prefetch
@@ -186,7 +320,7 @@ impl Channel {
     pub fn may_take(&self, number: u64) -> bool
         ensures { result ≡ may_be_given self.now.given number }
     {
-        self.deliveries.may_take(number)
+        self.has_tag_left() && self.seats.may_take(number, self.limit)
     }
 
     /// Returns the consumer with this number, if the channel has it.
@@ -194,56 +328,56 @@ impl Channel {
         ensures found { option_map (λ k. k.now) result ≡ consumer_at self.now.given number }
         ensures one { IfSome result (λ k. IsOne self.now number k.now) }
     {
-        self.deliveries.consumer(number)
+        self.seats.numbered(number)
     }
 
-    /// Returns whether it has a consumer.
+    /// Returns whether the channel has a consumer.
     pub fn has_consumers(&self) -> bool
         ensures { result ≡ nat_lt 0 (length self.now.given.consumers) }
     {
-        self.deliveries.has_consumers()
+        self.seats.len() > 0
     }
 
-    /// Returns whether one of its consumers has this tag.
+    /// Returns whether one of the channel's consumers has this tag.
     pub fn has_tagged(&self, tag: &[u8]) -> bool
-        ensures { (names : List Name) → result ≡ is_in_use tag.now (open_in names self.now).consumers }
+        ensures { (names : List Word) → result ≡ is_in_use tag.now (open_in names self.now).consumers }
     {
-        self.deliveries.has_tagged(tag)
+        self.seats.has(tag)
     }
 
-    /// Returns how many of its consumers take from the queue at index `queue`.
+    /// Returns how many of the channel's consumers take from the queue at index `queue`.
     pub fn consumers_from(&self, queue: usize) -> usize
         ensures { result ≡ consumers_from queue self.now }
     {
-        self.deliveries.consumers_from(queue)
+        self.seats.count_from(queue)
     }
 
     /// Returns whether the channel can still number a delivery: tags are below 2^64 - 1.
     pub fn has_tag_left(&self) -> bool
         ensures { result ≡ has_tag_left self.now.given.next_tag }
     {
-        self.deliveries.has_tag_left()
+        self.next_tag < u64::MAX
     }
 
     /// Returns the delivery tag of the next message that is given out.
     pub fn next_tag(&self) -> u64
         ensures { result ≡ self.now.given.next_tag }
     {
-        self.deliveries.next_tag()
+        self.next_tag
     }
 
     /// Reserves capacity for `more` deliveries. What is allocated is bounded by the number of unacknowledged ones. Fails only if there is less
     /// capacity and the allocation fails; nothing has changed then.
     pub fn reserve(&mut self, more: usize) -> Result<(), AllocError>
         ensures same { self.new ≡ record self.old { given = record self.old.given { room = self.new.given.room } } }
-        // The capacity after it, also if it fails.
+        // The capacity after the call, also if the call fails.
         ensures kept { self.old.given.room ≤ self.new.given.room }
         ensures full { OnErr result (self.old.given.room < more) }
         ensures grown { self.old.given.room < self.new.given.room → self.new.given.room ≤ 3 * length self.old.given.outstanding + more + 68 }
         ensures room { OnOk result (more ≤ self.new.given.room) }
         ensures err { OnErr result (self.new ≡ self.old) }
     {
-        self.deliveries.reserve(more)
+        self.pending.reserve(more)
     }
 
     /// Records that a message of the queue at index `queue` is given out under the next tag, and is unacknowledged.
@@ -252,7 +386,16 @@ impl Channel {
         requires room { 0 < self.old.given.room }
         ensures { self.new ≡ given_on self.old queue arrival by }
     {
-        self.deliveries.give(queue, arrival, by);
+        let tag = self.next_tag;
+        self.pending.push(Delivery {
+            tag,
+            queue,
+            arrival,
+            by,
+        });
+        self.seats.count_in(&by);
+        self.most_given = self.most_given.max(number_of(&by));
+        self.next_tag = tag + 1;
     }
 
     /// Records that a message is given out under the next tag, and needs no acknowledgement.
@@ -260,43 +403,47 @@ impl Channel {
         requires { has_tag_left self.old.given.next_tag ≡ true }
         ensures { self.new ≡ settled_on self.old }
     {
-        self.deliveries.give_settled();
+        self.next_tag += 1;
     }
 
-    /// Returns the unacknowledged deliveries in tag order, among entries of settled ones: at most as many again, and 32.
+    /// Returns the unacknowledged deliveries in tag order. Settled entries may be among them: at most as many as are unacknowledged, plus 32.
     pub fn outstanding(&self) -> &[Delivery]
         ensures all { waiting result.now ≡ self.now.given.outstanding }
         ensures few { length result.now ≤ 2 * length self.now.given.outstanding + 32 }
     {
-        self.deliveries.outstanding()
+        self.pending.all()
     }
 
-    /// Returns what `tag` settles, or `None` if it is refused, with 406. Only this searches for the tag. Source: AMQP 0-9-1, basic.ack.
+    /// Returns the span of what `tag` settles, or `None` if the tag is refused, with 406. The calls that take the span search for the tag only if
+    /// the channel has changed. Source: AMQP 0-9-1, basic.ack.
     pub fn span(&self, tag: u64, multiple: bool) -> Option<Span>
         ensures { TellsSpan tag multiple self.now.given.outstanding result }
     {
-        self.deliveries.span(tag, multiple)
+        self.pending.span(tag, multiple)
     }
 
-    /// Returns what `span` settles, in tag order, among entries of deliveries that were settled before; nothing if its tag is
-    /// refused.
+    /// Returns the deliveries that `span` settles, in tag order; entries of deliveries that were settled before may be among them. Empty if the
+    /// tag is refused.
     pub fn at(&self, span: Span) -> &[Delivery]
         ensures { waiting result.now ≡ settled_by span self.now.given.outstanding }
     {
-        self.deliveries.at(span)
+        self.pending.at(span)
     }
 
-    /// Removes what `span` settles; nothing if its tag is refused. Never allocates.
+    /// Removes the deliveries that `span` settles; none if its tag is refused. Never allocates.
     pub fn forget_span(&mut self, span: Span)
         ensures settled { self.new ≡ without_settled self.old span.tag span.multiple self.new.given.room }
         ensures room { self.old.given.room ≤ self.new.given.room }
     {
-        self.deliveries.forget_span(span);
+        let gone = self.pending.at(span);
+        let count = count_waiting(gone);
+        self.seats.count_out(gone);
+        self.pending.forget(span, count);
     }
 
-    /// Returns the deliveries that `tag` settles, in tag order, or `None` if the tag is refused, with 406: with `multiple` all up to
-    /// `tag`, which must itself be unacknowledged, and for tag 0 all that are; otherwise the one with this tag. Never
-    /// allocates. Source: AMQP 0-9-1, basic.ack.
+    /// Returns the deliveries that `tag` settles, in tag order: the one with this tag; or with `multiple` all up to `tag`, and all of the channel for tag 0.
+    /// Returns `None`, which is 406, if no unacknowledged delivery has this tag, unless it is 0 with `multiple`. Never allocates. Source: AMQP 0-9-1,
+    /// basic.ack.
     pub fn settle(&self, tag: u64, multiple: bool) -> Option<Settled<'_>>
         ensures { result ≡ settled tag_of tag multiple self.now.given.outstanding }
     {
@@ -321,6 +468,7 @@ impl Channel {
     pub fn renumber(&mut self, indices: &[usize])
         ensures { self.new ≡ open_moved indices.now self.old }
     {
-        self.deliveries.renumber(indices);
+        self.pending.renumber(indices);
+        self.seats.renumber(indices);
     }
 }

@@ -104,8 +104,8 @@ impl RunningConnections {
         }
     }
 
-    /// Returns the unacknowledged deliveries of a channel in tag order, among entries of settled ones: at most as many again, and 32. Empty if the
-    /// channel is not open, or its connection is not running.
+    /// Returns the unacknowledged deliveries of a channel in tag order. Settled entries may be among them: at most as many as are unacknowledged,
+    /// plus 32. Empty if the channel is not open, or its connection is not running.
     pub fn outstanding(&self, connection: u64, number: u16) -> &[Delivery]
         ensures all { waiting result.now ≡ outstanding_on (channel_of self.now connection number) }
         ensures few { length result.now ≤ 2 * length (outstanding_on (channel_of self.now connection number)) + 32 }
@@ -132,7 +132,7 @@ impl RunningConnections {
         count_consumers(&self.connections, queue) != 0
     }
 
-    /// Shows that consumers take from a queue exactly if some channel has one that does. Does nothing at run time.
+    /// Shows that `is_consumed` holds of a queue exactly if some channel has a consumer that takes from it. Does nothing at run time.
     pub fn ghost_takers_are_found(&self)
         ensures { (queue : ℕ) → Decides (is_consumed self.now queue) (HasTaker self.now queue) }
     {
@@ -197,7 +197,7 @@ impl RunningConnections {
         }
     }
 
-    /// Replaces the open channel with this number by `channel`.
+    /// Replaces the open channel with this number by `channel`, or removes it if that is `None`.
     pub fn put(&mut self, connection: u64, number: u16, channel: Option<Channel>)
         requires { IsSome (channel_of self.old connection number) }
         ensures { PutsChannel self.old connection number channel self.new }
@@ -221,12 +221,12 @@ pub fn ghost_lent_channels_are_put()
     ensures { LentArePut }
 {}
 
-/// Shows that the model sees no difference on the channels if each queue that they name has its name at its new index. Does nothing at run time.
+/// Shows that the model sees no difference on the channels if each queue that they name has the same name at its new index. Does nothing at run time.
 pub fn ghost_moves_are_unseen()
     ensures { MovesAreUnseen }
 {}
 
-/// Does the same for these connections.
+/// Sets the index of each queue that the channels of `connections` name to the one that `places` has for it.
 fn renumber_all(connections: &mut HashMap<u64, RunningConnection>, places: &[usize])
     ensures { connections.new.entries ≡ connections_moved places.now connections.old.entries }
 {
@@ -236,7 +236,7 @@ fn renumber_all(connections: &mut HashMap<u64, RunningConnection>, places: &[usi
     });
 }
 
-/// Returns how many consumers on all channels of these connections take from the queue at index `queue`, at most `usize::MAX`.
+/// Returns how many consumers on all channels of `connections` take from the queue at index `queue`, at most `usize::MAX`.
 fn count_consumers(connections: &HashMap<u64, RunningConnection>, queue: usize) -> usize
     ensures counts { CountsConsumers connections.now.entries queue result }
     ensures all { result ≡ min (all_consumers connections.now.entries queue) greatest }

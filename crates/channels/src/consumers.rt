@@ -30,8 +30,8 @@ pub struct Consumer {
 
 /// A consumer with the number of its unacknowledged messages.
 #[derive(Drop)]
-pub struct CountedConsumer {
-    pub consumer: Consumer,
+pub(crate) struct CountedConsumer {
+    pub(crate) consumer: Consumer,
     pub(crate) held: usize,
 }
 
@@ -49,7 +49,7 @@ pub enum ConsumerRefusal {
 /// Why a consumer was not made.
 #[derive(Clone, Copy, PartialEq, Eq, Debug, Drop)]
 pub enum ConsumeError {
-    /// It is refused for this.
+    /// The consumer is refused for this reason.
     Refused(ConsumerRefusal),
     Memory,
 }
@@ -96,7 +96,8 @@ fn search(seats: &[CountedConsumer], number: u64) -> Option<usize>
     seats.iter().position(|s| s.consumer.number == number)
 }
 
-/// Returns the index of the consumer with this number: by binary search, since numbers ascend. Looks at each before it returns `None`.
+/// Returns the index of the consumer with this number, by binary search, since numbers ascend. If it isn't found so, looks at each consumer, so that
+/// `None` is right in any order.
 fn place_of_consumer(seats: &[CountedConsumer], number: u64) -> Option<usize>
     ensures some { IfSome result (λ place. IsConsumerAt seats.now number place) }
     ensures none { result ≡ None → find (is_numbered number) seats.now ≡ None }
@@ -108,7 +109,7 @@ fn place_of_consumer(seats: &[CountedConsumer], number: u64) -> Option<usize>
     search(seats, number)
 }
 
-/// Returns the counted consumer with this number.
+/// Returns the counted consumer with this number, if it exists.
 fn counted_consumer(seats: &[CountedConsumer], number: u64) -> Option<&CountedConsumer>
     requires { NumbersRise (consumers_of seats.now) }
     ensures { option_map (λ s. s.now) result ≡ find (is_numbered number) seats.now }
@@ -130,7 +131,7 @@ pub(crate) fn consumer_of(seats: &[CountedConsumer], number: u64) -> Option<&Con
     }
 }
 
-/// Returns how many take from the queue at index `queue`.
+/// Returns how many consumers take from the queue at index `queue`.
 pub(crate) fn count_from(seats: &[CountedConsumer], queue: usize) -> usize
     ensures { result ≡ count_by (λ s. takes_from queue s.consumer) seats.now }
 {
@@ -146,7 +147,7 @@ pub(crate) fn remove_tagged(seats: &mut Vec<CountedConsumer>, tag: &[u8])
     seats.retain(|s| s.consumer.tag.as_bytes() != tag);
 }
 
-/// Returns whether it was given to the consumer with this number.
+/// Returns whether `by` is the consumer with this number.
 fn is_its(by: &Taker, number: u64) -> bool
     ensures { result ≡ is_to number by.now }
 {
@@ -156,14 +157,14 @@ fn is_its(by: &Taker, number: u64) -> bool
     }
 }
 
-/// Returns whether it was given to a consumer.
+/// Returns whether `by` is a consumer, not a get.
 fn is_consumed(by: &Taker) -> bool
     ensures { result ≡ is_delivery by.now }
 {
     matches!(by, Taker::Consumer(_))
 }
 
-/// Returns the number of the consumer to which it was given; 0 for a get.
+/// Returns the number of the consumer that `by` is; 0 for a get.
 pub(crate) fn number_of(by: &Taker) -> u64
     ensures { result ≡ number_given by.now }
 {
@@ -173,14 +174,14 @@ pub(crate) fn number_of(by: &Taker) -> u64
     }
 }
 
-/// Returns 1 if it was given to a consumer, otherwise 0.
+/// Returns 1 if `by` is a consumer, 0 for a get.
 pub(crate) fn one_if_consumed(by: &Taker) -> usize
     ensures { result ≡ cond (is_delivery by.now) 1 0 }
 {
     if is_consumed(by) { 1 } else { 0 }
 }
 
-/// Returns how many of those that wait were given to the consumer with this number.
+/// Returns how many unacknowledged deliveries of `given` went to the consumer with this number.
 fn given_to(given: &[Delivery], number: u64) -> usize
     ensures { result ≡ count_by (λ o. is_waiting o && is_to number o.by) given.now }
 {
@@ -193,8 +194,8 @@ fn given_to(given: &[Delivery], number: u64) -> usize
     count
 }
 
-/// Returns how many of those that wait were given to the consumer of this number, if none of a greater number than `most` was given any.
-/// Goes over them only if the number is not greater.
+/// Returns how many unacknowledged deliveries of `given` went to the consumer with this number. No consumer with a number above `most` has any,
+/// so `given` is not looked at for such a number.
 pub(crate) fn held_by(given: &[Delivery], most: u64, number: u64) -> usize
     requires { NoneAbove most (waiting given.now) }
     ensures { result ≡ count_to taker_of number (waiting given.now) }
@@ -205,7 +206,7 @@ pub(crate) fn held_by(given: &[Delivery], most: u64, number: u64) -> usize
     given_to(given, number)
 }
 
-/// Returns how many of those that wait were given to consumers.
+/// Returns how many unacknowledged deliveries of `given` went to consumers.
 pub(crate) fn given_to_all(given: &[Delivery]) -> usize
     ensures { result ≡ count_by (λ o. is_waiting o && is_delivery o.by) given.now }
 {
@@ -218,7 +219,7 @@ pub(crate) fn given_to_all(given: &[Delivery]) -> usize
     count
 }
 
-/// Counts a message that is given out to the consumer with this number, if there is one.
+/// Adds 1 to the count of the consumer with this number, if there is one.
 fn count_one_in(seats: &mut [CountedConsumer], number: u64)
     requires held { All (λ s. s.held < 2 ^ 64 - 1) seats.old }
     requires rise { NumbersRise (consumers_of seats.old) }
@@ -229,7 +230,7 @@ fn count_one_in(seats: &mut [CountedConsumer], number: u64)
     }
 }
 
-/// Counts a message that is given out.
+/// Adds 1 to the count of the consumer that `by` is, if there is one.
 pub(crate) fn count_in(seats: &mut Vec<CountedConsumer>, by: &Taker)
     requires held { All (λ s. s.held < 2 ^ 64 - 1) seats.old.items }
     requires rise { NumbersRise (consumers_of seats.old.items) }
@@ -243,7 +244,7 @@ pub(crate) fn count_in(seats: &mut Vec<CountedConsumer>, by: &Taker)
     }
 }
 
-/// Uncounts a message that was given to the consumer with this number, if there is one.
+/// Subtracts 1 from the count of the consumer with this number, if there is one.
 fn count_number_out(seats: &mut [CountedConsumer], number: u64)
     requires { NumbersRise (consumers_of seats.old) }
     ensures { seats.new ≡ map (uncounted (taker.Consumer number)) seats.old }
@@ -253,29 +254,22 @@ fn count_number_out(seats: &mut [CountedConsumer], number: u64)
     }
 }
 
-/// Uncounts a message that is settled.
-fn count_one_out(seats: &mut [CountedConsumer], by: &Taker)
-    requires { NumbersRise (consumers_of seats.old) }
-    ensures { seats.new ≡ map (uncounted by.now) seats.old }
-{
-    match by {
-        Taker::Get => {}
-        Taker::Consumer(number) => count_number_out(seats, *number),
-    }
-}
-
-/// Uncounts this one if it waits.
+/// If the delivery `one` is unacknowledged, subtracts 1 from the count of the consumer that it went to, if there is one.
 fn count_waiting_out(seats: &mut [CountedConsumer], one: &Delivery)
     requires { NumbersRise (consumers_of seats.old) }
     ensures yes { is_waiting one.now ≡ true → seats.new ≡ map (uncounted one.now.by) seats.old }
     ensures no { is_waiting one.now ≡ false → seats.new ≡ seats.old }
 {
-    if one.is_waiting() {
-        count_one_out(seats, &one.by);
+    if !one.is_waiting() {
+        return;
+    }
+    match one.by {
+        Taker::Get => {}
+        Taker::Consumer(number) => count_number_out(seats, number),
     }
 }
 
-/// Uncounts those that wait, one after another.
+/// Subtracts the unacknowledged deliveries of `gone` from the counts of the consumers that they went to, one after another.
 fn count_each_out(seats: &mut [CountedConsumer], gone: &[Delivery])
     requires { NumbersRise (consumers_of seats.old) }
     ensures { seats.new ≡ map (counted_out (waiting gone.now)) seats.old }
@@ -285,7 +279,7 @@ fn count_each_out(seats: &mut [CountedConsumer], gone: &[Delivery])
     }
 }
 
-/// Uncounts those that wait.
+/// Subtracts the unacknowledged deliveries of `gone` from the counts of the consumers that they went to.
 pub(crate) fn count_out(seats: &mut Vec<CountedConsumer>, gone: &[Delivery])
     requires { NumbersRise (consumers_of seats.old.items) }
     ensures seats { seats.new.items ≡ map (counted_out (waiting gone.now)) seats.old.items }
@@ -295,14 +289,15 @@ pub(crate) fn count_out(seats: &mut Vec<CountedConsumer>, gone: &[Delivery])
     count_each_out(seats, gone);
 }
 
-/// Returns whether `limit` allows one more message than `held`.
+/// Returns whether the prefetch `limit` allows one more message than `held`; 0 is no limit.
 fn is_room(limit: u16, held: usize) -> bool
     ensures { result ≡ is_below limit held }
 {
     limit == 0 || held < limit as usize
 }
 
-/// Returns whether this consumer may be given one more message; all of the channel together have `given` under `limit`.
+/// Returns whether the consumer of `seat` may be given one more message: it needs no acknowledgements, or neither its own prefetch nor the
+/// channel's `limit` is used up. All consumers of the channel together have `given` unacknowledged messages.
 fn may_hold(seat: &CountedConsumer, limit: u16, given: usize) -> bool
     ensures { result ≡ may_held limit given (Some seat.now) }
 {
@@ -342,7 +337,7 @@ pub(crate) fn taker_of(
     }
 }
 
-/// Sets each queue's index to the one that `indices` has for it.
+/// Replaces the queue index of each consumer by the one that `indices` has for it.
 pub(crate) fn renumber(seats: &mut Vec<CountedConsumer>, indices: &[usize])
     ensures seats { seats.new.items ≡ map (seat_moved indices.now) seats.old.items }
     ensures len { vec_len seats.new ≡ vec_len seats.old }
@@ -351,7 +346,7 @@ pub(crate) fn renumber(seats: &mut Vec<CountedConsumer>, indices: &[usize])
     renumber_slice(seats, indices);
 }
 
-/// Does the same for each of these.
+/// Sets the queue's index of each consumer to the one that `places` has for it.
 fn renumber_slice(seats: &mut [CountedConsumer], places: &[usize])
     ensures { seats.new ≡ map (seat_moved places.now) seats.old }
 {

@@ -10,8 +10,8 @@ use model::{Delivery, Taker};
 use std::alloc::{AllocError, Global};
 use std::marker::Model;
 
-/// The consumers, in the order in which they were made, each with the number of its unacknowledged messages. Another count is that of all
-/// consumers together, including cancelled ones.
+/// The consumers, in the order in which they were made, each with the number of its unacknowledged messages. `given` is the number of
+/// unacknowledged messages of all consumers together, including cancelled ones.
 #[derive(Drop)]
 pub(crate) struct CountedConsumers {
     seats: Vec<CountedConsumer>,
@@ -78,7 +78,7 @@ impl CountedConsumers {
         is_in_use(&self.seats, tag)
     }
 
-    /// Returns how many take from the queue at index `queue`.
+    /// Returns how many consumers take from the queue at index `queue`.
     pub(crate) fn count_from(&self, queue: usize) -> usize
         ensures { result ≡ count_by (takes_from queue) self.now.consumers }
     {
@@ -111,7 +111,7 @@ impl CountedConsumers {
         taker_of(&self.seats, number, limit, self.given)
     }
 
-    /// Reserves capacity for one more. Nothing else changes, even if the allocation fails.
+    /// Reserves capacity for one more consumer. Fails only if there is none and the allocation fails; nothing has changed then.
     pub(crate) fn reserve(&mut self) -> Result<(), AllocError>
         ensures same { self.new ≡ record self.old { room = self.new.room } }
         ensures kept { self.old.room ≤ self.new.room }
@@ -122,7 +122,7 @@ impl CountedConsumers {
         self.seats.reserve(1)
     }
 
-    /// Appends a consumer, to which `held` messages were given already.
+    /// Appends `consumer`, which already has `held` unacknowledged messages. There is capacity for it.
     pub(crate) fn push(&mut self, consumer: Consumer, held: usize)
         requires { 0 < self.old.room }
         ensures consumers { self.new.consumers ≡ self.old.consumers ++ consumer ∷ [] }
@@ -133,7 +133,7 @@ impl CountedConsumers {
         self.seats.push_reserved(CountedConsumer { consumer, held });
     }
 
-    /// Removes the consumers with this tag. What they were given still counts in the count of all.
+    /// Removes the consumers with this tag. Their unacknowledged messages still count among those of all consumers together.
     pub(crate) fn remove_by_tag(&mut self, tag: &[u8])
         ensures consumers { self.new.consumers ≡ filter (λ c. not (is_named tag.now c)) self.old.consumers }
         ensures room { self.old.room ≤ self.new.room }
@@ -151,7 +151,7 @@ impl CountedConsumers {
         renumber(&mut self.seats, indices);
     }
 
-    /// Counts a message that is given out.
+    /// Counts a message that is given out to `by`.
     pub(crate) fn count_in(&mut self, by: &Taker)
         // What the caller knows: no count overflows.
         requires each { All (λ n. n < 2 ^ 64 - 1) self.old.held }
@@ -166,7 +166,7 @@ impl CountedConsumers {
         self.given += one_if_consumed(by);
     }
 
-    /// Uncounts those of `gone` that wait, which are settled now.
+    /// Subtracts the unacknowledged deliveries of `gone`, which are settled now, from the counts.
     pub(crate) fn count_out(&mut self, gone: &[Delivery])
         requires { NumbersRise self.old.consumers }
         ensures consumers { self.new.consumers ≡ self.old.consumers }

@@ -1,18 +1,18 @@
 //! The unacknowledged deliveries of a channel.
 
 use crate::spans::Span;
-use crate::tags::{behind, close_if, count_settled, forget_in, make_place, settled_of, span_of};
+use crate::tags::{behind, close_if, forget_in, make_place, settled_of, span_of};
 use model::Delivery;
 use std::alloc::{AllocError, Global};
 use std::marker::Model;
 
-/// The unacknowledged deliveries, in the order of their tags: those behind `start` that wait. A delivery that is settled while earlier ones
-/// wait leaves its entry for a while, marked by tag 0.
+/// The unacknowledged deliveries, in the order of their tags: the entries of `items` from index `start` on, except those with tag 0. Tag 0 marks
+/// a delivery that was settled while earlier ones were unacknowledged; its entry stays for a while.
 #[derive(Drop)]
 pub(crate) struct Unsettled {
     items: Vec<Delivery>,
     start: usize,
-    /// The number of deliveries that wait.
+    /// The number of unacknowledged deliveries.
     count: usize,
     /// The last tag that was recorded; 0 before the first.
     last: u64,
@@ -52,7 +52,7 @@ impl Unsettled {
         }
     }
 
-    /// Returns the unacknowledged deliveries in tag order, among entries of settled ones.
+    /// Returns the unacknowledged deliveries in tag order. Settled entries may be among them: at most as many as are unacknowledged, plus 32.
     pub(crate) fn all(&self) -> &[Delivery]
         ensures all { waiting result.now ≡ self.now.outstanding }
         ensures rises { Rises tag_of self.now.outstanding }
@@ -61,27 +61,29 @@ impl Unsettled {
         behind(&self.items, self.start)
     }
 
-    /// Returns what `tag` settles, or `None` if it is refused.
+    /// Returns the span of what `tag` settles, or `None` if the tag is refused.
     pub(crate) fn span(&self, tag: u64, multiple: bool) -> Option<Span>
         ensures { TellsSpan tag multiple self.now.outstanding result }
     {
         span_of(behind(&self.items, self.start), tag, multiple)
     }
 
-    /// Returns what `span` settles, in tag order, among entries of deliveries that were settled before; nothing if its tag is refused.
+    /// Returns the deliveries that `span` settles, in tag order; entries of deliveries that were settled before may be among them. Empty if the
+    /// tag is refused.
     pub(crate) fn at(&self, span: Span) -> &[Delivery]
         ensures { waiting result.now ≡ settled_by span self.now.outstanding }
     {
         settled_of(behind(&self.items, self.start), span)
     }
 
-    /// Removes what `span` settles. Compacts the list if it has more entries than twice those that wait, plus 32.
-    pub(crate) fn forget(&mut self, span: Span)
+    /// Removes the `gone` deliveries that `span` settles. Compacts the list if it then has over 32 entries more than twice the number of
+    /// unacknowledged ones.
+    pub(crate) fn forget(&mut self, span: Span, gone: usize)
+        requires { gone + length (kept tag_of span.tag span.multiple self.old.outstanding) ≡ length self.old.outstanding }
         ensures outstanding { self.new.outstanding ≡ kept tag_of span.tag span.multiple self.old.outstanding }
         ensures last { self.new.last ≡ self.old.last }
         ensures room { self.old.room ≤ self.new.room }
     {
-        let gone = count_settled(&self.items, self.start, span);
         self.start = forget_in(&mut self.items, self.start, span);
         self.count -= gone;
         let is_wanted = is_sparse(self.items.len(), self.count);
@@ -139,7 +141,7 @@ impl Unsettled {
 ghost use Rattle.std.specs.Prelude.{◌≡◌, ◌+◌, ◌*◌, ◌<◌, ◌≤◌, false, OnOk, OnErr, vec_len, vec_capacity, map};
 ghost use Rattle.channels.specs.Moving.{place_now, outstanding_moved};
 
-/// Returns whether there are more entries than twice those that wait, plus 32.
+/// Returns whether `places` is more than `2 * count + 32`: of `places` entries, `count` are unacknowledged.
 fn is_sparse(places: usize, count: usize) -> bool
     requires { count ≤ places }
     ensures { result ≡ false → places ≤ 2 * count + 32 }
@@ -148,7 +150,7 @@ fn is_sparse(places: usize, count: usize) -> bool
     settled > 32 && settled - 32 > count
 }
 
-/// Returns whether there is no capacity for `more` entries behind the list, while over a quarter of it was settled.
+/// Returns whether `items` has no spare capacity for `more` entries, while over a quarter of its entries are settled.
 fn is_worth_closing(items: &Vec<Delivery>, count: usize, more: usize) -> bool
     requires { count ≤ vec_len items.now }
 {
@@ -156,7 +158,7 @@ fn is_worth_closing(items: &Vec<Delivery>, count: usize, more: usize) -> bool
     more > items.capacity() - places && places - count > places / 4
 }
 
-/// Returns by how many entries a list of `places` grows if `more` are needed: by at least its own length, so that growths are few.
+/// Returns by how many entries a list of `places` entries grows if `more` are needed: at least by `places`, so that growths are few.
 fn growth(places: usize, more: usize) -> usize
     ensures enough { more ≤ result }
     ensures few { result ≤ places + more + 4 }
@@ -167,12 +169,12 @@ fn growth(places: usize, more: usize) -> usize
     if places > 4 { places } else { 4 }
 }
 
-/// Reserves capacity for `more` entries behind the list, unless it has that.
+/// Reserves spare capacity for `more` entries, unless `items` has it. Fails only if the allocation fails.
 fn grow(items: &mut Vec<Delivery>, more: usize) -> Result<(), AllocError>
     // The entries are unchanged.
     ensures items { items.new.items ≡ items.old.items }
     ensures len { vec_len items.new ≡ vec_len items.old }
-    // The capacity after it, when it may fail, and how much it allocates.
+    // The capacity after the call, when the call may fail, and how much it allocates.
     ensures ok { OnOk result (vec_len items.new + more ≤ vec_capacity items.new) }
     ensures capacity { vec_capacity items.old ≤ vec_capacity items.new }
     ensures full { OnErr result (vec_capacity items.old < vec_len items.old + more) }
@@ -185,7 +187,7 @@ fn grow(items: &mut Vec<Delivery>, more: usize) -> Result<(), AllocError>
     items.reserve_exact(growth(items.len(), more))
 }
 
-/// Returns the new index of the queue at `index`; past the end of the table, the same one.
+/// Returns the new index of the queue at `index`, from the table `indices`; `index` itself if it is past the table's end.
 pub(crate) fn place_now(indices: &[usize], index: usize) -> usize
     ensures { result ≡ place_now indices.now index }
 {
@@ -204,7 +206,7 @@ fn renumber_each(items: &mut Vec<Delivery>, places: &[usize])
     renumber_slice(items, places);
 }
 
-/// Does the same for each of these.
+/// Sets each queue's index to the one that `places` has for it.
 fn renumber_slice(items: &mut [Delivery], places: &[usize])
     ensures { items.new ≡ map (outstanding_moved places.now) items.old }
 {

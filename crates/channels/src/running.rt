@@ -2,9 +2,7 @@
 
 use crate::channels::Channel;
 use crate::consumers::Consumer;
-use crate::slots::{
-    count_consumers, number_of, open_at, open_channels, put_at, renumber_each, taker_of,
-};
+use crate::slots::{count_consumers, open_at, open_channels, put_at, renumber_each};
 use model::Delivery;
 use std::alloc::{AllocError, Global};
 use std::marker::Model;
@@ -79,7 +77,7 @@ impl RunningConnection {
         }
     }
 
-    /// Borrows the open channel with this number mutably.
+    /// Borrows the open channel with this number mutably, if there is one.
     pub fn channel_mut(&mut self, number: u16) -> Option<&mut Channel>
         ensures* writes_back { sem 𝓛 (LendsChannelIn self.entry number result) }
         ensures value { option_copied_mut result ≡ channel_in self.old number }
@@ -90,7 +88,7 @@ impl RunningConnection {
         }
     }
 
-    /// Returns the number of channel slots, from 0 on: no channel with a greater number is open.
+    /// Returns the number of channel slots. Slot 0 is for channel 0, and no channel past the last slot is open.
     pub fn places(&self) -> usize
         ensures places { result ≡ length self.now.channels }
         ensures few { result ≤ 2 ^ 16 }
@@ -98,8 +96,8 @@ impl RunningConnection {
         self.channels.len()
     }
 
-    /// Returns the unacknowledged deliveries of a channel in tag order, among entries of settled ones: at most as many again, and 32. Empty if the
-    /// channel is not open.
+    /// Returns the unacknowledged deliveries of a channel in tag order. Settled entries may be among them: at most as many as are unacknowledged,
+    /// plus 32. Empty if the channel is not open.
     pub fn outstanding(&self, number: u16) -> &[Delivery]
         ensures all { waiting result.now ≡ outstanding_on (channel_in self.now number) }
         ensures few { length result.now ≤ 2 * length (outstanding_on (channel_in self.now number)) + 32 }
@@ -116,10 +114,13 @@ impl RunningConnection {
         ensures next { result ≡ next_number (channel_in self.now number) }
         ensures above { IfSome result (AreBelow (channel_in self.now number)) }
     {
-        match self.channel(number) {
-            Some(channel) => number_of(channel),
-            None => Some(1),
+        let Some(channel) = self.channel(number) else {
+            return Some(1);
+        };
+        if channel.is_closing() {
+            return None;
         }
+        Some(channel.next_number())
     }
 
     /// Returns the consumer with this number on the channel, if that is open and has it.
@@ -133,18 +134,19 @@ impl RunningConnection {
         }
     }
 
-    /// Returns the consumer with this number on the channel if it can take a message now: the connection is not paused, the channel is open, and the
-    /// consumer is its and may take one.
+    /// Returns the consumer with this number on the channel if it can take a message now: the connection is not paused, the channel is open and does
+    /// not await close-ok, and it has the consumer, which may take one ([`Channel::taker`]).
     pub fn taker(&self, channel: u16, number: u64) -> Option<&Consumer>
         ensures { TellsOn self.now channel number (option_map (λ k. k.now) result) }
     {
         if self.is_paused {
             return None;
         }
-        match self.channel(channel) {
-            Some(channel) => taker_of(channel, number),
-            None => None,
+        let channel = self.channel(channel)?;
+        if channel.is_closing() {
+            return None;
         }
+        channel.taker(number)
     }
 
     /// Returns how many consumers on its channels take from the queue at index `queue`, at most `usize::MAX`.
@@ -165,7 +167,7 @@ impl RunningConnection {
         open_at(&mut self.channels, number, channel)
     }
 
-    /// Replaces the open channel with this number by `channel`.
+    /// Replaces the open channel with this number by `channel`, or removes it if that is `None`.
     pub(crate) fn put(&mut self, number: u16, channel: Option<Channel>)
         requires { IsSome (channel_in self.old number) }
         ensures { PutsIn self.old number channel self.new }

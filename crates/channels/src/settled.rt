@@ -24,7 +24,7 @@ impl<'a> Model for Settled<'a> {
     ghost view = { λ s. waiting s.places.now };
 }
 
-/// Removes the first delivery that waits, and all in front of it, from `places`, and returns it.
+/// Returns the first unacknowledged delivery of `places`, and removes it with all entries in front of it.
 fn first_waiting<'a>(places: &mut &'a [Delivery]) -> Option<&'a Delivery>
     ensures some { IfSome result (λ d. waiting places.old.now ≡ d.now ∷ waiting places.new.now) }
     ensures none { IfNone result ((waiting places.old.now ≡ []) × (waiting places.new.now ≡ [])) }
@@ -41,7 +41,7 @@ impl<'a> Settled<'a> {
     ghost use Rattle.std.specs.Prelude.{◌≡◌};
     ghost use Rattle.model.specs.Placed.{waiting};
 
-    /// Iterates over those of `places` that wait.
+    /// Returns an iterator over the unacknowledged deliveries of `places`.
     pub(crate) fn among(places: &'a [Delivery]) -> Settled<'a>
         ensures { result ≡ waiting places.now }
     {

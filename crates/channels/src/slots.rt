@@ -11,9 +11,7 @@ ghost use Rattle.std.specs.Prelude.{
   None,
   Option,
   Some,
-  false,
   IsSome,
-  IfSome,
   IfOk,
   OnOk,
   OnErr,
@@ -33,13 +31,11 @@ ghost use Rattle.channels.specs.ConnectionsMoving.{channels_moved};
 ghost use Rattle.model.specs.Words.{Text as Name};
 ghost use Rattle.model.specs.Broker.{new_channel};
 ghost use Rattle.model.specs.Step.{greatest};
-ghost use Rattle.channels.specs.Open.{open_in, IsTaker, HasNoTaker};
+ghost use Rattle.channels.specs.Open.{open_in};
 ghost use Rattle.channels.specs.RunningConnections.{IsChannelSet};
-ghost use Rattle.channels.specs.Consumers.{next_number, AreBelow};
 ghost use Rattle.channels.specs.Counting.{consumers_at};
 
 use crate::channels::Channel;
-use crate::consumers::Consumer;
 use std::alloc::{AllocError, Global};
 
 /// Makes slots for channels 0 to `count`, of which all but 0 are open and new. Fails only if an allocation fails.
@@ -87,7 +83,7 @@ pub(crate) fn open_at(
     Ok(())
 }
 
-/// Replaces the open channel with this number by `channel`.
+/// Replaces the open channel with this number by `channel`, or removes it if that is `None`.
 pub(crate) fn put_at(channels: &mut [Option<Channel>], number: u16, channel: Option<Channel>)
     requires { IsSome (slice_index_or channels.old number None) }
     ensures { IsChannelSet channels.old number channel channels.new }
@@ -98,7 +94,7 @@ pub(crate) fn put_at(channels: &mut [Option<Channel>], number: u16, channel: Opt
     }
 }
 
-/// Returns how many consumers of this channel take from the queue at index `queue`.
+/// Returns how many consumers of the channel in `slot`, if any, take from the queue at index `queue`.
 fn consumers_in(slot: &Option<Channel>, queue: usize) -> usize
     ensures { result ≡ consumers_at queue slot.now }
 {
@@ -108,7 +104,7 @@ fn consumers_in(slot: &Option<Channel>, queue: usize) -> usize
     }
 }
 
-/// Returns the same for all these channels, at most `usize::MAX`.
+/// Returns how many consumers of all `channels` together take from the queue at index `queue`, at most `usize::MAX`.
 pub(crate) fn count_consumers(channels: &[Option<Channel>], queue: usize) -> usize
     ensures { result ≡ min (sum_by (consumers_at queue) channels.now) greatest }
 {
@@ -119,31 +115,7 @@ pub(crate) fn count_consumers(channels: &[Option<Channel>], queue: usize) -> usi
     count
 }
 
-/// Returns the number of the channel's next consumer, or `None` if it awaits close-ok. Each consumer has a smaller one.
-pub(crate) fn number_of(channel: &Channel) -> Option<u64>
-    ensures next { result ≡ next_number (Some channel.now) }
-    ensures above { IfSome result (AreBelow (Some channel.now)) }
-{
-    if channel.is_closing() {
-        None
-    } else {
-        Some(channel.next_number())
-    }
-}
-
-/// Returns the consumer with this number if it can take a message now and the channel does not await close-ok.
-pub(crate) fn taker_of(channel: &Channel, number: u64) -> Option<&Consumer>
-    ensures some { IfSome result (λ k. (channel.now.is_closing ≡ false) × IsTaker channel.now number k.now) }
-    ensures none { result ≡ None → channel.now.is_closing ≡ false → HasNoTaker channel.now number }
-{
-    if channel.is_closing() {
-        None
-    } else {
-        channel.taker(number)
-    }
-}
-
-/// Sets the queues' indices of this channel to those that `places` has for them.
+/// Sets each queue's index in the channel in `slot`, if any, to the one that `places` has for it.
 fn renumber_in(slot: &mut Option<Channel>, places: &[usize])
     ensures { slot.new ≡ option_map (open_moved places.now) slot.old }
 {
@@ -152,7 +124,7 @@ fn renumber_in(slot: &mut Option<Channel>, places: &[usize])
     }
 }
 
-/// Does the same for each channel.
+/// Sets each queue's index in each of `channels` to the one that `places` has for it.
 pub(crate) fn renumber_each(channels: &mut [Option<Channel>], places: &[usize])
     ensures { channels.new ≡ channels_moved places.now channels.old }
 {

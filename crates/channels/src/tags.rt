@@ -18,7 +18,7 @@ fn given_tag(one: &Delivery) -> u64
     if one.tag == 0 { one.arrival } else { one.tag }
 }
 
-/// Returns how many tags are lower, by binary search, since tags ascend.
+/// Returns how many deliveries of `given` were given out under a tag below `tag`, by binary search, since tags ascend.
 fn lower(given: &[Delivery], tag: u64) -> usize
     requires { Rises given_tag given.now }
     ensures within { result ≤ length given.now }
@@ -28,7 +28,7 @@ fn lower(given: &[Delivery], tag: u64) -> usize
     given.partition_point(|one| given_tag(one) < tag)
 }
 
-/// Returns whether this tag waits at index `place`.
+/// Returns whether the delivery at index `place` has the tag `tag` and is unacknowledged.
 fn is_at(given: &[Delivery], place: usize, tag: u64) -> bool
     ensures yes { result ≡ true → IsTagAt given.now place tag }
     ensures no { result ≡ false → IsTagAt given.now place tag → ⊥ }
@@ -36,7 +36,7 @@ fn is_at(given: &[Delivery], place: usize, tag: u64) -> bool
     tag != 0 && place < given.len() && given[place].tag == tag
 }
 
-/// Returns the index of a tag that waits.
+/// Returns the index of the unacknowledged delivery with the tag `tag`, by binary search.
 fn search(given: &[Delivery], tag: u64) -> Option<usize>
     requires { Rises given_tag given.now }
     ensures there { IfSome result (λ i. IsTagAt given.now i tag) }
@@ -49,7 +49,7 @@ fn search(given: &[Delivery], tag: u64) -> Option<usize>
     None
 }
 
-/// Returns the same, and looks at index `near` first.
+/// Returns the index of the unacknowledged delivery with the tag `tag`, if there is one. Looks at index `near` first.
 fn place_of_tag(given: &[Delivery], tag: u64, near: usize) -> Option<usize>
     requires { Rises given_tag given.now }
     ensures there { IfSome result (λ i. IsTagAt given.now i tag) }
@@ -61,7 +61,7 @@ fn place_of_tag(given: &[Delivery], tag: u64, near: usize) -> Option<usize>
     search(given, tag)
 }
 
-/// Returns what a tag settles, with its index, or `None` if it is refused. Looks at the front first.
+/// Returns the span of what `tag` settles, or `None` if the tag is refused. Looks at the front first.
 pub(crate) fn span_of(given: &[Delivery], tag: u64, multiple: bool) -> Option<Span>
     requires { Rises given_tag given.now }
     ensures { TellsSpan tag multiple (waiting given.now) result }
@@ -83,7 +83,7 @@ pub(crate) fn span_of(given: &[Delivery], tag: u64, multiple: bool) -> Option<Sp
     }
 }
 
-/// Returns the range of indices that a span settles.
+/// Returns the range of indices that `span` settles, or `None` if its tag is refused.
 fn run_of(given: &[Delivery], span: Span) -> Option<(usize, usize)>
     requires { Rises given_tag given.now }
     // The range, and what is in it.
@@ -91,7 +91,7 @@ fn run_of(given: &[Delivery], span: Span) -> Option<(usize, usize)>
     ensures run { option_map (λ r. waiting (drop r.0 (take r.1 given.now))) result ≡ settled tag_of span.tag span.multiple (waiting given.now) }
     ensures next { IfSome result (λ r. (r.0 ≡ 0 → ⊥) → r.1 ≡ r.0 + 1) }
     ensures there { IfSome result (λ r. (r.0 ≡ 0 → ⊥) → IsTagAt given.now r.0 span.tag) }
-    // What is outside of it; `None` if the tag is refused.
+    // What is outside of the range; without a range, all deliveries stay.
     ensures rest { IfSome result (λ r. waiting (take r.0 given.now) ++ waiting (drop r.1 given.now) ≡ kept tag_of span.tag span.multiple (waiting given.now)) }
     ensures none { IfNone result (kept tag_of span.tag span.multiple (waiting given.now) ≡ waiting given.now) }
 {
@@ -110,7 +110,7 @@ fn run_of(given: &[Delivery], span: Span) -> Option<(usize, usize)>
     }
 }
 
-/// Returns what a span settles, among entries of deliveries that were settled before; nothing if its tag is refused.
+/// Returns the deliveries that `span` settles; entries of deliveries that were settled before may be among them. Empty if the tag is refused.
 pub(crate) fn settled_of(given: &[Delivery], span: Span) -> &[Delivery]
     requires { Rises given_tag given.now }
     ensures { waiting result.now ≡ settled_by span (waiting given.now) }
@@ -121,23 +121,14 @@ pub(crate) fn settled_of(given: &[Delivery], span: Span) -> &[Delivery]
     }
 }
 
-/// Returns how many of these wait to be settled.
-fn count_waiting(given: &[Delivery]) -> usize
+/// Returns how many deliveries of `given` are unacknowledged.
+pub(crate) fn count_waiting(given: &[Delivery]) -> usize
     ensures { result ≡ count_by is_waiting given.now }
 {
     given.iter().filter(|one| one.tag != 0).count()
 }
 
-/// Returns how many a span settles of those behind `start`.
-pub(crate) fn count_settled(items: &Vec<Delivery>, start: usize, span: Span) -> usize
-    requires start { start ≤ vec_len items.now }
-    requires rises { Rises given_tag (drop start items.now.items) }
-    ensures { result + length (kept tag_of span.tag span.multiple (waiting (drop start items.now.items))) ≡ length (waiting (drop start items.now.items)) }
-{
-    count_waiting(settled_of(behind(items, start), span))
-}
-
-/// Returns the entry of this delivery once it is settled.
+/// Returns the entry of `one` once it is settled: its tag is 0, and its `arrival` is the tag that it had.
 fn marked(one: &Delivery) -> Delivery
     ensures { result ≡ marked one.now }
 {
@@ -168,7 +159,7 @@ fn mark(items: &mut Vec<Delivery>, place: usize)
     mark_in(items, place);
 }
 
-/// Returns the entries behind `start`.
+/// Returns the entries from index `start` on.
 pub(crate) fn behind(items: &Vec<Delivery>, start: usize) -> &[Delivery]
     requires { start ≤ vec_len items.now }
     ensures { result.now ≡ drop start items.now.items }
@@ -176,8 +167,8 @@ pub(crate) fn behind(items: &Vec<Delivery>, start: usize) -> &[Delivery]
     &items[start..]
 }
 
-/// Removes what a span settles of those behind `start`: moves the start past it, or marks its entry. Returns the new
-/// start.
+/// Removes the deliveries that `span` settles among the entries from index `start` on: moves the start past them, or marks the one entry. Returns
+/// the new start.
 pub(crate) fn forget_in(items: &mut Vec<Delivery>, start: usize, span: Span) -> usize
     requires start { start ≤ vec_len items.old }
     requires rises { Rises given_tag (drop start items.old.items) }
@@ -202,7 +193,7 @@ pub(crate) fn forget_in(items: &mut Vec<Delivery>, start: usize, span: Span) -> 
     }
 }
 
-/// Moves the entries behind `start` that wait to the front, and removes all others.
+/// Moves the unacknowledged entries from index `start` on to the front, and removes all others.
 fn close_up(items: &mut Vec<Delivery>, start: usize)
     requires { start ≤ vec_len items.old }
     ensures items { items.new.items ≡ waiting (drop start items.old.items) }
@@ -229,7 +220,7 @@ pub(crate) fn close_if(items: &mut Vec<Delivery>, start: usize, is_wanted: bool)
     ensures start { result ≤ vec_len items.new }
     ensures order { (last : ℕ) → AreInOrder last (drop start items.old.items) → AreInOrder last (drop result items.new.items) }
     ensures waiting { waiting (drop result items.new.items) ≡ waiting (drop start items.old.items) }
-    // The length after it.
+    // The length after the call.
     ensures fewer { vec_len items.new ≤ vec_len items.old }
     ensures closed { is_wanted ≡ true → vec_len items.new ≡ length (waiting (drop start items.old.items)) }
     ensures capacity { vec_capacity items.new ≡ vec_capacity items.old }
@@ -241,7 +232,7 @@ pub(crate) fn close_if(items: &mut Vec<Delivery>, start: usize, is_wanted: bool)
     0
 }
 
-/// Makes a free slot by compacting, if there is none and not all entries wait. Returns the new start.
+/// Makes spare capacity for one entry by compacting the list, if it has none. Returns the new start.
 pub(crate) fn make_place(items: &mut Vec<Delivery>, start: usize) -> usize
     requires start { start ≤ vec_len items.old }
     requires room { length (waiting (drop start items.old.items)) < vec_capacity items.old }
@@ -249,7 +240,7 @@ pub(crate) fn make_place(items: &mut Vec<Delivery>, start: usize) -> usize
     ensures start { result ≤ vec_len items.new }
     ensures order { (last : ℕ) → AreInOrder last (drop start items.old.items) → AreInOrder last (drop result items.new.items) }
     ensures waiting { waiting (drop result items.new.items) ≡ waiting (drop start items.old.items) }
-    // The length after it: there is a free slot.
+    // The length after the call: there is a free slot.
     ensures fewer { vec_len items.new ≤ vec_len items.old }
     ensures place { vec_len items.new < vec_capacity items.new }
     ensures capacity { vec_capacity items.new ≡ vec_capacity items.old }

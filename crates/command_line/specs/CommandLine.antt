@@ -13,7 +13,7 @@ use Rattle.command_line.specs.declared.asked.Asked.TheVariants as asked
 
 -- ---- the subcommands and their arguments
 
--- the command has these arguments, and passes none of them on to its subcommands
+-- `command` has the arguments of `wanted`, and passes none of them on to its subcommands
 pub record IsCommand (command : Command) (wanted : App) : Type 0 where
   pub app : app_of command ≡ wanted
   pub local : (fields_of command).has_globals ≡ false
@@ -26,7 +26,7 @@ needed id = record (new_rule id) { required = true; action = Some Set }
 abbrev pub option : Text → Rule
 option id = record (new_rule id) { long = Some id; action = Some Set; value_names = 1 }
 
--- an option `--id` with a text that has to be given
+-- an option `--id VALUE` that has to be given
 abbrev pub needed_option : Text → Rule
 needed_option id = record (option id) { required = true }
 
@@ -106,7 +106,7 @@ wanted_of (asked.Serve definitions guarantees certificates listen turns reload) 
     Serve definitions.now guarantees.now certificates.now listen.now (option_map (λ n. n.now) turns) (option_map (λ n. n.now) reload)
 wanted_of (asked.Route definitions exchange key) = Route definitions.now exchange.now key.now
 
--- what `←` means below: if one text is missing there is no command
+-- the meaning of `←` below: if a text is missing, there is no command
 infixl 10 ◌>>=◌
 abbrev pub ◌>>=◌ : {A B : Type 0} → Option A → (A → Option B) → Option B
 o >>= f = option_and_then f o
@@ -149,7 +149,7 @@ route_of rows = do
   key ← first_of (codes "KEY") rows
   Some (Route definitions exchange key)
 
--- the command of the subcommand with this name and these arguments
+-- the command that the subcommand `named.0` asks for with the arguments `named.1`
 abbrev pub wanted_by : Text × List Row → Option Wanted
 wanted_by named =
     if bytes_eq named.0 (codes "check") then check_of named.1 else
@@ -161,19 +161,19 @@ wanted_by named =
 
 -- ---- the words
 
--- Clap finds no fault in the words, and they name this command with these arguments.
+-- clap finds no fault in `words`, and they ask for the command `wanted` with its arguments
 pub record AsksFor (words : List Text) (wanted : Wanted) : Type 0 where
   pub faultless : fault_of warren words ≡ []
   pub named : option_and_then wanted_by (subcommand_of warren words) ≡ Some wanted
 
--- the words ask for this command
+-- `words` ask for the command `asked`
 abbrev pub Asks : List Text → Asked → Type 0
 Asks words asked = AsksFor words (wanted_of asked)
 
--- the words ask for no command; a call for help is one case
+-- `words` ask for no command, as a call for help does
 abbrev pub AsksNothing : List Text → Type 0
 AsksNothing words = (wanted : Wanted) → AsksFor words wanted → ⊥
 
--- Why a command line is refused: an allocation failed, or the words ask for no command.
+-- `words` are refused with the error `e` only if an allocation failed, which its kind says, or if they ask for no command
 abbrev pub AreWordsRefused : List Text → Error → Type 0
 AreWordsRefused words e = (kind_of e ≡ OutOfMemory) ⊎ AsksNothing words

@@ -15,8 +15,8 @@ pub enum Asked<'a> {
         guarantees: &'a str,
         certificates: &'a str,
     },
-    /// Runs a script. If they are given, `definitions` replaces the built-in topology, and the broker runs under `guarantees` by
-    /// their `certificates`.
+    /// Runs a script. `definitions`, if given, replaces the built-in topology; `guarantees`, if given, are those that the broker runs
+    /// under, by their `certificates`.
     Replay {
         script: &'a str,
         definitions: Option<&'a str>,

@@ -265,7 +265,7 @@ fn verify<'a>(given: &ArgMatches<'a>) -> Option<Asked<'a>>
     })
 }
 
-/// Returns the command that the arguments of `replay` ask for.
+/// Returns the command that the arguments of `replay` ask for, or `None` if a needed one is missing.
 fn replay<'a>(given: &ArgMatches<'a>) -> Option<Asked<'a>>
     ensures { option_map wanted_of result ≡ replay_of (rows_of (found_of given.now)) }
 {
@@ -278,7 +278,7 @@ fn replay<'a>(given: &ArgMatches<'a>) -> Option<Asked<'a>>
     })
 }
 
-/// Returns the command that the arguments of `serve` ask for.
+/// Returns the command that the arguments of `serve` ask for, or `None` if a required argument is missing.
 fn serve<'a>(given: &ArgMatches<'a>) -> Option<Asked<'a>>
     ensures { option_map wanted_of result ≡ serve_of (rows_of (found_of given.now)) }
 {
@@ -296,7 +296,7 @@ fn serve<'a>(given: &ArgMatches<'a>) -> Option<Asked<'a>>
     })
 }
 
-/// Returns the command that the arguments of `route` ask for.
+/// Returns the command that the arguments of `route` ask for, or `None` if a needed one is missing.
 fn route<'a>(given: &ArgMatches<'a>) -> Option<Asked<'a>>
     ensures { option_map wanted_of result ≡ route_of (rows_of (found_of given.now)) }
 {
@@ -310,7 +310,7 @@ fn route<'a>(given: &ArgMatches<'a>) -> Option<Asked<'a>>
     })
 }
 
-/// Returns the command that the subcommand called `name` asks for.
+/// Returns the command that the subcommand called `name` asks for with the arguments `given`.
 fn named<'a>(name: &str, given: &ArgMatches<'a>) -> Option<Asked<'a>>
     ensures { option_map wanted_of result ≡ wanted_by (name.now, rows_of (found_of given.now)) }
 {
@@ -332,7 +332,7 @@ fn asked<'a>(matches: &ArgMatches<'a>) -> Option<Asked<'a>>
     named(name, given)
 }
 
-/// Parses `words` as `program` defines them.
+/// Parses `words` as a call of `program`. Fails as [`command`] does.
 fn ask<'a, S: AsStr>(program: &mut Command<'a>, words: &'a [S]) -> Result<Asked<'a>, Error>
     requires { app_of program.old ≡ warren }
     ensures { MatchResult result (λ asked. Asks (map S.text words.entry.now) asked) (λ e. AreWordsRefused (map S.text words.entry.now) e) }

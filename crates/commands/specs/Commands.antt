@@ -51,7 +51,7 @@ state_of s side = record { published = s.published; queue = entries_named s; con
 abbrev pub seen : Store → Open → Channel
 seen s ch = open_in (queue_names s.topology.queues) ch
 
--- Channel h of connection c changed from `ch` to `ch'`, and nothing else of connections and channels did.
+-- Channel `h` of connection `c` changed from `ch` to `ch'`, and no other channel and no connection changed.
 pub record Turns (c h : ℕ) (ch ch' : Channel) (old new : Side) : Type 0 where
   pub was : old.channel c h ≡ Some ch
   pub connections : (d : ℕ) → new.connection d ≡ old.connection d
@@ -66,7 +66,7 @@ pub record CanCommand (c h : ℕ) (s : Store) (ch : Open) : Type 0 where
 
 -- ---- commands
 
--- what a result means: there is no refusal and `Does` holds; or the command is refused for this; or an allocation failed, and there is no refusal
+-- what a result means: there is no refusal, and `Does` holds; or the command is refused for `against`; or there is no refusal, and an allocation failed
 abbrev pub ComesTo : Option step.Refusal → (Step → Type 0) → Result Step Stop → Type 0
 ComesTo against Does (Ok s) = (against ≡ None) × Does s
 ComesTo against Does (Err (Refused r)) = against ≡ Some (refusal_seen r)
@@ -82,7 +82,7 @@ Commands c h s ch m content result s' ch' = (old new : Side) → Turns c h (seen
     → ComesTo (refusal_of s.topology (state_of s old) (seen s ch) m)
     (λ x. Performs s.topology (state_of s old) c h (seen s ch) m content x.sends.items x.notes.items (state_of s' new)) result
 
--- the tag settles what it should, in this way, and this is sent and noted
+-- the deliveries that `tag` settles are settled as `how` says, with these sends and notes (`Settles` of the model's step)
 abbrev pub SettlesHere : Settlement → ℕ → ℕ → Store → Open → ℕ → Bool → List Send → List Send → List Note → Store → Open → Type 0
 SettlesHere how c h s ch tag multiple wanted sends notes s' ch' = (old new : Side) → Turns c h (seen s ch) (seen s' ch') old new
     → Settles s.topology how (state_of s old) c h (seen s ch) tag multiple wanted sends notes (state_of s' new)
@@ -92,7 +92,7 @@ abbrev pub GivesHere : ℕ → ℕ → Store → Open → Bool → ℕ → Taker
 GivesHere c h s ch no_ack place by s' ch' = (old new : Side) → Turns c h (seen s ch) (seen s' ch') old new
     → Is (after_delivery (state_of s old) c h (seen s ch) no_ack (queue_name s.topology place) by) (state_of s' new)
 
--- if a delivery can be made to this consumer it is made, and this is sent and noted
+-- if a delivery to the consumer `p` can be made, it is made, with these sends and notes
 abbrev pub DeliversHere : Pick → Store → Open → List Send → List Note → Store → Open → Type 0
 DeliversHere p s ch sends notes s' ch' = (old new : Side) → Turns p.connection p.channel (seen s ch) (seen s' ch') old new
     → IsPick (state_of s old) p → DeliversTo (state_of s old) p sends notes (state_of s' new)
@@ -105,7 +105,7 @@ WantsNone (Err Memory) = ⊥
 
 -- ---- commands that need more than their channel
 
--- the method asks for this, and the channel is open or not as that needs
+-- the method `m` asks for what the last argument says, and the channel is open, awaits close-ok, or is not open, as that requires
 abbrev pub AsksLeft : Topology → Option Channel → Method → asked.Left → Type 0
 AsksLeft t ch m left.OpenChannel = (reserved : Text) × (m ≡ method.ChannelOpen reserved) × (ch ≡ None)
 AsksLeft t ch m left.AnswerClose = (x : Close) × (m ≡ method.ChannelClose x) × IsSome ch × ((channel_or_new ch).is_closing ≡ false)
@@ -114,16 +114,16 @@ AsksLeft t ch m left.EndChannel = (m ≡ method.ChannelCloseOk) × IsSome ch
 AsksLeft t ch m left.CloseConnection = (x : Close) × (m ≡ method.ConnectionClose x)
 AsksLeft t ch m (left.FindQueue place d) = (m ≡ method.QueueDeclare d.now) × IsSome ch × IsQueuePlace t d.now.queue place
 
--- some method asks for this
+-- some method asks for `l`
 abbrev pub CanFinish : Topology → Option Channel → asked.Left → Type 0
 CanFinish t ch l = (m : Method) × AsksLeft t ch m l
 
--- Either the method is refused for this, or there is no refusal and it asks for this.
+-- what a decision means: there is no refusal, and the method asks for `l`; or the method is refused for `against`
 abbrev pub Asks : Topology → Option Channel → Method → Option step.Refusal → Result asked.Left Refusal → Type 0
 Asks t ch m against (Ok l) = (against ≡ None) × AsksLeft t ch m l
 Asks t ch m against (Err r) = (against ≡ Some (refusal_seen r)) × HasChannel r ch
 
--- what a result means: the command is performed, or it asks for this, or it is refused; or an allocation failed, and there is no refusal
+-- what a result means: the command is performed; or it asks for `l`; or it is refused for `against`; or an allocation failed, and there is no refusal
 abbrev pub Answers : Option step.Refusal → Topology → Broker → ℕ → ℕ → Option Channel → Method → Option Content → Result Done Stop → Broker → Type 0
 Answers against t old c h ch m content (Ok (Performed s)) new =
     (against ≡ None) × Performs t old c h (channel_or_new ch) m content s.sends.items s.notes.items new
@@ -131,12 +131,12 @@ Answers against t old c h ch m content (Ok (Left l)) new = (against ≡ None) ×
 Answers against t old c h ch m content (Err (Refused r)) new = (against ≡ Some (refusal_seen r)) × HasChannel r ch
 Answers against t old c h ch m content (Err Memory) new = against ≡ None
 
--- a command that is performed on its channel alone asks for nothing else
+-- the outcome of a command that needs only its channel: its step was performed, or it stopped
 abbrev pub done_of : Result Step Stop → Result Done Stop
 done_of (Ok s) = Ok (Performed s)
 done_of (Err stop) = Err stop
 
--- a command that asks for more, with its refusal, if any
+-- a command that needs more than its channel, or its refusal
 abbrev pub left_of : Result asked.Left Refusal → Result Done Stop
 left_of (Ok l) = Ok (Left l)
 left_of (Err r) = Err (Refused r)
@@ -166,7 +166,7 @@ IsNotPerformed (Ok (Performed s)) = ⊥
 IsNotPerformed (Ok (Left l)) = Unit {0}
 IsNotPerformed (Err stop) = Unit {0}
 
--- if the command was performed all that it sends is for connection c
+-- if the command was performed, all that it sends is for connection `c`
 abbrev pub IsAddressedBy : ℕ → Result Done Stop → Type 0
 IsAddressedBy c (Ok (Performed s)) = AreAddressed c s.sends.items
 IsAddressedBy c (Ok (Left l)) = Unit {0}

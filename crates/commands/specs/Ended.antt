@@ -19,7 +19,8 @@ OthersRunStill c old new = (d : ℕ) → (d == c) ≡ false → new.connection d
 abbrev pub AllRunStill : Broker → Broker → Type 0
 AllRunStill old new = (d : ℕ) → new.connection d ≡ None → old.connection d ≡ None
 
--- What is said of the end of connection `c`: it is no longer running, and each other still is; or each still is.
+-- What an `Ends` says of connections. `Connection`: `c` is no longer running, and each other that was running still is.
+-- `Consumers` and `Nothing`: each that was running still is.
 abbrev pub TellsEnd : ℕ → Ends → Broker → Broker → Type 0
 TellsEnd c Connection old new = (new.connection c ≡ None) × OthersRunStill c old new
 TellsEnd c Consumers old new = AllRunStill old new
@@ -35,27 +36,27 @@ AllConsumersStay old new = (c h : ℕ) (k : Consumer) → WasConsumer old c h k 
 abbrev pub OtherConsumersStay : ℕ → Broker → Broker → Type 0
 OtherConsumersStay c old new = (d h : ℕ) (k : Consumer) → (d == c) ≡ false → WasConsumer old d h k → WasConsumer new d h k
 
--- A consumer of this channel is gone, and each that is not on it still exists.
+-- A consumer of channel `h` of connection `c` is gone, and each consumer of another channel still exists.
 pub record LeavesChannel (c h : ℕ) (old new : Broker) : Type 0 where
   pub consumer : Consumer
   pub was : WasConsumer old c h consumer
   pub gone : WasConsumer new c h consumer → ⊥
   pub others : (d l : ℕ) (k : Consumer) → (d == c && l == h) ≡ false → WasConsumer old d l k → WasConsumer new d l k
 
--- What is said of consumers after an event of this channel: each still exists; or one of the channel is gone; or its connection ended.
+-- What an `Ends` says of consumers after an event of channel `h` of connection `c`: each still exists; or one of the channel is gone; or `c` ended.
 abbrev pub TellsStayOn : ℕ → ℕ → Ends → Broker → Broker → Type 0
 TellsStayOn c h Nothing old new = AllConsumersStay old new
 TellsStayOn c h Consumers old new = LeavesChannel c h old new
 TellsStayOn c h Connection old new = OtherConsumersStay c old new
 
--- consumers may be gone by this event: one of its channel is, or its connection was running and begins anew. All others still exist.
+-- the event ends consumers: one of its channel is gone; or its connection was running and begins anew. All others still exist.
 abbrev pub MayLeave : Event → Broker → Broker → Type 0
 MayLeave (Running c max k) old new = IsSome (old.connection c) × OtherConsumersStay c old new
 MayLeave (Command c h m content) old new = LeavesChannel c h old new
 MayLeave (TooLarge c h) old new = LeavesChannel c h old new
 MayLeave e old new = ⊥
 
--- What is said of consumers after an event: each still exists; or some of its channel may be gone; or its connection ended.
+-- What an `Ends` says of consumers after an event: each still exists; or some are gone as `MayLeave` says; or the event's connection ended.
 abbrev pub TellsStay : Event → Ends → Broker → Broker → Type 0
 TellsStay e Nothing old new = AllConsumersStay old new
 TellsStay e Consumers old new = MayLeave e old new
@@ -70,6 +71,6 @@ abbrev pub cancels_one : Channel → Method → Bool
 cancels_one ch (BasicCancel m) = is_in_use m.consumer_tag ch.consumers
 cancels_one ch _ = false
 
--- what an event ends that ends no connection: consumers, if `leaves`
+-- what an event that ends no connection ends: consumers if `leaves`, otherwise nothing
 abbrev pub ends_of : Bool → Ends
 ends_of leaves = if leaves then Consumers else Nothing

@@ -1,4 +1,4 @@
--- What is decided of a command before it is performed.
+-- What is decided about a command before it is performed.
 use Rattle.std.specs.Prelude.{◌≡◌, ◌<◌, ◌⊎◌, Bool, true, false, length, ℕ, Option, Some, None, Result, Ok, Err, IsSome, if◌then◌else◌, nat_lt}
 use Rattle.model.specs.Words.{Text}
 use Rattle.model.specs.Topology.{Topology}
@@ -25,18 +25,18 @@ refusal_seen refused.Ignored = step.Ignored
 refusal_seen (refused.Channel code) = Of_channel code
 refusal_seen (refused.Connection code) = Of_connection code
 
--- the refusal of a result, if it is one
+-- the refusal, if the result is one; otherwise `None`
 abbrev pub refused_by : {A : Type 0} → Result A Refusal → Option step.Refusal
 refused_by (Ok x) = None
 refused_by (Err r) = Some (refusal_seen r)
 
--- the refusal of a consume whose channel can't have this consumer
+-- the refusal of a consume, by the reason why its channel can't have the consumer
 abbrev pub refusal_by : ConsumerRefusal → Refusal
 refusal_by seat.InUse = refused.Connection 530
 refusal_by seat.TooMany = refused.Connection 506
 refusal_by seat.Spent = refused.Connection 541
 
--- why a consume is not performed, if its consumer was not made for this reason
+-- the reason that stops a consume, by the reason that its consumer was not made
 abbrev pub stop_of : ConsumeError → Stop
 stop_of (unseated.Refused r) = Refused (refusal_by r)
 stop_of unseated.Memory = Memory
@@ -52,7 +52,7 @@ abbrev pub IsIgnored : Topology → Broker → ℕ → ℕ → Method → Option
 IsIgnored t b c h m None = Unit {0}
 IsIgnored t b c h m (Some conn) = refusal t b conn h m (b.channel c h) ≡ Some step.Ignored
 
--- the same for a publish whose content is too large
+-- a publish whose content is too large is ignored: its connection is not running, or its channel awaits close-ok
 abbrev pub IsLargeIgnored : Broker → ℕ → ℕ → Option Connection → Type 0
 IsLargeIgnored b c h None = Unit {0}
 IsLargeIgnored b c h (Some conn) = refusal_of_large conn h (b.channel c h) ≡ step.Ignored
@@ -99,7 +99,7 @@ abbrev pub IsRequeued : Topology → Broker → ℕ → ℕ → Method → Optio
 IsRequeued t b c h m None = ⊥
 IsRequeued t b c h m (Some conn) = (is_requeueing m ≡ true) × (refusal t b conn h m (b.channel c h) ≡ None)
 
--- an event that never allocates: an opening, a loss, a pause and its end, what is ignored, and a rejection that requeues
+-- an event that never allocates: `Open`, `First`, a loss, a pause and its end, an ignored command, and a rejection that requeues
 abbrev pub WantsNoMemory : Topology → Broker → Event → Type 0
 WantsNoMemory t b (event.Open c) = Unit {0}
 WantsNoMemory t b (event.First c bytes) = Unit {0}

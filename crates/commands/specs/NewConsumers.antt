@@ -13,7 +13,7 @@ use Rattle.channels.specs.declared.consumers.Consumer.{Consumer}
 use Rattle.commands.specs.State.{Kept}
 use Rattle.commands.specs.declared.picks.Pick.{Pick}
 
--- the consumer with these numbers, if it exists
+-- the consumer with the connection, channel and number of `p`, if it exists
 abbrev pub consumer_kept : Kept → Pick → Option Consumer
 consumer_kept kept p = consumer_numbered (channel_of kept.connections p.connection p.channel) p.number
 
@@ -42,12 +42,12 @@ abbrev pub consumer_to_make : Kept → Event → Option Pick
 consumer_to_make kept (Command c h m content) = if is_consume m then next_consumer c h (running_in kept.connections c) else None
 consumer_to_make kept e = None
 
--- the queue from which a method consumes
+-- the name of the queue from which a method consumes, if it is a consume
 abbrev pub consumed_by : Method → Option Text
 consumed_by (BasicConsume m) = Some m.queue
 consumed_by _ = None
 
--- the queue from which an event consumes
+-- the name of the queue from which an event consumes, if it is a consume
 abbrev pub consumed : Event → Option Text
 consumed (Command c h m content) = consumed_by m
 consumed e = None

@@ -21,13 +21,13 @@ use Rattle.commands.specs.declared.picks.Taking.TheVariants.{Gone, Nothing, From
 abbrev pub IsPick : Broker → Pick → Type 0
 IsPick b p = (made : CanDeliver b p.connection) × (made.number ≡ p.channel) × (made.consumer.number ≡ p.number)
 
--- The delivery to this consumer is made: it is on the consumer's channel and has the consumer's tag.
+-- A delivery to the consumer `p` is made: it is on the channel of `p`, to the consumer with the number of `p`.
 pub record DeliversTo (old : Broker) (p : Pick) (sends : List Send) (notes : List Note) (new : Broker) : Type 0 where
   pub delivery : IsDelivery old p.connection sends notes new
   pub channel : delivery.made.number ≡ p.channel
   pub consumer : delivery.made.consumer.number ≡ p.number
 
--- A delivery to this consumer can be made from the queue at this index.
+-- A delivery to the consumer `p` can be made from the queue at index `place`.
 pub record IsPickFrom (kept : Kept) (place : ℕ) (p : Pick) : Type 0 where
   pub pick : IsPick (broker_of kept) p
   pub within : place < length (topology_kept kept).queues
@@ -49,7 +49,7 @@ IsNextPicked kept from None = (at : ℕ) (p : Pick) → from ≤ at → IsPickFr
 abbrev pub CannotTake : Broker → Pick → Type 0
 CannotTake b p = (ch : seen.Channel) (k : seen.Consumer) → MayTake b p.connection p.channel ch k → k.number ≡ p.number → ⊥
 
--- This consumer can take a message now, from a queue that exists, and no other consumer has its numbers.
+-- `k` is the consumer `p`; it can take a message now, from a queue that exists, and no other consumer has its numbers.
 pub record TakesAs (kept : Kept) (p : Pick) (k : Consumer) : Type 0 where
   pub channel : seen.Channel
   pub taker : MayTake (broker_of kept) p.connection p.channel channel (consumer_in (names_of kept) k)
@@ -62,7 +62,7 @@ abbrev pub TellsConsumer : Kept → Pick → Option Consumer → Type 0
 TellsConsumer kept p (Some k) = TakesAs kept p k
 TellsConsumer kept p None = CannotTake (broker_of kept) p
 
--- This consumer exists, of a queue that exists, and no other consumer has its numbers.
+-- `k` is the consumer `p`; it takes from a queue that exists, and no other consumer has its numbers.
 pub record IsKeptAs (kept : Kept) (p : Pick) (k : Consumer) : Type 0 where
   pub found : consumer_kept kept p ≡ Some k
   pub channel : seen.Channel

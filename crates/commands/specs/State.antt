@@ -18,7 +18,7 @@ pub record Kept : Type 0 where
 abbrev pub topology_kept : Kept → Topology
 topology_kept kept = kept.store.topology
 
--- the names of its queues, by index
+-- the names of the topology's queues, by index
 abbrev pub names_of : Kept → List Text
 names_of kept = queue_names kept.store.topology.queues
 
@@ -31,7 +31,7 @@ broker_of kept = record {
   channel = seen_in (names_of kept) kept.connections;
 }
 
--- the channel with these numbers, as a command finds it: a new one if it is not open
+-- channel `h` of connection `c` as a command finds it: a new one if it is not open
 abbrev pub channel_on : Kept → ℕ → ℕ → Channel
 channel_on kept c h = channel_or_new ((broker_of kept).channel c h)
 

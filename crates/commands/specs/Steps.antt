@@ -7,6 +7,6 @@ use Rattle.model.specs.declared.events.Send.{Send}
 use Rattle.model.specs.declared.notes.Note.{Note}
 use Rattle.commands.specs.State.{Kept, broker_of, channel_on, topology_kept}
 
--- the command is performed on this channel
+-- the command `m` is performed on channel `h` of connection `c`
 abbrev pub PerformsOn : Kept → ℕ → ℕ → Method → Option Content → List Send → List Note → Kept → Type 0
 PerformsOn old c h m content sends notes new = Performs (topology_kept old) (broker_of old) c h (channel_on old c h) m content sends notes (broker_of new)

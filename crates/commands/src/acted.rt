@@ -7,10 +7,10 @@ use replies::Step;
 pub enum Ends {
     /// Nothing: each connection that was running still is, and each consumer still exists.
     Nothing,
-    /// At least one consumer of its channel; or, if a connection that was running begins anew, all that it had. Each connection that
-    /// was running still is.
+    /// At least one consumer of the event's channel; or, if a running connection begins anew, all consumers that it had. Each connection
+    /// that was running still is.
     Consumers,
-    /// Its connection, with its consumers. Each other connection that was running still is.
+    /// The event's connection, with its consumers. Each other connection that was running still is.
     Connection,
 }
 

@@ -40,9 +40,9 @@ use std::alloc::Global;
 /// The outcome of a command that is not refused.
 #[derive(Drop)]
 pub(crate) enum Done<'a> {
-    /// It was performed.
+    /// The command was performed.
     Performed(Step),
-    /// It asks for something that needs more than its channel, and is not done yet.
+    /// The command asks for something that needs more than its channel, and is still to be done.
     Left(Left<'a>),
 }
 
@@ -56,7 +56,7 @@ fn performed<'a>(outcome: Result<Step, Stop>) -> Result<Done<'a>, Stop>
     }
 }
 
-/// Converts the decision on a command that is not done yet.
+/// Converts the decision on a command that needs more than its channel.
 fn left<'a>(asked: Result<Left<'a>, Refusal>) -> Result<Done<'a>, Stop>
     ensures { result ≡ left_of asked.entry }
 {

@@ -33,7 +33,7 @@ pub struct Core {
     connections: RunningConnections,
 }
 
-/// Written out so that a drop is one call.
+/// Not derived: a derived drop is expanded, and proved again, in each function that drops the value.
 impl Drop for Core {
     fn drop(self) {
         let Core {
@@ -137,7 +137,7 @@ impl Core {
         }
     }
 
-    /// Does what is left to do of a command that is not refused. Fails only if an allocation fails; nothing has changed then.
+    /// Does `left`, what a command asks for that needs more than its channel. Fails only if an allocation fails; nothing has changed then.
     fn finish(&mut self, alloc: Global, id: ChannelId, left: Left<'_>) -> Result<Acted, AllocError>
         requires agreed { IsAgreed (broker_of self.old) }
         requires runs { IsSome ((broker_of self.old).connection id.connection) }
@@ -251,10 +251,10 @@ impl Core {
         }
     }
 
-    /// Performs `event`, and returns what it sends and notes, and what it ends. Consumers are reported as ended only if one of the event's channel
-    /// did, or if a connection that was running begins anew. If the event's method can be encoded, each send is for the event's own connection, by
-    /// a method that can be encoded. Fails only if an allocation fails; nothing has changed then. An opening, a loss, a pause and its end, a command
-    /// that is ignored, and a rejection that requeues never allocate.
+    /// Performs `event`, and returns what it sends and notes, and what it ends. Consumers are reported as ended only if one on the event's channel
+    /// ended, or if a running connection begins anew. If the event's method can be encoded, each send is for the event's own connection, with a
+    /// method that can be encoded. Fails only if an allocation fails; nothing has changed then. The events `Open`, `First`, `Lose`, `Pause` and
+    /// `Resume`, an ignored command, and a rejection that requeues never allocate.
     pub fn step(&mut self, alloc: Global, event: &Event) -> Result<Acted, AllocError>
         requires agreed { IsAgreed (broker_of self.old) }
         requires asked { IsAsked event.now }

@@ -1,4 +1,4 @@
-//! Requeues what a connection held. It is found in what is unacknowledged on its channels: no queue is searched.
+//! Requeues the unacknowledged deliveries of a connection. Its channels list them: no queue is searched.
 
 ghost use Rattle.std.specs.Prelude.{◌≡◌, ℕ};
 ghost use Rattle.std.specs.Option.{option_copied};
@@ -10,8 +10,8 @@ use channels::RunningConnection;
 use depot::Depot;
 use model::ChannelId;
 
-/// Requeues what is unacknowledged on the channels of `connection`, channel by channel: each message is ready again in its place, and marked
-/// redelivered. Never allocates.
+/// Requeues the unacknowledged deliveries of `connection`, channel by channel: each message is ready again in its place, and marked redelivered.
+/// Never allocates.
 fn requeue_channels(depot: &mut Depot, connection: u64, running: &RunningConnection)
     requires { (h : ℕ) → AreWithin depot.old.topology (outstanding_on (channel_in running.now h)) }
     ensures { AreReturnedFrom connection 0 depot.old running.now.channels depot.new }
@@ -25,7 +25,7 @@ fn requeue_channels(depot: &mut Depot, connection: u64, running: &RunningConnect
     }
 }
 
-/// Does the same if the connection is running.
+/// Requeues the unacknowledged deliveries of `connection` if it is running, as [`requeue_channels`] does.
 pub(crate) fn requeue_all(depot: &mut Depot, connection: u64, running: Option<&RunningConnection>)
     requires { (h : ℕ) → AreWithin depot.old.topology (outstanding_on (channel_at (option_copied running) h)) }
     ensures { AreReturnedAt connection depot.old (option_copied running.entry) depot.new }

@@ -100,7 +100,7 @@ impl From<ConsumeError> for Stop {
     }
 }
 
-/// Refuses a limit by the size of messages, which is not implemented.
+/// Refuses a prefetch by the size of messages, which is not implemented.
 pub fn check_qos(qos: &Qos) -> Result<(), Refusal>
     ensures { refused_by result ≡ said.refusal_of_qos qos.now }
 {
@@ -111,7 +111,7 @@ pub fn check_qos(qos: &Qos) -> Result<(), Refusal>
     }
 }
 
-/// Returns the refusal of a method that no open channel performs. One that the server doesn't have yet is not implemented (540).
+/// Returns the refusal of a method that no open channel performs: 540 if the server doesn't implement it.
 pub fn refusal_of_other(method: &Method) -> Refusal
     requires { is_taken method.now ≡ false }
     ensures { (t : Handed) (b : Broker) (ch : Seen) → said.refusal_of t b ch method.now ≡ Some (refusal_seen result) }

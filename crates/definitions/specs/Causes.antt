@@ -40,14 +40,14 @@ pub record HasOneVhost (f : File) : Type 0 where
 
 -- ---- 4: distinct names
 
--- the users have distinct names, the queues have, and the exchanges have
+-- no two users have the same name, no two queues, and no two exchanges
 pub record HasNamesApart (f : File) : Type 0 where
   pub users : AreApart (user_names f)
   pub topology : NamesApart (topology_of f)
 
 -- ---- 5: the ends of bindings
 
--- the source and the destination of every binding exist; a destination of an unknown type counts as its source
+-- the source and the destination of every binding exist; a destination of an unknown type counts as the binding's source
 abbrev pub HasAllJoin : File → Type 0
 HasAllJoin f = AllJoin (topology_of f)
 
@@ -88,7 +88,7 @@ pub record IsSupported (f : File) : Type 0 where
 
 -- ---- 8: a length limit needs an overflow
 
--- the queue has an overflow, if it has a limit of messages or of bytes
+-- the queue has the overflow argument if it has a limit of messages or of bytes
 pub record SaysOverflow (q : QueueEntry) : Type 0 where
   pub messages : (n : ℕ) → q.arguments.max_length ≡ Some n → q.arguments.overflow ≡ None → ⊥
   pub bytes : (n : ℕ) → q.arguments.max_bytes ≡ Some n → q.arguments.overflow ≡ None → ⊥
@@ -117,7 +117,7 @@ pub record HasFew (f : File) : Type 0 where
 
 -- ---- 11: alternate and dead-letter exchanges
 
--- every alternate and dead-letter exchange exists, or is the default one if it is for dead letters
+-- every alternate exchange exists, and every dead-letter exchange exists or is the default one
 abbrev pub HasNamesLead : File → Type 0
 HasNamesLead f = NamesLead (topology_of f)
 
@@ -129,11 +129,11 @@ pub record PermitsAll (p : PermissionEntry) : Type 0 where
   pub write : p.write ≡ codes ".*"
   pub read : p.read ≡ codes ".*"
 
--- one of these permissions is of the user
+-- the user is one of `names`, the users of the permissions
 pub record IsPermitted (names : List Text) (u : UserEntry) : Type 0 where
   pub there : IsIn u.name names
 
--- the permission is of one of these users
+-- the user of the permission is one of `names`
 pub record IsOfUser (names : List Text) (p : PermissionEntry) : Type 0 where
   pub there : IsIn p.user names
 

@@ -52,7 +52,7 @@ file_of d = record {
   plain = d.plain;
 }
 
--- the reader returns what the value states, and refuses it only if it states nothing
+-- the reader returns the entries that the value states, or refuses the value: it states none, or an allocation failed
 abbrev pub GivesFile : Result Document FileCause → Option File → Type 0
 GivesFile (Ok d) o = o ≡ Some (file_of d)
 GivesFile (Err e) o = FailsJson e (o ≡ None)

@@ -8,7 +8,7 @@ use Rattle.definitions.specs.Causes.{IsClearBelow, IsTold}
 use Rattle.definitions.specs.States.{topology_of, users_of}
 use Rattle.definitions.specs.Reads.{IsDefinitionsFile, Stated}
 
--- parsing a file returns its entries, or the cause for which it is refused before any are known
+-- parsing a file returns its entries, or the cause for which it is refused before its entries are known
 abbrev pub OpensDefinitions : Result Document FileCause → List ℕ → Type 0
 OpensDefinitions (Ok d) bytes = IsDefinitionsFile bytes (file_of d)
 OpensDefinitions (Err bad) bytes = IsUnreadFile file_at bad bytes
@@ -18,13 +18,13 @@ abbrev pub JudgesFile : Result ⊤ FileCause → File → Type 0
 JudgesFile (Ok done) f = IsClearBelow 13 f
 JudgesFile (Err bad) f = IsTold bad f
 
--- no cause below 15 applies to the entries, and these are the topology and the users that they set up
+-- no cause below 15 applies to the entries, and `s` has the topology and the users that they set up
 pub record IsSettled (s : Stated) (f : File) : Type 0 where
   pub clear : IsClearBelow 15 f
   pub topology : s.topology ≡ topology_of f
   pub users : s.users ≡ users_of f
 
--- the entries are accepted and returned as what they set up, or the reported cause is the lowest-numbered one that applies
+-- the entries are accepted, and what they set up is returned; or the reported cause is the lowest-numbered one that applies
 abbrev pub StatesOrTells : Result Stated FileCause → File → Type 0
 StatesOrTells (Ok s) f = IsSettled s f
 StatesOrTells (Err bad) f = IsTold bad f

@@ -6,7 +6,7 @@ use Rattle.definitions.specs.File.{File}
 use Rattle.definitions.specs.Causes.{user_names}
 use Rattle.definitions.specs.States.{topology_of}
 
--- the names are those of the users, and the draft is the topology, of these entries
+-- `users` are the names of the file's users, and `draft` is the topology that its entries set up
 pub record AreLookedUp (f : File) (users : List Text) (draft : Topology) : Type 0 where
   pub names : users ≡ user_names f
   pub lists : draft ≡ topology_of f

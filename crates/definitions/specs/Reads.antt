@@ -8,7 +8,7 @@ use Rattle.definitions.specs.File.{File, file_at}
 use Rattle.definitions.specs.Causes.{IsClear}
 use Rattle.definitions.specs.States.{topology_of, users_of}
 
--- the file is JSON and states these entries
+-- the file is JSON and states the entries `f`
 abbrev pub IsDefinitionsFile : List ℕ → File → Type 0
 IsDefinitionsFile bytes f = IsFileOf file_at bytes f
 
@@ -29,7 +29,7 @@ pub record Stated : Type 0 where
   pub topology : Topology
   pub users : List User
 
--- No cause applies to the file, and this is what it sets up.
+-- No cause applies to the file, and `s` is what it sets up.
 pub record IsAccepted (s : Stated) (bytes : List ℕ) : Type 0 where
   pub free : (bad : FileCause) → IsFree bad bytes
   pub file : File

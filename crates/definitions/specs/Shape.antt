@@ -36,7 +36,7 @@ permission_entry_at d = do
   reads ← text_member (codes "read") d
   Some (record { user = user; vhost = vhost; configure = configure; write = write; read = reads })
 
--- the arguments of an exchange, and whether no other is given
+-- the one known argument of an exchange, `alternate-exchange`; `listed` says whether the exchange has no others
 unfoldable pub exchange_arguments_at : Data → Option ExchangeArguments
 exchange_arguments_at d = do
   stated ← arguments_member d
@@ -47,7 +47,7 @@ exchange_arguments_at d = do
 abbrev pub exchange_members : List (List ℕ)
 exchange_members = codes "name" ∷ codes "vhost" ∷ codes "type" ∷ codes "durable" ∷ codes "auto_delete" ∷ codes "internal" ∷ codes "arguments" ∷ []
 
--- an entry of `exchanges`, and whether it has only known members
+-- an entry of `exchanges`; `listed` says whether it has only known members
 unfoldable pub exchange_entry_at : Data → Option ExchangeEntry
 exchange_entry_at d = do
   name ← text_member (codes "name") d
@@ -72,7 +72,7 @@ abbrev pub queue_argument_names : List (List ℕ)
 queue_argument_names = codes "x-max-length" ∷ codes "x-max-length-bytes" ∷ codes "x-overflow"
     ∷ codes "x-dead-letter-exchange" ∷ codes "x-dead-letter-routing-key" ∷ []
 
--- the arguments of a queue, and whether no other is given
+-- the known arguments of a queue; `listed` says whether it has no others
 unfoldable pub queue_arguments_at : Data → Option QueueArguments
 queue_arguments_at d = do
   stated ← arguments_member d
@@ -94,7 +94,7 @@ queue_arguments_at d = do
 abbrev pub queue_members : List (List ℕ)
 queue_members = codes "name" ∷ codes "vhost" ∷ codes "durable" ∷ codes "auto_delete" ∷ codes "arguments" ∷ []
 
--- an entry of `queues`, and whether it has only known members
+-- an entry of `queues`; `listed` says whether it has only known members
 unfoldable pub queue_entry_at : Data → Option QueueEntry
 queue_entry_at d = do
   name ← text_member (codes "name") d
@@ -114,7 +114,7 @@ binding_listed_at d = do
   stated ← arguments_member d
   Some (has_only binding_members d && has_only [] stated)
 
--- an entry of `bindings`, and whether it has only known members and no argument
+-- an entry of `bindings`; `listed` says whether it has only known members and no argument
 unfoldable pub binding_entry_at : Data → Option BindingEntry
 binding_entry_at d = do
   source ← text_member (codes "source") d

@@ -65,7 +65,7 @@ hash_decoded (Err e) = None
 unfoldable pub hash_of : UserEntry → Option Text
 hash_of u = if bytes_eq u.hashing_algorithm (codes "rabbit_password_hashing_sha256") then hash_decoded (decode_of standard u.password_hash) else None
 
--- the user that an entry sets up; without a hash if the password is hashed in another way
+-- the user that an entry sets up; the hash is empty if the entry has none in the required form (`hash_of`)
 abbrev pub user_of : UserEntry → User
 user_of u = record { name = u.name; hash = unwrap_or (hash_of u) [] }
 

@@ -46,7 +46,7 @@ pub fn has_one_vhost(document: &Document) -> bool
 
 // ---- 4: distinct names
 
-/// Returns whether the users have distinct names, the queues have, and the exchanges have.
+/// Returns whether no two users, no two queues and no two exchanges have the same name.
 pub fn has_names_apart(
     document: &Document,
     users: &Directory<'_, UserEntry>,

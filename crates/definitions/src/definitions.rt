@@ -24,7 +24,7 @@ pub struct Definitions {
     users: Users,
 }
 
-/// Written out, so that dropping is one call.
+/// Not derived: a derived drop is expanded, and proved again, in each function that drops the value.
 impl Drop for Definitions {
     fn drop(self) {
         let Definitions {

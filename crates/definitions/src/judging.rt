@@ -60,7 +60,7 @@ impl<'a> Entries<'a> {
         }
     }
 
-    /// Fails with `cause`, below number 13, if it applies.
+    /// Fails with `cause`, whose number is below 13, if that cause applies.
     fn tell(&self, cause: FileCause) -> Result<(), FileCause>
         requires asked { cause_number cause < 13 }
         requires below { IsClearBelow (cause_number cause) self.now }

@@ -76,7 +76,7 @@ impl Entry for QueueEntry {
     }
 }
 
-/// Returns the destination of a binding. If the destination type is unknown it is the binding's own source.
+/// Returns the destination of a binding; for an unknown destination type the binding's own source.
 fn destination_of(entry: &BindingEntry) -> Result<Place, AllocError>
     ensures { IfOk result (λ p. p ≡ destination_of entry.now) }
 {
@@ -123,7 +123,7 @@ pub struct Parts {
     bindings: Vec<Binding>,
 }
 
-/// Written out, so that dropping is one call.
+/// Not derived: a derived drop is expanded, and proved again, in each function that drops the value.
 impl Drop for Parts {
     fn drop(self) {
         let Parts {
@@ -194,7 +194,8 @@ fn of_36(alloc: Global, bytes: &[u8]) -> Result<Option<Text>, AllocError>
     }
 }
 
-/// Returns the salt and hash of a user, 36 bytes, or `None` if the password is hashed in another way. Fails only if an allocation fails.
+/// Returns the salt and hash of a user, or `None` unless they are made with SHA-256 and written as 36 bytes in Base64. Fails only if an
+/// allocation fails.
 #[tactic(auto, unfolding(crate::specs::States::hash_of))]
 fn hash_of(alloc: Global, entry: &UserEntry) -> Result<Option<Text>, AllocError>
     ensures { IfOk result (λ o. o ≡ hash_of entry.now) }

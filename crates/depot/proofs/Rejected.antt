@@ -25,7 +25,7 @@ count_arriving a (x ∷ xs) o =
     count-cons (is_held_as a) x (xs ++ arriving o) ∙ ap (λ (n : ℕ). number (is_held_as a x) + n) (count_arriving a xs o) ∙ sym (count-cons (is_held_as a) x xs)
 
 -- a list is put in place of one that is seen alike
-seen-set : {B : Type 0} (f : List Entry → B) (lists : List (List Entry)) (i k : ℕ) (es : List Entry) → f es ≡ f (get_or lists i []) → f (get_or (set lists i es) k []) ≡ f (get_or lists k [])
+pub seen-set : {B : Type 0} (f : List Entry → B) (lists : List (List Entry)) (i k : ℕ) (es : List Entry) → f es ≡ f (get_or lists i []) → f (get_or (set lists i es) k []) ≡ f (get_or lists k [])
 seen-set f [] i k es e = refl
 seen-set f (xs ∷ xss) zero zero es e = e
 seen-set f (xs ∷ xss) zero (suc k) es e = refl
@@ -121,7 +121,7 @@ without_named s c h g d q whole apart lt place holder =
 
 -- a message that dies, and its dead letter
 dies_by : (s : Store) (q : DeclaredQueue) (m : Message) (d : Death) (queues : Text → List Entry) (x : Option Text) → IsStoreWhole s → ((r : Text) → entries_named (with_lists s (without d s.queues)) r ≡ queues r)
-    → MayHaveLetters s.topology q m d.turns.items x
+    → MayHaveLetters s.topology q m d.turns x
     → DiesBy s.topology q queues m (notes_of_outcomes (outcomes_of s.topology.queues d s.queues)) (entries_named (with_lists s (died s.topology.queues d s.queues))) x
 dies_by s q m d queues None whole same none =
     let w = without d s.queues in (
@@ -143,11 +143,11 @@ dies_by s q m d queues (Some exchange) whole same letters =
       targets = targets;
       routed = letters.plan.routed.picked;
       noted =
-          noted_by_names t way.Dead w exchange key letter d.turns.items letters.plan apart len
+          noted_by_names t way.Dead w exchange key letter d.turns letters.plan apart len
           ∙ ap (λ (content : Content). entry_notes t (listed (queue_names t.queues) w) (length content.body) m.number way.Dead targets) letters.marked.made
           ∙ notes_same t (listed (queue_names t.queues) w) queues same (length m.content.body) m.number targets;
       left = λ r.
-          entered_by_names t way.Dead w exchange key letter d.turns.items letters.plan r apart len
+          entered_by_names t way.Dead w exchange key letter d.turns letters.plan r apart len
           ∙ ap (λ (es : List Entry). es ++ comes_to t (listed (queue_names t.queues) w) letter r targets) (same r)
           ∙ ap (λ (es : List Entry). queues r ++ es)
           (come_same t (listed (queue_names t.queues) w) queues same letter r targets

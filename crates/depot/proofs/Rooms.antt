@@ -1,7 +1,6 @@
 -- Room that is promised, spent and given back.
-use Rattle.depot.proofs.Names.{◌≡◌, ℕ, zero, suc, ◌+◌, ◌<◌, ◌≤◌, List, [], ◌∷◌, ◌++◌, Bool, true, false, cond, length, get_or, set, take, filter, refl, sym, ap, subst, ◌∙◌, arith, All, inl, inr, ◌⊎◌, ◌||◌, Option, Some, None, eqb_tells, false≢true, get_or-set_other, get_or-set_same, take_more, slice_get, is_ready, ready_bytes, refuses, Message, is_held_as, Entry, Holder, Ready, DeclaredQueue, Line, ready_count, Death, PlannedTurn, arriving, places, room_at, no_line, times, times_in, CanTake, CanTakeAt, MakesRoom, SpendsRoom, GainsNone, AreEmptied, Promises}
+use Rattle.depot.proofs.Names.{◌≡◌, ℕ, zero, suc, ◌+◌, ◌<◌, ◌≤◌, List, [], ◌∷◌, ◌++◌, Bool, true, false, cond, length, get_or, set, take, filter, refl, sym, ap, subst, ◌∙◌, arith, inl, inr, ◌⊎◌, ◌||◌, Option, Some, None, Result, Ok, Err, OnOk, OnErr, eqb_tells, false≢true, get_or-set_other, get_or-set_same, take_more, slice_get, is_ready, ready_bytes, refuses, Message, is_held_as, Entry, Holder, Ready, DeclaredQueue, Line, ready_count, Arrival, arriving, arriving_at, room_at, no_line, times, CanTake, CanTakeAt, MakesAtMost, MakesRoom, SpendsRoom, GainsNone, AreEmptied}
 use Rattle.std.proofs.Common.{not}
-use Rattle.depot.proofs.Turning.{here_once}
 use Rattle.std.proofs.lemmas.Option.{slice_get_read}
 use Rattle.std.specs.Prelude.{◌==◌}
 use Rattle.model.specs.Broker.{is_at, limit_of}
@@ -32,7 +31,7 @@ few_arrive (Some m) = omega arith
 suc_first : (a b : ℕ) → suc (a + b) ≡ suc a + b
 suc_first a b = omega arith
 
-ready_arriving : (es : List Entry) (o : Option Message) → ready_count (es ++ arriving o) ≡ ready_count es + length (arriving o)
+pub ready_arriving : (es : List Entry) (o : Option Message) → ready_count (es ++ arriving o) ≡ ready_count es + length (arriving o)
 ready_arriving [] None = refl
 ready_arriving [] (Some m) = refl
 ready_arriving (e ∷ es) o = go (is_ready e) (ready_arriving es o)
@@ -82,10 +81,6 @@ has_room q l size had takes = elim had [
   ])
 ]
 
--- one push more has room
-pub promised : (limit : Option ℕ) (old new : Line) → is_at limit (ready_count old.entries + old.room) ≡ false → new.room ≡ old.room + 1 → (n : ℕ) → CanTake limit old n → CanTake limit new (n + 1)
-promised limit old new below more n had = elim had [ inl h ↦ inl (omega (arith, more, h)) | inr h ↦ absurd (false≢true (sym below ∙ h)) ]
-
 -- ---- the queue at a place
 
 pub takes_here : (qs : List DeclaredQueue) (lines : List Line) (i : ℕ) (q : DeclaredQueue) (l : Line) (n : ℕ) → i < length qs → q ≡ get_or qs i q → l ≡ get_or lines i no_line → CanTakeAt qs lines i n → CanTake q.limit l n
@@ -101,18 +96,6 @@ takes_there qs lines i q l n lt in_lines at had =
 takes_other : (qs : List DeclaredQueue) (lines : List Line) (i k : ℕ) (l : Line) (n : ℕ) → (k ≡ i → ⊥) → CanTakeAt qs lines k n → CanTakeAt qs (set lines i l) k n
 takes_other qs lines i k l n ne had = subst (λ (x : Line). CanTake (limit_of (slice_get qs k)) x n) (sym (get_or-set_other lines i k l no_line ne)) had
 
-pub makes_write : (qs : List DeclaredQueue) (lines : List Line) (i : ℕ) (q : DeclaredQueue) (old new : Line) → i < length qs → i < length lines → q ≡ get_or qs i q → old ≡ get_or lines i no_line
-    → ((n : ℕ) → CanTake q.limit old n → CanTake q.limit new (n + 1)) → MakesRoom qs lines (set lines i new) (λ (k : ℕ). cond (k == i) 1 0)
-makes_write qs lines i q old new lt in_lines at is step k n had = elim (eqb_tells k i) [
-  | inl e ↦
-      (let here = takes_here qs lines i q old n lt at is (subst (λ (j : ℕ). CanTakeAt qs lines j n) e.1 had) in
-      let there = takes_there qs lines i q new (n + 1) lt in_lines at (step n here) in
-      subst (λ (b : Bool). CanTakeAt qs (set lines i new) k (n + cond b 1 0)) (sym e.0) (subst (λ (j : ℕ). CanTakeAt qs (set lines i new) j (n + 1)) (sym e.1) there))
-  | inr e ↦
-      (let none : n ≡ n + one_if (k == i) = let z = ap one_if e.0 in omega (arith, z) in
-      subst (λ (m : ℕ). CanTakeAt qs (set lines i new) k m) none (takes_other qs lines i k new n e.1 had))
-]
-
 pub spends_write : (qs : List DeclaredQueue) (lines : List Line) (i : ℕ) (q : DeclaredQueue) (old new : Line) → i < length qs → i < length lines → q ≡ get_or qs i q → old ≡ get_or lines i no_line
     → ((n : ℕ) → CanTake q.limit old (n + 1) → CanTake q.limit new n) → SpendsRoom qs lines (set lines i new) (λ (k : ℕ). cond (k == i) 1 0)
 spends_write qs lines i q old new lt in_lines at is step k n had = elim (eqb_tells k i) [
@@ -123,19 +106,6 @@ spends_write qs lines i q old new lt in_lines at is step k n had = elim (eqb_tel
   | inr e ↦
       (let none : n + one_if (k == i) ≡ n = let z = ap one_if e.0 in omega (arith, z) in
       takes_other qs lines i k new n e.1 (subst (λ (m : ℕ). CanTakeAt qs lines k m) none had))
-]
-
--- a queue is written with as many ready messages and as much room
-pub takes_write : (qs : List DeclaredQueue) (lines : List Line) (i k n : ℕ) (old new : Line) → i < length lines → old ≡ get_or lines i no_line → new.room ≡ old.room → ready_count new.entries ≡ ready_count old.entries
-    → CanTakeAt qs lines k n → CanTakeAt qs (set lines i new) k n
-takes_write qs lines i k n old new in_lines is room ready had = elim (eqb_tells k i) [
-  | inl e ↦
-      (let limit = limit_of (slice_get qs i) in
-      let here : CanTake limit old n = subst (λ (x : Line). CanTake limit x n) (sym is) (subst (λ (j : ℕ). CanTakeAt qs lines j n) e.1 had) in
-      let sum : ready_count new.entries + new.room ≡ ready_count old.entries + old.room = omega (arith, room, ready) in
-      let now : CanTake limit new n = elim here [ inl h ↦ inl (omega (arith, room, h)) | inr h ↦ inr (ap (is_at limit) sum ∙ h) ] in
-      subst (λ (j : ℕ). CanTakeAt qs (set lines i new) j n) (sym e.1) (subst (λ (x : Line). CanTake limit x n) (sym (get_or-set_same lines i new no_line in_lines)) now))
-  | inr e ↦ takes_other qs lines i k new n e.1 had
 ]
 
 room_other : (lines : List Line) (i k : ℕ) (l : Line) → (k ≡ i → ⊥) → room_at (set lines i l) k ≡ room_at lines k
@@ -155,39 +125,7 @@ gains_write lines i old new lt is le k = elim (eqb_tells k i) [
   | inr e ↦ (let same = room_other lines i k new e.1 in omega (arith, same))
 ]
 
-pub promises_write : (lines : List Line) (i : ℕ) (old new : Line) (r s : List ℕ) → i < length lines → old ≡ get_or lines i no_line → new.room ≤ old.room + 1 → ((k : ℕ) → times k r ≤ times k s)
-    → ((n : ℕ) → i < n → All (λ (j : ℕ). j < n) r → All (λ (j : ℕ). j < n) s) → (old.room ≡ 0 → 0 < new.room → 0 < times i s) → Promises lines (set lines i new) r s (λ (k : ℕ). cond (k == i) 1 0)
-promises_write lines i old new r s lt is few kept within named = record {
-  kept = kept;
-  within = within (length lines) lt;
-  named = λ k none some. elim (eqb_tells k i) [
-    | inl e ↦
-        (let was = ap (λ (x : Line). x.room) is in
-        let at = ap (λ (j : ℕ). room_at lines j) e.1 in
-        let there = ap (λ (j : ℕ). room_at (set lines i new) j) e.1 in
-        let here = room_here lines i new lt in
-        let told = named (omega (arith, none, was, at)) (omega (arith, some, there, here)) in
-        subst (λ (j : ℕ). 0 < times j s) (sym e.1) told)
-    | inr e ↦ (let same = room_other lines i k new e.1 in absurd (omega (arith, none, some, same)))
-  ];
-  few = λ k. elim (eqb_tells k i) [
-    | inl e ↦
-        (let one = ap one_if e.0 in
-        let was = ap (λ (x : Line). x.room) is in
-        let at = ap (λ (j : ℕ). room_at lines j) e.1 in
-        let there = ap (λ (j : ℕ). room_at (set lines i new) j) e.1 in
-        let here = room_here lines i new lt in
-        omega (arith, few, one, was, at, there, here))
-    | inr e ↦ (let same = room_other lines i k new e.1 in omega (arith, same))
-  ];
-}
-
 -- ---- one step after another
-
-pub makes_more : (qs : List DeclaredQueue) (a b c : List Line) (m s o : ℕ → ℕ) → ((k : ℕ) → o k ≡ m k + s k) → MakesRoom qs a b m → MakesRoom qs b c s → MakesRoom qs a c o
-makes_more qs a b c m s o sum first next k n had =
-    let all = sum k in
-    subst (λ (j : ℕ). CanTakeAt qs c k j) (omega (arith, all)) (next k (n + m k) (first k n had))
 
 pub gains_more : (a b c : List Line) → GainsNone a b → GainsNone b c → GainsNone a c
 gains_more a b c first next k = let f = first k in let n = next k in omega (arith, f, n)
@@ -204,74 +142,85 @@ emptied_one lines i none k some = elim (eqb_tells k i) [
   | inr e ↦ (let z = ap one_if e.0 in absurd (omega (arith, z, some)))
 ]
 
-pub promises_none : (a : List Line) (r : List ℕ) (m : ℕ → ℕ) → Promises a a r r m
-promises_none a r m = record {
-  kept = λ k. omega arith;
-  within = λ all. all;
-  named = λ k none some. absurd (omega (arith, none, some));
-  few = λ k. omega arith;
-}
-
-pub promises_then : (a b c : List Line) (r s t : List ℕ) (m n o : ℕ → ℕ) → length b ≡ length a → ((k : ℕ) → m k + n k ≤ o k) → Promises a b r s m → Promises b c s t n → Promises a c r t o
-promises_then a b c r s t m n o len sum first next = record {
-  kept = λ k. let f = first.kept k in let g = next.kept k in omega (arith, f, g);
-  within = λ all. subst (λ (x : ℕ). All (λ (i : ℕ). i < x) t) len (next.within (subst (λ (x : ℕ). All (λ (i : ℕ). i < x) s) (sym len) (first.within all)));
-  named = λ k none some. elim (zero_or (room_at b k)) [
-    | inl still ↦ next.named k still some
-    | inr made ↦ (let had = first.named k none made in let kept = next.kept k in omega (arith, had, kept))
-  ];
-  few = λ k. let le = sum k in let f = first.few k in let g = next.few k in omega (arith, le, f, g);
-}
-
--- room of before is left, and none more
-pub settled_room : (a b c d e : List Line) (r : List ℕ) (m : ℕ → ℕ) → GainsNone a b → AreEmptied b m → Promises b c [] r m → GainsNone c d → GainsNone d e → AreEmptied e (λ (k : ℕ). times k r) → GainsNone a e
-settled_room a b c d e r m cleared none made spent back emptied k =
-    let ab = cleared k in let cd = spent k in let de = back k in
-    elim (zero_or (m k)) [
-      | inl other ↦ (let bc = made.few k in omega (arith, other, ab, bc, cd, de))
-      | inr led ↦
-          (let gone = none k led in
-          elim (zero_or (room_at c k)) [
-            | inl left ↦ omega (arith, left, cd, de)
-            | inr some ↦ (let last = emptied k (made.named k gone some) in omega (arith, last))
-          ])
-    ]
-
 -- ---- how often a place is one of the first
 
-pub times_end : (k : ℕ) (is : List ℕ) (i : ℕ) → times k (is ++ i ∷ []) ≡ times k is + cond (k == i) 1 0
-times_end k [] i = omega arith
-times_end k (x ∷ xs) i = let more = times_end k xs i in omega (arith, more)
+-- ---- room for dead letters
 
-pub times_here : (i : ℕ) (is : List ℕ) → 0 < times i (is ++ i ∷ [])
-times_here i is = let all = times_end i is i in let one = here_once i [] in omega (arith, all, one)
+pub makes_write : (lines : List Line) (i : ℕ) (old new : Line) → i < length lines → old ≡ get_or lines i no_line → new.room ≡ old.room + 1 → MakesRoom lines (set lines i new) (λ (k : ℕ). cond (k == i) 1 0)
+makes_write lines i old new lt is one k = elim (eqb_tells k i) [
+  | inl e ↦
+      (let some = ap one_if e.0 in
+      let was = ap (λ (x : Line). x.room) is in
+      let at = ap (λ (j : ℕ). room_at lines j) e.1 in
+      let there = ap (λ (j : ℕ). room_at (set lines i new) j) e.1 in
+      let here = room_here lines i new lt in
+      omega (arith, one, some, was, at, there, here))
+  | inr e ↦ (let same = room_other lines i k new e.1 in let none = ap one_if e.0 in omega (arith, same, none))
+]
 
-pub times_next : (k : ℕ) (is : List ℕ) (i : ℕ) → i < length is → times k (take (i + 1) is) ≡ times k (take i is) + cond (k == get_or is i 0) 1 0
-times_next k is i lt = ap (times k) (take_more is i 0 lt) ∙ times_end k (take i is) (get_or is i 0)
+pub most_write : (lines : List Line) (i : ℕ) (old new : Line) → i < length lines → old ≡ get_or lines i no_line → new.room ≤ old.room + 1 → MakesAtMost lines (set lines i new) (λ (k : ℕ). cond (k == i) 1 0)
+most_write lines i old new lt is few k = elim (eqb_tells k i) [
+  | inl e ↦
+      (let some = ap one_if e.0 in
+      let was = ap (λ (x : Line). x.room) is in
+      let at = ap (λ (j : ℕ). room_at lines j) e.1 in
+      let there = ap (λ (j : ℕ). room_at (set lines i new) j) e.1 in
+      let here = room_here lines i new lt in
+      omega (arith, few, some, was, at, there, here))
+  | inr e ↦ (let same = room_other lines i k new e.1 in omega (arith, same))
+]
 
-turns_end : (k : ℕ) (ts : List PlannedTurn) (t : PlannedTurn) → times k (places (ts ++ t ∷ [])) ≡ times k (places ts) + cond (k == t.place) 1 0
-turns_end k [] t = omega arith
-turns_end k (x ∷ xs) t = let more = turns_end k xs t in omega (arith, more)
+-- one push more has room, or none
+pub one_more : {X E : Type 0} (r : Result X E) (new old : ℕ) → OnOk r (new ≡ old + 1) → OnErr r (new ≡ old) → new ≤ old + 1
+one_more (Ok x) new old more same = omega (arith, more)
+one_more (Err e) new old more same = omega (arith, same)
 
-pub turns_next : (k : ℕ) (ts : List PlannedTurn) (i : ℕ) (t : PlannedTurn) → i < length ts → t ≡ get_or ts i t → times k (places (take (i + 1) ts)) ≡ times k (places (take i ts)) + cond (k == t.place) 1 0
-turns_next k ts i t lt at =
-    ap (λ (xs : List PlannedTurn). times k (places xs)) (take_more ts i t lt) ∙ turns_end k (take i ts) (get_or ts i t) ∙ ap (λ (x : PlannedTurn). times k (places (take i ts)) + cond (k == x.place) 1 0) (sym at)
+-- ---- dead letters, one after another
+
+pub arriving_at-length : (as' : List Arrival) → length (arriving_at as') ≡ length as'
+arriving_at-length [] = refl
+arriving_at-length (a ∷ as') = ap suc (arriving_at-length as')
+
+pub arrives_at : (as' : List Arrival) (i : ℕ) (a : Arrival) → i < length as' → a ≡ get_or as' i a → get_or (arriving_at as') i 0 ≡ a.place
+arrives_at as' i a lt is = at as' i a lt ∙ ap (λ (b : Arrival). b.place) (sym is)
+  where
+    at : (bs : List Arrival) (j : ℕ) (d : Arrival) → j < length bs → get_or (arriving_at bs) j 0 ≡ (get_or bs j d).place
+    at [] j d h = absurd (omega arith)
+    at (b ∷ bs) zero d h = refl
+    at (b ∷ bs) (suc j) d h = at bs j d (omega arith)
+
+arrivals_end : (k : ℕ) (as' : List Arrival) (a : Arrival) → times k (arriving_at (as' ++ a ∷ [])) ≡ times k (arriving_at as') + cond (k == a.place) 1 0
+arrivals_end k [] a = omega arith
+arrivals_end k (b ∷ bs) a = let more = arrivals_end k bs a in omega (arith, more)
+
+pub arrivals_next : (k : ℕ) (as' : List Arrival) (i : ℕ) (a : Arrival) → i < length as' → a ≡ get_or as' i a → times k (arriving_at (take (i + 1) as')) ≡ times k (arriving_at (take i as')) + cond (k == a.place) 1 0
+arrivals_next k as' i a lt at =
+    ap (λ (xs : List Arrival). times k (arriving_at xs)) (take_more as' i a lt) ∙ arrivals_end k (take i as') (get_or as' i a)
+    ∙ ap (λ (x : Arrival). times k (arriving_at (take i as')) + cond (k == x.place) 1 0) (sym at)
 
 -- no more often than one of all
-pub turns_fewer : (k : ℕ) (ts : List PlannedTurn) (i : ℕ) → times k (places (take i ts)) ≤ times k (places ts)
-turns_fewer k ts zero = omega arith
-turns_fewer k [] (suc i) = omega arith
-turns_fewer k (t ∷ ts) (suc i) = let more = turns_fewer k ts i in omega (arith, more)
+pub arrivals_fewer : (k : ℕ) (as' : List Arrival) (i : ℕ) → times k (arriving_at (take i as')) ≤ times k (arriving_at as')
+arrivals_fewer k as' zero = omega arith
+arrivals_fewer k [] (suc i) = omega arith
+arrivals_fewer k (a ∷ as') (suc i) = let more = arrivals_fewer k as' i in omega (arith, more)
 
-deaths_end : (k : ℕ) (ds : List Death) (d : Death) → times_in k (ds ++ d ∷ []) ≡ times_in k ds + times k (places d.turns.items)
-deaths_end k [] d = omega arith
-deaths_end k (x ∷ xs) d = let more = deaths_end k xs d in omega (arith, more)
+-- a queue is written with as much room
+pub same_room : (lines : List Line) (i : ℕ) (l : Line) → l.room ≡ (get_or lines i no_line).room → (k : ℕ) → room_at (set lines i l) k ≡ room_at lines k
+same_room [] i l e k = refl
+same_room (x ∷ xs) zero l e zero = e
+same_room (x ∷ xs) zero l e (suc k) = refl
+same_room (x ∷ xs) (suc i) l e zero = refl
+same_room (x ∷ xs) (suc i) l e (suc k) = same_room xs i l e k
 
-pub deaths_next : (k : ℕ) (ds : List Death) (i : ℕ) (d : Death) → i < length ds → d ≡ get_or ds i d → times_in k (take (i + 1) ds) ≡ times_in k (take i ds) + times k (places d.turns.items)
-deaths_next k ds i d lt at =
-    ap (times_in k) (take_more ds i d lt) ∙ deaths_end k (take i ds) (get_or ds i d) ∙ ap (λ (x : Death). times_in k (take i ds) + times k (places x.turns.items)) (sym at)
-
-pub deaths_fewer : (k : ℕ) (ds : List Death) (i : ℕ) → times_in k (take i ds) ≤ times_in k ds
-deaths_fewer k ds zero = omega arith
-deaths_fewer k [] (suc i) = omega arith
-deaths_fewer k (d ∷ ds) (suc i) = let more = deaths_fewer k ds i in omega (arith, more)
+-- a queue is written with room for one less
+pub spent_write : (lines : List Line) (i : ℕ) (old new : Line) → i < length lines → old ≡ get_or lines i no_line → new.room + 1 ≡ old.room → (k : ℕ) → room_at (set lines i new) k + times k (i ∷ []) ≡ room_at lines k
+spent_write lines i old new lt is one k = elim (eqb_tells k i) [
+  | inl e ↦
+      (let some = ap one_if e.0 in
+      let was = ap (λ (x : Line). x.room) is in
+      let at = ap (λ (j : ℕ). room_at lines j) e.1 in
+      let there = ap (λ (j : ℕ). room_at (set lines i new) j) e.1 in
+      let here = room_here lines i new lt in
+      omega (arith, one, some, was, at, there, here))
+  | inr e ↦ (let same = room_other lines i k new e.1 in let none = ap one_if e.0 in omega (arith, same, none))
+]

@@ -1,5 +1,5 @@
 -- Dead-lettering queue by queue, by the queues' indices.
-use Rattle.std.specs.Prelude.{◌≡◌, ◌<◌, ◌+◌, ℕ, List, [], ◌∷◌, ◌++◌, length, filter, find, not, All, AllPairs, Option, Some, None, slice_index_or, slice_set}
+use Rattle.std.specs.Prelude.{◌≡◌, ◌<◌, ℕ, List, [], ◌∷◌, ◌++◌, length, map, All, filter, find, not, Option, Some, None, slice_index_or, slice_set}
 use Rattle.model.specs.Words.{Text}
 use Rattle.model.specs.Topology.{Topology}
 use Rattle.model.specs.Routing.{key_after}
@@ -16,12 +16,24 @@ use Rattle.model.specs.declared.notes.Way.TheVariants as way
 use Rattle.exchange_graph.specs.Marks.{queue_name}
 use Rattle.depot.specs.Marked.{IsMarked}
 use Rattle.model.specs.declared.deliveries.Delivery.{Delivery}
-use Rattle.depot.specs.declared.plans.Death.{Death}
 use Rattle.depot.specs.declared.turns.PlannedTurn.{PlannedTurn}
 use Rattle.model.specs.Placed.{holder_of_delivery}
-use Rattle.depot.specs.Turns.{TurnOutcome, outcomes, all_entered, notes_of_outcomes, places, times, IsPlan}
+use Rattle.depot.specs.Turns.{TurnOutcome, outcomes, turn_at, arriving, all_entered, notes_of_outcomes, IsPlan}
+use Rattle.depot.specs.Settled.{left_at}
+use Rattle.depot.specs.Tallies.{AreTallied, arrivals_at}
+use Rattle.depot.specs.declared.arrivals.Arrival.{Arrival}
+use Rattle.depot.specs.declared.plans.Letter.{Letter}
+use Rattle.depot.specs.declared.tallies.Tally.{Tally}
+use Rattle.model.specs.declared.messages.Holder.{Holder}
 
 -- ---- planning
+
+-- A message that dies in the queue at index `place`: who held it, the note that it leaves, and the turns of its dead letter.
+pub record Death : Type 0 where
+  pub place : ℕ
+  pub holder : Holder
+  pub note : Note
+  pub turns : List PlannedTurn
 
 -- The turns of the dead letter of a message that dies in queue `q`, which is sent to this exchange.
 pub record AreDeadLetters (t : Topology) (q : DeclaredQueue) (m : Message) (turns : List PlannedTurn) (exchange : Text) : Type 0 where
@@ -29,23 +41,23 @@ pub record AreDeadLetters (t : Topology) (q : DeclaredQueue) (m : Message) (turn
   pub marked : IsMarked q.name m.exchange m.content content
   pub plan : IsPlan t exchange (key_after q.dead_letter_key m.key) (dead_letter m exchange (key_after q.dead_letter_key m.key) content) turns
 
--- the turns of the dead letter; none if the queue has no dead-letter exchange
+-- `turns` are those of the dead letter of `m`, which dies in queue `q`; none if there is no dead-letter exchange
 abbrev pub MayHaveLetters : Topology → DeclaredQueue → Message → List PlannedTurn → Option Text → Type 0
 MayHaveLetters t q m turns None = turns ≡ []
 MayHaveLetters t q m turns (Some exchange) = AreDeadLetters t q m turns exchange
 
--- the turns of the dead letter of a message that dies in the queue at this index
+-- `turns` are those of the dead letter of `m`, which dies in the queue at index `place`
 abbrev pub LettersAt : Topology → ℕ → Message → List PlannedTurn → Type 0
 LettersAt t place m turns = (q : DeclaredQueue) → q ≡ slice_index_or t.queues place q → MayHaveLetters t q m turns q.dead_letter_exchange
 
--- The death of a message that was given out.
+-- `d` is the planned death of the entry `e`, which was given out as delivery `g` of channel `h` of connection `c`.
 pub record IsDeathOf (t : Topology) (c h : ℕ) (g : Delivery) (e : Entry) (d : Death) : Type 0 where
   pub place : d.place ≡ g.queue
   pub holder : d.holder ≡ holder_of_delivery c h g
   pub note : d.note ≡ Left e.message.number (queue_name t g.queue) Rejected
-  pub letters : LettersAt t g.queue e.message d.turns.items
+  pub letters : LettersAt t g.queue e.message d.turns
 
--- the death of this message; none if it is not there
+-- `deaths` has the planned death of the entry, if there is one, and nothing else
 abbrev pub Plans : Topology → ℕ → ℕ → Delivery → Option Entry → List Death → Type 0
 Plans t c h g None deaths = deaths ≡ []
 Plans t c h g (Some e) deaths = (d : Death) × (deaths ≡ d ∷ []) × IsDeathOf t c h g e d
@@ -54,11 +66,11 @@ Plans t c h g (Some e) deaths = (d : Death) × (deaths ≡ d ∷ []) × IsDeathO
 abbrev pub given_at : ℕ → ℕ → List (List Entry) → Delivery → Option Entry
 given_at c h entries g = find (is_held_as (holder_of_delivery c h g)) (slice_index_or entries g.queue [])
 
--- the death of the message of delivery `g`, if it is still held
+-- `deaths` has the planned death of the message of delivery `g`, if it is still held, and nothing else
 abbrev pub PlansAt : Topology → ℕ → ℕ → List (List Entry) → Delivery → List Death → Type 0
 PlansAt t c h entries g deaths = Plans t c h g (given_at c h entries g) deaths
 
--- the deaths of all messages of these deliveries that are still held
+-- `deaths` are the planned deaths of the messages of the deliveries `gs`, as far as the messages are still held
 abbrev pub ArePlanned : Topology → ℕ → ℕ → List (List Entry) → List Delivery → List Death → Type 0
 ArePlanned t c h entries [] deaths = deaths ≡ []
 ArePlanned t c h entries (g ∷ gs) deaths =
@@ -70,9 +82,9 @@ ArePlanned t c h entries (g ∷ gs) deaths =
 abbrev pub without : Death → List (List Entry) → List (List Entry)
 without d entries = slice_set entries d.place (filter (λ (e : Entry). not (is_held_as d.holder e)) (slice_index_or entries d.place []))
 
--- what becomes of its dead letter at each routed queue
+-- the outcome of the dead letter of `d` at each queue that it is routed to
 abbrev pub outcomes_of : List DeclaredQueue → Death → List (List Entry) → List TurnOutcome
-outcomes_of queues d entries = outcomes way.Dead queues d.turns.items (without d entries)
+outcomes_of queues d entries = outcomes way.Dead queues d.turns (without d entries)
 
 -- the queues after a death
 abbrev pub died : List DeclaredQueue → Death → List (List Entry) → List (List Entry)
@@ -82,37 +94,95 @@ died queues d entries = all_entered (outcomes_of queues d entries) (without d en
 abbrev pub death_notes : List DeclaredQueue → Death → List (List Entry) → List Note
 death_notes queues d entries = d.note ∷ notes_of_outcomes (outcomes_of queues d entries)
 
--- the queues after these deaths, one after another
+-- the queues after the given deaths, one after another
 abbrev pub died_all : List DeclaredQueue → List Death → List (List Entry) → List (List Entry)
 died_all queues [] entries = entries
 died_all queues (d ∷ ds) entries = died_all queues ds (died queues d entries)
 
--- the notes of all of them
+-- the notes of the given deaths, one after another
 abbrev pub all_notes : List DeclaredQueue → List Death → List (List Entry) → List Note
 all_notes queues [] entries = []
 all_notes queues (d ∷ ds) entries = death_notes queues d entries ++ all_notes queues ds (died queues d entries)
 
--- All messages of these deliveries that were still held have died.
+-- All messages of the deliveries `gone` that were still held have died.
 pub record Rejects (t : Topology) (c h : ℕ) (gone : List Delivery) (old new : List (List Entry)) (before after : List Note) : Type 0 where
   pub deaths : List Death
   pub planned : ArePlanned t c h old gone deaths
   pub entries : new ≡ died_all t.queues deaths old
   pub notes : after ≡ before ++ all_notes t.queues deaths old
 
--- ---- capacity
+-- ---- foreseeing
 
--- a death whose queues have an index below `count`, and whose dead letter enters each at most once
-pub record IsSoundDeath (count : ℕ) (d : Death) : Type 0 where
-  pub place : d.place < count
-  pub within : All (λ (i : ℕ). i < count) (places d.turns.items)
-  pub rising : AllPairs (λ (i j : ℕ). i < j) (places d.turns.items)
+-- the dead letters that the given outcomes bring to queues
+abbrev pub arrivals_in : List TurnOutcome → List Arrival
+arrivals_in [] = []
+arrivals_in (o ∷ os) = arrivals_at o.place o.message ++ arrivals_in os
 
--- how many notes these deaths make
-abbrev pub notes_in : List Death → ℕ
-notes_in [] = 0
-notes_in (d ∷ ds) = 1 + length d.turns.items + notes_in ds
+-- the dead letters that the given deaths bring to queues
+abbrev pub all_arrivals : List DeclaredQueue → List Death → List (List Entry) → List Arrival
+all_arrivals queues [] entries = []
+all_arrivals queues (d ∷ ds) entries = arrivals_in (outcomes_of queues d entries) ++ all_arrivals queues ds (died queues d entries)
 
--- how often a dead letter may enter the queue at this index
-abbrev pub times_in : ℕ → List Death → ℕ
-times_in place [] = 0
-times_in place (d ∷ ds) = times place (places d.turns.items) + times_in place ds
+-- the index of each dead letter's queue
+abbrev pub arriving_at : List Arrival → List ℕ
+arriving_at as' = map (λ (a : Arrival). a.place) as'
+
+-- the queues with the given dead letters behind their entries
+abbrev pub arrived : List Arrival → List (List Entry) → List (List Entry)
+arrived [] entries = entries
+arrived (a ∷ as') entries = arrived as' (slice_set entries a.place (slice_index_or entries a.place [] ++ arriving (Some a.message)))
+
+-- the queues without the messages of the given deliveries
+abbrev pub all_left : ℕ → ℕ → List Delivery → List (List Entry) → List (List Entry)
+all_left c h [] entries = entries
+all_left c h (g ∷ gs) entries = all_left c h gs (left_at c h entries g)
+
+-- The queues after the outcomes `os` are tallied, and the dead letters that enter queues and the notes of all outcomes are appended.
+pub record Foresees (queues : List DeclaredQueue) (old : List (List Entry)) (os : List TurnOutcome) (entries : List (List Entry)) (tallies : List (ℕ × Tally))
+    (from to : List Arrival) (before after : List Note) : Type 0 where
+  pub tallied : AreTallied queues old tallies (all_entered os entries)
+  pub arrivals : to ≡ from ++ arrivals_in os
+  pub notes : after ≡ before ++ notes_of_outcomes os
+
+-- `Foresees` of the outcomes of `turns`, taken one after another
+abbrev pub ForeseesTurns : List DeclaredQueue → List (List Entry) → List PlannedTurn → List (List Entry) → List (ℕ × Tally)
+    → List Arrival → List Arrival → List Note → List Note → Type 0
+ForeseesTurns queues old turns entries tallies arrivals arrivals' notes notes' =
+    Foresees queues old (outcomes way.Dead queues turns entries) entries tallies arrivals arrivals' notes notes'
+
+-- The queues after `deaths`, one after another, are tallied, and the dead letters that enter queues and all notes are appended.
+pub record ForeseesDeaths (queues : List DeclaredQueue) (old : List (List Entry)) (deaths : List Death) (entries : List (List Entry))
+    (tallies : List (ℕ × Tally))
+    (from to : List Arrival) (before after : List Note) : Type 0 where
+  pub tallied : AreTallied queues old tallies (died_all queues deaths entries)
+  pub arrivals : to ≡ from ++ all_arrivals queues deaths entries
+  pub notes : after ≡ before ++ all_notes queues deaths entries
+
+-- a dead letter with its route, or none, of a message that dies in the queue at this index
+abbrev pub IsLetterAt : Topology → ℕ → Message → Option Letter → Type 0
+IsLetterAt t place m None = LettersAt t place m []
+IsLetterAt t place m (Some l) = LettersAt t place m (map (turn_at t.queues l.message) l.route.value.targets.items)
+    × All (λ (i : ℕ). i < length t.queues) l.route.value.targets.items
+
+-- what is foreseen of a message that dies in the queue at this index
+abbrev pub ForeseesLetters : Topology → ℕ → Message → List (List Entry) → List (List Entry) → List (ℕ × Tally)
+    → List Arrival → List Arrival → List Note → List Note → Type 0
+ForeseesLetters t place m old entries tallies arrivals arrivals' notes notes' =
+    (turns : List PlannedTurn) × LettersAt t place m turns × ForeseesTurns t.queues old turns entries tallies arrivals arrivals' notes notes'
+
+-- what is foreseen of the message of delivery `g`
+abbrev pub ForeseesGiven : Topology → ℕ → ℕ → Delivery → List (List Entry) → List (List Entry) → List (ℕ × Tally)
+    → List Arrival → List Arrival → List Note → List Note → Type 0
+ForeseesGiven t c h g old entries tallies arrivals arrivals' notes notes' =
+    (deaths : List Death) × PlansAt t c h old g deaths × ForeseesDeaths t.queues old deaths entries tallies arrivals arrivals' notes notes'
+
+-- `came` are the dead letters that the messages of the deliveries `gone` bring to queues, and their notes are appended.
+pub record IsForeseen (t : Topology) (c h : ℕ) (gone : List Delivery) (old : List (List Entry)) (came : List Arrival) (before after : List Note) : Type 0 where
+  pub deaths : List Death
+  pub planned : ArePlanned t c h old gone deaths
+  pub arrivals : came ≡ all_arrivals t.queues deaths old
+  pub notes : after ≡ before ++ all_notes t.queues deaths old
+
+-- what is appended to
+abbrev pub Extends : List Note → List Note → Type 0
+Extends notes notes' = (more : List Note) × (notes' ≡ notes ++ more)

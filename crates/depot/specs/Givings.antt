@@ -17,17 +17,17 @@ abbrev pub CanGive : Giving → List Entry → Type 0
 CanGive (Held holder) entries = find (is_held_as holder) entries ≡ None
 CanGive (Out queue) entries = Unit {0}
 
--- there is capacity for the note, if `count` notes are in a list of this capacity
+-- a list with `count` notes and this capacity has capacity for the note, if one is made
 abbrev pub HasRoomFor : Giving → ℕ → ℕ → Type 0
 HasRoomFor (Held holder) count capacity = Unit {0}
 HasRoomFor (Out queue) count capacity = count < capacity
 
--- the queue's entries after that
+-- the entries of a queue after its first ready message was given out in this way
 abbrev pub given_so : Giving → List Entry → List Entry
 given_so (Held holder) entries = change_first is_ready (held_as holder) entries
 given_so (Out queue) entries = without_first is_ready entries
 
--- what is noted of it
+-- the notes of giving out `first`, the first ready message, in this way
 abbrev pub given_notes : Giving → Option Entry → List Note
 given_notes (Held holder) first = []
 given_notes (Out queue) first = left_note Auto queue first

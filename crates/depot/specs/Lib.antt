@@ -9,4 +9,5 @@ pub mod Purging
 pub mod Settled
 pub mod Signs
 pub mod Store
+pub mod Tallies
 pub mod Turns

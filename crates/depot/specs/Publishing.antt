@@ -27,7 +27,7 @@ pub record Publishes (old : Store) (connection channel : ℕ) (p : Publish) (con
   pub queues : (q : Text)
       → entries_named new q ≡ entries_named old q ++ comes_to old.topology (entries_named old) (message (old.published + 1) p content) q targets
 
--- The notes of the publish are appended to those before.
+-- The publish is done as `Publishes` says, and its notes are appended to `before`.
 pub record Publishing (old : Store) (connection channel : ℕ) (p : Publish) (content : Content) (confirm : Option ℕ)
     (before after : List Note) (routed : Routed) (new : Store) : Type 0 where
   pub noted : List Note

@@ -13,8 +13,8 @@ use Rattle.model.specs.declared.deliveries.Delivery.{Delivery}
 use Rattle.depot.specs.declared.departures.Departure.{Departure}
 use Rattle.depot.specs.Store.{Store, entries_named}
 
--- These deliveries of channel h of connection c are settled in this way, one after another. What is noted of that is appended to the
--- notes, and nothing else changed.
+-- The deliveries `gone` of channel `h` of connection `c` were settled as `how` says, one after another. The notes of that are appended, and
+-- nothing else changed.
 pub record AreSettledBy (how : Settlement) (old : Store) (c h : ℕ) (gone : List Delivery) (before after : List Note) (new : Store) : Type 0 where
   pub noted : List Note
   pub appended : after ≡ before ++ noted
@@ -42,10 +42,10 @@ left_at c h entries d =
 abbrev pub returned_at : ℕ → ℕ → List (List Entry) → Delivery → List (List Entry)
 returned_at c h entries d = slice_set entries d.queue (map (freed (is_under (holder_of_delivery c h d))) (slice_index_or entries d.queue []))
 
--- each of these deliveries is from a queue with an index below `count`
+-- each delivery is from a queue with an index below `count`
 abbrev pub AreOf : ℕ → List Delivery → Type 0
 AreOf count ds = All (λ (d : Delivery). d.queue < count) ds
 
--- a delivery from a queue of this topology, with the queue's name
+-- the delivery `d`, from a queue of the topology `t`, with the queue's name
 abbrev pub departure_in : Topology → Delivery → Departure
 departure_in t d = record { given = d; queue = queue_name t d.queue }

@@ -41,7 +41,7 @@ pub record IsQueueNamed (s : Store) (place : ℕ) : Type 0 where
   pub changed : (entries : List Entry) (q : Text)
       → entries_named (with_entries_at s place entries) q ≡ seen.with_queue (entries_named s) (queue_name s.topology place) entries q
 
--- the queue at this index has a message that can be given out
+-- the queue at index `place` has a ready message
 abbrev pub HasReady : Store → ℕ → Type 0
 HasReady s place = 0 < ready_count (queue_at s place)
 
@@ -52,7 +52,7 @@ pub record IsFirstReady (s : Store) (from place : ℕ) : Type 0 where
   pub ready : HasReady s place
   pub first : (p : ℕ) → from ≤ p → p < place → HasReady s p → ⊥
 
--- this index, or `None` exactly if no queue at or after `from` has a ready message
+-- the first index at or after `from` whose queue has a ready message; `None` if there is none
 abbrev pub IsNextReady : Store → ℕ → Option ℕ → Type 0
 IsNextReady s from (Some place) = IsFirstReady s from place
 IsNextReady s from None = (p : ℕ) → from ≤ p → p < length s.topology.queues → HasReady s p → ⊥

@@ -1,6 +1,6 @@
--- A message that comes to its queues one after another, by their places in the file.
+-- Offering a message to its routed queues one after another, by the queues' indices in the definitions.
 use Rattle.std.specs.Prelude.{◌≡◌, ◌<◌, ◌≤◌, ◌+◌, ◌==◌, ◌⊎◌, ℕ, Bool, true, false, cond, if◌then◌else◌, Option, Some, None}
-use Rattle.std.specs.Prelude.{All, List, [], ◌∷◌, ◌++◌, length, map, slice_get, slice_index_or, slice_set}
+use Rattle.std.specs.Prelude.{List, [], ◌∷◌, ◌++◌, length, map, slice_get, slice_index_or, slice_set}
 use Rattle.std.specs.List.{list_any}
 use Rattle.model.specs.Words.{Text}
 use Rattle.model.specs.Topology.{Topology, queue_names}
@@ -21,7 +21,7 @@ use Rattle.depot.specs.declared.depots.Routed.{Routed}
 
 -- ---- one turn
 
--- the turn of a message at the queue at this index
+-- the plan by which the queue at index `place` is offered the message `m`
 abbrev pub turn_at : List DeclaredQueue → Message → ℕ → PlannedTurn
 turn_at queues m place = record { place = place; name = slice_index_or (queue_names queues) place []; message = m }
 
@@ -37,12 +37,12 @@ outcome_of how name full m place =
     if full then record { place = place; message = None; note = Refused m.number name }
     else record { place = place; message = Some m; note = Entered m.number name how }
 
--- the outcome of a turn at this queue, with these entries
+-- the outcome of the turn `t` at the queue `q`, which holds `entries`
 abbrev pub outcome_at : Way → DeclaredQueue → List Entry → PlannedTurn → TurnOutcome
 outcome_at how q entries t =
     outcome_of how t.name (refuses (Some q) (ready_count entries) (ready_bytes entries) (length t.message.content.body)) t.message t.place
 
--- the queue at this index, with these entries, refuses a message with a body of `size` bytes
+-- the queue at index `place`, with the entries at this index of `entries`, refuses a message with a body of `size` bytes
 abbrev pub is_full_at : List DeclaredQueue → List (List Entry) → ℕ → ℕ → Bool
 is_full_at queues entries place size =
     refuses (slice_get queues place) (ready_count (slice_index_or entries place [])) (ready_bytes (slice_index_or entries place [])) size
@@ -70,16 +70,16 @@ entered_one o entries = slice_set entries o.place (slice_index_or entries o.plac
 abbrev pub places : List PlannedTurn → List ℕ
 places turns = map (λ (t : PlannedTurn). t.place) turns
 
--- the outcomes of turns taken one after another, so that each queue is judged as the turns before leave it
+-- the outcomes of turns taken one after another, each judged by the queue as the earlier turns left it
 abbrev pub outcomes : Way → List DeclaredQueue → List PlannedTurn → List (List Entry) → List TurnOutcome
 outcomes how queues [] entries = []
 outcomes how queues (t ∷ ts) entries = outcome how queues entries t ∷ outcomes how queues ts (entered_one (outcome how queues entries t) entries)
 
--- the note of each
+-- the note of each outcome
 abbrev pub notes_of_outcomes : List TurnOutcome → List Note
 notes_of_outcomes os = map (λ (o : TurnOutcome). o.note) os
 
--- the queues after all of them
+-- the queues after all these outcomes
 abbrev pub all_entered : List TurnOutcome → List (List Entry) → List (List Entry)
 all_entered [] entries = entries
 all_entered (o ∷ os) entries = all_entered os (entered_one o entries)
@@ -114,7 +114,7 @@ times place (p ∷ ps) = cond (place == p) 1 0 + times place ps
 abbrev pub LinesHaveRoom : List Line → List ℕ → ℕ → Type 0
 LinesHaveRoom lines targets count = (k : ℕ) → k < length targets → count ≤ room_at lines (slice_index_or targets k 0)
 
--- each queue has capacity for as many messages as it occurs in the list
+-- each queue has room for as many messages as its index occurs in `targets`
 abbrev pub IsRoomy : List Line → List ℕ → Type 0
 IsRoomy lines targets = (place : ℕ) → times place targets ≤ room_at lines place
 
@@ -122,15 +122,11 @@ IsRoomy lines targets = (place : ℕ) → times place targets ≤ room_at lines 
 abbrev pub CanTake : Option ℕ → Line → ℕ → Type 0
 CanTake limit l count = (count ≤ l.room) ⊎ (is_at limit (ready_count l.entries + l.room) ≡ true)
 
--- the same of the queue at this index
+-- the queue at index `place` has room for `count` messages, or for as many as bring it to its limit
 abbrev pub CanTakeAt : List DeclaredQueue → List Line → ℕ → ℕ → Type 0
 CanTakeAt queues lines place count = CanTake (limit_of (slice_get queues place)) (slice_index_or lines place no_line) count
 
--- each queue has room for this number of messages more than before
-abbrev pub MakesRoom : List DeclaredQueue → List Line → List Line → (ℕ → ℕ) → Type 0
-MakesRoom queues old new more = (place n : ℕ) → CanTakeAt queues old place n → CanTakeAt queues new place (n + more place)
-
--- each queue has room for as many messages as before, less this number
+-- each queue has room for at most `spent` messages fewer than before
 abbrev pub SpendsRoom : List DeclaredQueue → List Line → List Line → (ℕ → ℕ) → Type 0
 SpendsRoom queues old new spent = (place n : ℕ) → CanTakeAt queues old place (n + spent place) → CanTakeAt queues new place n
 
@@ -138,20 +134,21 @@ SpendsRoom queues old new spent = (place n : ℕ) → CanTakeAt queues old place
 abbrev pub GainsNone : List Line → List Line → Type 0
 GainsNone old new = (place : ℕ) → room_at new place ≤ room_at old place
 
--- each queue that something leads to has no room
+-- each queue for which `leading` is not 0 has no room
 abbrev pub AreEmptied : List Line → (ℕ → ℕ) → Type 0
 AreEmptied lines leading = (place : ℕ) → 0 < leading place → room_at lines place ≡ 0
 
--- Each queue has room for at most this number of messages more than before, and each queue that had none and has some now is listed.
-pub record Promises (old new : List Line) (listed listed' : List ℕ) (leading : ℕ → ℕ) : Type 0 where
-  pub kept : (place : ℕ) → times place listed ≤ times place listed'
-  pub within : All (λ (i : ℕ). i < length old) listed → All (λ (i : ℕ). i < length old) listed'
-  pub named : (place : ℕ) → room_at old place ≡ 0 → 0 < room_at new place → 0 < times place listed'
-  pub few : (place : ℕ) → room_at new place ≤ room_at old place + leading place
+-- each queue has room for exactly `more` messages more than before
+abbrev pub MakesRoom : List Line → List Line → (ℕ → ℕ) → Type 0
+MakesRoom old new more = (place : ℕ) → room_at new place ≡ room_at old place + more place
+
+-- each queue has room for at most `more` messages more than before
+abbrev pub MakesAtMost : List Line → List Line → (ℕ → ℕ) → Type 0
+MakesAtMost old new more = (place : ℕ) → room_at new place ≤ room_at old place + more place
 
 -- ---- a publish
 
--- All turns of a publish were taken.
+-- The turns of a publish were taken: the queues, the notes and the result are those of the turns' outcomes.
 pub record Enters (t : Topology) (old new : List (List Entry)) (p : Publish) (m : Message)
     (first : Note) (before after : List Note) (routed : Routed) : Type 0 where
   pub turns : List PlannedTurn

@@ -24,7 +24,7 @@ use std::sync::Arc;
 /// Where a publish went.
 #[derive(Clone, Copy, PartialEq, Eq, Debug, Drop)]
 pub struct Routed {
-    /// Whether it was routed to no queue.
+    /// Whether the publish was routed to no queue.
     pub is_none: bool,
     /// Whether a routed queue was full and refused it.
     pub is_some_full: bool,
@@ -39,7 +39,7 @@ pub struct Depot {
     keeps_notes: bool,
 }
 
-/// Written out so that a drop is one call.
+/// Not derived: a derived drop is expanded, and proved again, in each function that drops the value.
 impl Drop for Depot {
     fn drop(self) {
         let Depot {
@@ -141,7 +141,7 @@ impl Depot {
     /// the next publish number. `confirm` is its confirm number, if the channel confirms. `route` is the route of its exchange and key if that is
     /// known; otherwise it is looked up and remembered. Appends a note of the publish and one for each routed queue, with capacity for two more.
     /// Bodies are shared.
-    /// Fails only if an allocation fails; nothing has changed then but that there may be more capacity.
+    /// Fails only if an allocation fails; only capacity may have grown then.
     pub fn publish(
         &mut self,
         alloc: Global,
@@ -202,8 +202,8 @@ impl Depot {
         })
     }
 
-    /// Acknowledges those deliveries of `gone` that wait: their messages leave their queues one after another, with a note for each. Fails only if an
-    /// allocation fails; nothing has changed then but that there may be more capacity.
+    /// Acknowledges the unacknowledged deliveries of `gone`: their messages leave their queues one after another, with a note for each.
+    /// Fails only if an allocation fails; only capacity may have grown then.
     pub fn ack(
         &mut self,
         alloc: Global,
@@ -233,11 +233,11 @@ impl Depot {
         Ok(())
     }
 
-    /// Rejects those deliveries of `gone` that wait: their messages leave their queues in the order of their tags. If its queue has a dead-letter
-    /// exchange, a message is dead-lettered: appended to each queue that it is routed to from there and that is not full then, in the order of the
-    /// definitions. A later rejection finds the queues as the earlier dead letters left them. Appends a note for each message that left, and behind
-    /// it one for each queue of its dead letter. Bodies are shared.
-    /// Fails only if an allocation fails; nothing has changed then but that there may be more capacity.
+    /// Rejects the unacknowledged deliveries of `gone`: their messages leave their queues in the order of their tags. If its queue has a
+    /// dead-letter exchange, a message is dead-lettered: appended to each queue that it is routed to from there and that is not full then, in the
+    /// order of the definitions. A later rejection finds the queues as the earlier dead letters left them. Appends a note for each message that left,
+    /// followed by one for each queue that its dead letter is routed to. Bodies are shared.
+    /// Fails only if an allocation fails; only capacity may have grown then.
     pub fn reject(
         &mut self,
         alloc: Global,
@@ -260,8 +260,7 @@ impl Depot {
         reject_in(alloc, &mut self.router, &mut self.queues, id, gone, notes)
     }
 
-    /// Requeues those deliveries of `gone` that wait: each message is ready again in its place, marked redelivered. Never
-    /// allocates.
+    /// Requeues the unacknowledged deliveries of `gone`: each message is ready again in its place, marked redelivered. Never allocates.
     pub fn requeue(&mut self, id: ChannelId, gone: &[Delivery])
         requires { AreWithin self.old.topology (waiting gone.now) }
         ensures { AreSettledBy Returns self.old id.connection id.number (waiting gone.now) [] [] self.new }
@@ -296,7 +295,7 @@ impl Depot {
         self.queues.lagged()
     }
 
-    /// Returns the number of messages of the queue `name` that can be given out, or `None` if there is no such queue.
+    /// Returns the number of ready messages of the queue `name`, or `None` if there is no such queue.
     pub fn ready(&self, name: &[u8]) -> Option<usize>
         ensures { result ≡ option_map (λ _. ready_count (entries_named self.now name.now)) (queue_named self.now.topology.queues name.now) }
     {
@@ -305,8 +304,7 @@ impl Depot {
         Some(self.ready_at(place))
     }
 
-    /// Returns the first message of the queue `name` that can be given out, or `None` if there is none or no such queue. Never
-    /// allocates.
+    /// Returns the first ready message of the queue `name`, or `None` if there is none or no such queue. Never allocates.
     pub fn first_ready(&self, name: &[u8]) -> Option<&Entry>
         ensures { option_map (λ e. e.now) result ≡ find is_ready (entries_named self.now name.now) }
     {
@@ -333,7 +331,7 @@ impl Depot {
     }
 
     /// Purges the queue `name`, as [`Depot::purge_at`] does, and returns how many messages left it: 0 if there is no such queue.
-    /// Fails only if an allocation fails; nothing has changed then but that there may be more capacity.
+    /// Fails only if an allocation fails; only capacity may have grown then.
     pub fn purge(&mut self, name: &[u8], notes: &mut Notes) -> Result<usize, AllocError>
         ensures ok { IfOk result (λ count. IsPurgedBy self.old name.now notes.old.items notes.new.items count self.new) }
         ensures store { OnErr result (self.new ≡ self.old) }
@@ -362,15 +360,15 @@ impl Depot {
         self.ghost_is_whole();
     }
 
-    /// Returns the index of the first queue at or after `from` with a ready message. Looks at a set of indices, not at queues without
-    /// one.
+    /// Returns the index of the first queue at or after `from` with a ready message, or `None` if there is none. Looks at a set of indices, not
+    /// at the queues before it.
     pub fn next_ready(&self, from: usize) -> Option<usize>
         ensures told { IsNextReady self.now from result }
     {
         self.queues.next_ready(from)
     }
 
-    /// Returns the number of messages of the queue at `index` that can be given out.
+    /// Returns the number of ready messages of the queue at `index`.
     pub fn ready_at(&self, index: usize) -> usize
         requires { index < length self.now.topology.queues }
         ensures { result ≡ ready_count (queue_at self.now index) }
@@ -378,7 +376,7 @@ impl Depot {
         self.queues.queue(index).ready()
     }
 
-    /// Returns the first message of the queue at `index` that can be given out.
+    /// Returns the first ready message of the queue at `index`.
     pub fn first_ready_at(&self, index: usize) -> Option<&Entry>
         requires { index < length self.now.topology.queues }
         ensures { option_map (λ e. e.now) result ≡ find is_ready (queue_at self.now index) }
@@ -386,9 +384,9 @@ impl Depot {
         self.queues.queue(index).first_ready()
     }
 
-    /// Gives out the first ready message of the queue at `index`, if any. As `how` says, it is held, and the number of its arrival is returned,
-    /// by which [`Depot::held`] finds it; or it leaves the queue with a note. Nothing is held there under this tag before, and there is capacity for
-    /// the note. Never allocates.
+    /// Gives out the first ready message of the queue at `index`, if any. With [`Giving::Held`] it is held by the holder, under whose tag the queue
+    /// holds nothing before, and the number of its arrival is returned, by which [`Depot::held`] finds it. With [`Giving::Out`] it leaves the queue
+    /// with a note, for which there is capacity. Never allocates.
     pub fn take_at(&mut self, index: usize, how: Giving, notes: &mut Notes) -> Option<u64>
         // What the caller knows: nothing is held under the new tag, or there is capacity for the note.
         requires within { index < length self.old.topology.queues }
@@ -415,9 +413,8 @@ impl Depot {
         self.queues.queue(index).held(holder, arrival)
     }
 
-    /// Removes the ready messages of the queue at index `place`, in the order in which they arrived, with a note for each, and returns their number.
-    /// What is held stays. Fails only if there is such a message and an allocation fails; nothing has changed then but that there may be more
-    /// capacity.
+    /// Removes the ready messages of the queue at index `place`, in the order of arrival, with a note for each, and returns their number. Held
+    /// messages stay. Fails only if there is a ready message and an allocation fails; only capacity may have grown then.
     pub fn purge_at(&mut self, place: usize, notes: &mut Notes) -> Result<usize, AllocError>
         requires { place < length self.old.topology.queues }
         ensures ok { IfOk result (λ count.
@@ -439,8 +436,8 @@ impl Depot {
         self.queues.walk(index)
     }
 
-    /// Returns, for each queue, the index of the queue with its name in `topology`, or the index past its end if there is none. Fails only if an
-    /// allocation fails.
+    /// Returns, for each queue, the index of the queue with its name in `topology`, or an index past the end of that topology's queues if there is none.
+    /// Fails only if an allocation fails.
     pub fn indices_in(&self, alloc: Global, topology: &Topology) -> Result<Vec<usize>, AllocError>
         ensures { IfOk result (λ places. AreMoved (queue_names self.now.topology.queues) (queue_names topology.now.queues) places.items) }
     {
@@ -448,14 +445,14 @@ impl Depot {
     }
 
     /// Moves all messages of `old` into this depot, which has none: each queue gets the messages of its name, each marked as one that a reload found
-    /// there. `indices` is `old.indices_in(..)`, and no queue that this depot lacks has a message. The count of publishes goes on. Never
-    /// allocates; the work for a message is setting its mark.
+    /// there. `indices` is `old.indices_in(..)`, and no queue that this depot lacks has a message. The number of publishes becomes that of `old`.
+    /// Never allocates; the only work for a message is setting its mark.
     pub fn take_over(&mut self, old: Depot, indices: &[usize])
         // What the caller knows of the table and of the queues.
         requires moved { AreMoved (queue_names old.topology.queues) (queue_names self.old.topology.queues) indices.now }
         requires empty { self.old.queues ≡ replicate (length self.old.topology.queues) [] }
         requires gone { GoneAreEmpty old (queue_names self.old.topology.queues) }
-        // Each queue has the entries of its name; the frame.
+        // Each queue has the entries that `old` has under its name; the frame.
         ensures entries { (q : Text) → entries_named self.new q ≡ map stood_now (entries_named old q) }
         ensures published { self.new.published ≡ old.published }
         ensures topology { self.new.topology ≡ self.old.topology }

@@ -1,5 +1,5 @@
-//! Appends a message to its routed queues. The turns are planned, capacity is reserved, and then they are taken, which can't
-//! fail.
+//! Offers a message to its routed queues. A turn (`PlannedTurn`) is planned for each queue, and capacity is reserved; offering the message
+//! at the turns can't fail then.
 
 ghost use Rattle.std.specs.Prelude.{
   ◌≡◌,
@@ -52,7 +52,7 @@ use notes::Notes;
 use queue::Store;
 use std::alloc::{AllocError, Global};
 
-/// Returns the turns of `message` at the queues with the indices `targets`. Fails only if an allocation fails.
+/// Returns a turn of `message` at each queue with an index in `targets`. Fails only if an allocation fails.
 pub(crate) fn turns(
     alloc: Global,
     declared: &[DeclaredQueue],
@@ -70,7 +70,7 @@ pub(crate) fn turns(
     Ok(turns)
 }
 
-/// Returns the turn of `message` at the queue at index `place`.
+/// Returns the turn of `message` at the queue at index `place`. Fails only if an allocation fails.
 fn turn(
     declared: &[DeclaredQueue],
     place: usize,
@@ -97,7 +97,7 @@ fn make_room_at(queues: &mut Queues, place: usize, more: usize) -> Result<(), Al
     queues.queue_mut(place).reserve(more)
 }
 
-/// Reserves capacity for `more` messages in each queue of these turns.
+/// Reserves capacity for `more` messages in the queue of each of `turns`.
 pub(crate) fn make_room(
     queues: &mut Queues,
     turns: &[PlannedTurn],
@@ -115,7 +115,7 @@ pub(crate) fn make_room(
     Ok(())
 }
 
-/// Appends the message of `turn` to its queue, or refuses it if that is full now. Returns whether it is refused.
+/// Appends the message of `turn` to `queue`, or refuses it if the queue is full, and notes which. Returns whether it is refused.
 pub(crate) fn enter(
     declared: &DeclaredQueue,
     queue: &mut Queue,
@@ -156,7 +156,7 @@ pub(crate) fn enter(
     false
 }
 
-/// Does the same at the queue at the turn's index.
+/// Offers the message of `turn` to the queue of the turn, as [`enter`] does. Returns whether the message is refused.
 fn enter_at(
     declared: &[DeclaredQueue],
     queues: &mut Queues,
@@ -178,14 +178,14 @@ fn enter_at(
     ensures notes_capacity { vec_capacity notes.new ≡ vec_capacity notes.old }
 {
     let place = turn.place;
-    // a dead letter comes by a consumer's answer, whose reads it doesn't slow
+    // a dead letter is exempt: it comes from a consumer's rejection, and must not slow the reading from that consumer
     let is_dead = matches!(way, Way::Dead);
     let is_refused = enter(&declared[place], queues.queue_mut(place), turn, way, notes);
     queues.count_coming(place, is_refused || is_dead);
     is_refused
 }
 
-/// Takes these turns, one after another. Returns whether some queue refuses the message.
+/// Offers the message at each of `turns`, one after another, as [`enter`] does. Returns whether some queue refuses it.
 pub(crate) fn enter_all(
     declared: &[DeclaredQueue],
     queues: &mut Queues,

@@ -2,18 +2,18 @@
 
 use std::alloc::{AllocError, Global};
 
-/// A queue lags if more messages than this are ready behind one that was taken from it: as many as a round delivers.
+/// A queue lags if more messages than this are ready behind one that was taken from it. A round delivers as many.
 const MANY: usize = 256;
 
-/// How many entering messages are counted for each one that was taken while its queue lagged. So a queue whose consumers read now and
-/// then slows nobody.
+/// For each message that is taken from a lagging queue, this many of the next messages to enter it are counted. As no others are, a queue whose
+/// consumers read only now and then slows nobody.
 const COUNTED: u32 = 4;
 
-/// How many entering messages are counted at most once the consumers of a queue have stopped taking.
+/// The most messages entering a queue that are counted after its consumers have stopped taking.
 const MOST_COUNTED: u32 = 1_024;
 
-/// Estimates, for each queue, how far its consumers lag behind: how many of the next messages to enter it are counted, and how many were in
-/// all. A hint for reading publishers more slowly: correctness does not depend on it.
+/// Estimates, for each queue, how far its consumers lag behind: `left` has, by index, how many of the next messages to enter the queue are
+/// counted; `count` is how many were counted in all. A hint for reading from publishers more slowly: correctness does not depend on it.
 #[derive(Drop)]
 pub(crate) struct Lags {
     left: Vec<u32>,
@@ -27,7 +27,7 @@ impl Lags {
         Ok(Lags { left, count: 0 })
     }
 
-    /// Records that a message was taken from the queue at `index`, behind which `ready` can be given out.
+    /// Records that a message was taken from the queue at `index`, which left `ready` messages ready there.
     pub(crate) fn take(&mut self, index: usize, ready: usize) {
         if index < self.left.len() {
             self.left[index] = if ready > MANY {
@@ -38,7 +38,7 @@ impl Lags {
         }
     }
 
-    /// Counts a message that enters the queue at `index` if that lags, unless `is_exempt`: it was refused there, or is a dead letter.
+    /// Counts a message for the queue at `index` if that queue lags, unless `is_exempt`: the message was refused there, or is a dead letter.
     pub(crate) fn come(&mut self, index: usize, is_exempt: bool) {
         if !is_exempt && index < self.left.len() && self.left[index] > 0 {
             self.left[index] -= 1;

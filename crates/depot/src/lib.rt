@@ -4,6 +4,7 @@
 //! is routed, makes all its allocations, and only then changes anything, so a publish is done whole or not at all.
 #![tactic(auto)]
 
+mod arrivals;
 mod departures;
 mod depots;
 mod entering;
@@ -21,6 +22,7 @@ mod rejecting;
 mod settling;
 mod signs;
 mod taking;
+mod tallies;
 mod turns;
 
 pub use depots::{Depot, Routed, ghost_indices_are_named};

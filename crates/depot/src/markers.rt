@@ -11,7 +11,7 @@ use model::{Content, Form, Properties, Text};
 use std::alloc::{AllocError, Global};
 use std::marker::Model;
 
-/// The properties of a message that died in a queue, last sent to an exchange: before that and after.
+/// A remembered marking: the properties `before` and `after` it, of a message that died in `queue` and was last sent to `exchange`.
 #[derive(Drop)]
 struct Marking {
     queue: Text,
@@ -20,7 +20,7 @@ struct Marking {
     after: Properties,
 }
 
-/// Returns whether both are kept in encoded form and are the same bytes.
+/// Returns whether both properties are kept in encoded form and are the same bytes.
 fn are_alike(some: &Properties, others: &Properties) -> bool
     ensures { IsTrue result → some.now ≡ others.now }
 {
@@ -31,7 +31,7 @@ fn are_alike(some: &Properties, others: &Properties) -> bool
     }
 }
 
-/// Returns the marked properties, if they are remembered.
+/// Returns the result of marking `properties` for `queue` and `exchange`, if `last` remembers it.
 fn kept<'a>(
     last: &'a Option<Marking>,
     queue: &Text,
@@ -53,7 +53,8 @@ fn kept<'a>(
     None
 }
 
-/// Marks `properties`, and remembers the result, unless it is remembered already. Fails only if an allocation fails.
+/// Returns `properties` marked for `queue` and `exchange`: the result that `last` remembers, if it is for these three; otherwise marks them, and
+/// remembers the result in `last`. Fails only if an allocation fails.
 fn marked_once(
     alloc: Global,
     last: &mut Option<Marking>,
@@ -84,7 +85,7 @@ pub struct Marker {
     last: Option<Marking>,
 }
 
-/// Written out so that a drop is one call.
+/// Not derived: a derived drop is expanded, and proved again, in each function that drops the value.
 impl Drop for Marker {
     fn drop(self) {
         let Marker { last: _ } = self;

@@ -39,7 +39,7 @@ pub(crate) fn marked(
     with_headers(alloc, properties, &longer)
 }
 
-/// Returns the same properties with `headers` as the encoded pairs of their headers.
+/// Returns `properties` with `headers` as the encoded pairs of their headers. Fails only if an allocation fails.
 fn with_headers(
     alloc: Global,
     properties: &Properties,
@@ -52,7 +52,7 @@ fn with_headers(
     Properties::new(alloc, fields)
 }
 
-/// Returns `headers` with the fields of a first death appended.
+/// Returns `headers` with the three fields of a first death appended. Fails only if an allocation fails.
 fn with_death(
     alloc: Global,
     headers: &[u8],

@@ -14,7 +14,7 @@ use queue::Store;
 use std::alloc::{AllocError, Global};
 use std::mem::swap;
 
-/// Returns the index of the queue `name`, or the index past the end if there is none.
+/// Returns the index of the queue `name` in `topology`, or the index past the end if there is none.
 fn place_in(topology: &Topology, name: &[u8]) -> usize
     ensures { IsMoved (queue_names topology.now.queues) name.now result }
 {
@@ -40,11 +40,11 @@ pub(crate) fn indices_in(
     Ok(places)
 }
 
-/// Swaps the queue at index `place` with the one of `old` at `from`, whose entries are all marked as ones that a reload found there.
+/// Marks the entries of the queue of `old` at `from` as ones that a reload found there, and swaps that queue with the one at index `place`.
 fn exchange_at(queues: &mut [Queue], place: usize, old: &mut [Queue], from: usize)
     requires place { place < length queues.old }
     requires from { from < length old.old }
-    // The queue is at its new index, and later ones are unchanged.
+    // The queue is at its new index, and the queues of `old` after it are unchanged.
     ensures entries { entries_of queues.new ≡ slice_set (entries_of queues.old) place (map stood_now (slice_index_or (entries_of old.old) from [])) }
     ensures len { length queues.new ≡ length queues.old }
     ensures rest { drop (from + 1) (entries_of old.new) ≡ drop (from + 1) (entries_of old.old) }
@@ -54,7 +54,7 @@ fn exchange_at(queues: &mut [Queue], place: usize, old: &mut [Queue], from: usiz
     swap(&mut queues[place], &mut old[from]);
 }
 
-/// Does the same, and updates the queue's bit, if there is a queue at index `place`.
+/// If there is a queue at index `place`, swaps it as [`exchange_at`] does, and updates its bit.
 fn exchange(
     queues: &mut [Queue],
     signs: &mut QueueSigns,

@@ -18,7 +18,7 @@ use notes::Notes;
 use std::alloc::{AllocError, Global};
 use std::sync::Arc;
 
-/// Returns `known`, the route of the publish, or looks it up and remembers it. Fails only if an allocation fails.
+/// Returns the route of `publish`: `known` if it is given, otherwise looks it up and remembers it. Fails only if an allocation fails.
 pub(crate) fn route_of(
     alloc: Global,
     router: &mut Router,
@@ -35,7 +35,7 @@ pub(crate) fn route_of(
     }
 }
 
-/// Returns the note of a publish. Fails only if an allocation fails.
+/// Returns the note that `publish` came on channel `id` as publish `number`. Fails only if an allocation fails.
 pub(crate) fn note_of(
     number: u64,
     id: ChannelId,

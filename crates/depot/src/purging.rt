@@ -15,7 +15,8 @@ use notes::Notes;
 use queue::Store;
 use std::alloc::AllocError;
 
-/// Appends `count` notes that message 0 left the queue `name` by a purge. There is capacity for them. If that fails, some were appended.
+/// Appends `count` notes that message 0 left the queue `name` by a purge. There is capacity for them. Fails only if an allocation fails; some
+/// are appended then.
 #[tactic(auto, using(crate::proofs::Purged::blanks_more, crate::proofs::Purged::front_stays))]
 fn add_blanks(name: &Text, count: usize, notes: &mut Notes) -> Result<(), AllocError>
     requires { vec_len notes.old + count ≤ vec_capacity notes.old }
@@ -46,8 +47,8 @@ fn add_notes(name: &Text, count: usize, notes: &mut Notes) -> Result<(), AllocEr
     Ok(())
 }
 
-/// Removes the ready messages of `queue`. The note of the first of them is at index `first`, and each note gets the number of its message. `note`
-/// is one of these notes.
+/// Removes the ready messages of `queue`, and sets the number in the note of each. The notes are there already, from index `first` on, each
+/// equal to `note` with number 0.
 fn take_ready(queue: &mut Queue, first: usize, note: Note, notes: &mut Notes)
     requires within { first ≤ length notes.old.items }
     requires blank { drop first notes.old.items ≡ replicate (ready_in queue.old.entries) (numbered 0 note) }

@@ -14,8 +14,8 @@ use std::marker::Model;
 /// The implementation of each queue. Any other `Store` behaves the same.
 pub(crate) type Queue = Indexed;
 
-/// The queues of a topology, in the order of the definitions. The signs say of each whether a message can be given out, so that the next such
-/// queue is found without a scan. The sign of the queue that was borrowed last may be out of date; it is set when another is borrowed.
+/// The queues of a topology, in the order of the definitions. `signs` says which of them have a ready message, so that the next such queue is
+/// found without a scan. The sign of the queue that was borrowed last (`lent`) may be out of date, and is set when another is borrowed.
 #[derive(Drop)]
 pub(crate) struct Queues {
     queues: Vec<Queue>,
@@ -48,7 +48,7 @@ fn empty_queues(alloc: Global, count: usize) -> Result<Vec<Queue>, AllocError>
     Ok(queues)
 }
 
-/// Sets the sign of the queue that was borrowed last, as the one at index `place` is about to be. Never allocates.
+/// Sets the sign of the queue borrowed last (`lent`), unless it is the one at index `place`, which is borrowed next. Never allocates.
 fn move_loan(queues: &[Queue], signs: &mut QueueSigns, lent: usize, place: usize)
     requires { AreSignedBut lent (entries_of queues.now) signs.old }
     ensures { AreSignedBut place (entries_of queues.now) signs.new }
@@ -59,8 +59,7 @@ fn move_loan(queues: &[Queue], signs: &mut QueueSigns, lent: usize, place: usize
     signs.sign(lent, &queues[lent]);
 }
 
-/// Returns the index of the first queue at or after `from` with a ready message. Uses the signs, except for the queue that was borrowed
-/// last.
+/// Returns the index of the first queue at or after `from` with a ready message, or `None`. Uses `signs`, except for the queue borrowed last (`lent`).
 fn next_in(queues: &[Queue], signs: &QueueSigns, lent: usize, from: usize) -> Option<usize>
     requires { AreSignedBut lent (entries_of queues.now) signs.now }
     ensures { TellsNext (ready_places (entries_of queues.now)) from result }
@@ -153,14 +152,14 @@ impl Queues {
         next_in(&self.queues, &self.signs, self.lent, from)
     }
 
-    /// Counts a message that entered the queue at `index` if that lags, unless `is_exempt`.
+    /// Counts a message for the queue at `index` if that queue lags, unless `is_exempt` ([`Lags::come`]).
     pub(crate) fn count_coming(&mut self, index: usize, is_exempt: bool)
         ensures { self.new ≡ self.old }
     {
         self.lags.come(index, is_exempt);
     }
 
-    /// Records that a message was taken from the queue at `index`, behind which `ready` can be given out.
+    /// Records that a message was taken from the queue at `index`, which left `ready` messages ready there.
     pub(crate) fn count_taking(&mut self, index: usize, ready: usize)
         ensures { self.new ≡ self.old }
     {

@@ -1,27 +1,30 @@
-//! A rejection: each death is planned with its dead letter, capacity is reserved, and then all is performed, which can't fail.
+//! A rejection: it is planned which dead letters enter which queues, capacity is reserved for these, and then all is performed, which
+//! can't fail.
 
-ghost use Rattle.std.specs.Prelude.{◌≡◌, ◌⊎◌, ◌+◌, ◌-◌, ◌^◌, ◌<◌, ◌≤◌, ℕ, ◌++◌, List, length, All};
-ghost use Rattle.std.specs.Prelude.{true, false, IfOk, OnOk, OnErr, vec_len, vec_capacity};
+ghost use Rattle.std.specs.Prelude.{◌≡◌, ◌+◌, ◌<◌, ◌≤◌, ℕ, ◌∷◌, [], List, length, map, All, true, false, IfOk, OnOk, OnErr, vec_len, vec_capacity};
 ghost use Rattle.model.specs.Routing.{key_after};
-ghost use Rattle.depot.specs.declared.plans.Death.{Death as Planned};
-ghost use Rattle.depot.specs.Store.{entries_of};
-ghost use Rattle.depot.specs.Turns.{places, times, CanTakeAt, SpendsRoom, GainsNone, AreEmptied, Promises};
 ghost use Rattle.model.specs.Placed.{is_waiting, waiting, AreWithin};
-ghost use Rattle.depot.specs.Dying.{LettersAt, PlansAt, ArePlanned, died, death_notes, died_all, all_notes, IsSoundDeath, notes_in, times_in, Rejects};
+ghost use Rattle.model.specs.declared.messages.Entry.{Entry};
+ghost use Rattle.depot.specs.Store.{entries_of};
+ghost use Rattle.depot.specs.Settled.{AreOf, left_at};
+ghost use Rattle.depot.specs.Tallies.{AreTallied};
+ghost use Rattle.depot.specs.Turns.{turn_at, room_at, times, GainsNone, MakesAtMost};
+ghost use Rattle.depot.specs.Dying.{arriving_at, arrived, all_left, Extends, IsLetterAt, ForeseesTurns, ForeseesLetters, ForeseesGiven, IsForeseen, Rejects};
 
-use crate::entering::{enter_all, turns};
+use crate::arrivals::Arrival;
 use crate::markers::Marker;
-use crate::plans::Death;
-use crate::promising::{give_back_all, give_back_turns, promise_turns};
+use crate::plans::{Letter, Plan};
+use crate::promising::make_rooms;
 use crate::queues::Queues;
-use crate::turns::PlannedTurn;
+use crate::tallies::count;
 use exchange_graph::Router;
 use model::{Cause, ChannelId, DeclaredQueue, Delivery, Message, Note, Text, Way};
 use notes::Notes;
 use queue::Store;
 use std::alloc::{AllocError, Global};
 
-/// Returns the key of a dead letter: `fixed` if its queue has one, otherwise `key`, that of the message.
+/// Returns the key of a dead letter: `fixed`, the key that the queue sets for dead letters, if any, otherwise `key`, the message's own. Fails only
+/// if an allocation fails.
 fn key_of(fixed: &Option<Text>, key: &Text) -> Result<Text, AllocError>
     ensures { IfOk result (λ k. k ≡ key_after fixed.now key.now) }
 {
@@ -31,46 +34,149 @@ fn key_of(fixed: &Option<Text>, key: &Text) -> Result<Text, AllocError>
     }
 }
 
-/// Returns the turns of the dead letter of a message that dies in the queue at index `place`; none if the queue has no dead-letter
-/// exchange.
-fn letters(
+/// Plans that `letter` comes to the queue at index `place`, behind what is planned already: it enters, or the queue refuses it. Appends the
+/// note of that. If an allocation fails, something may be planned.
+fn plan_turn(
+    declared: &[DeclaredQueue],
+    queues: &Queues,
+    place: usize,
+    letter: &Message,
+    plan: &mut Plan,
+    notes: &mut Notes,
+) -> Result<(), AllocError>
+    requires len { length queues.now ≡ length declared.now }
+    requires within { place < length queues.now }
+    requires room { vec_len notes.old < vec_capacity notes.old }
+    ensures ok { OnOk result ((entries : List (List Entry)) → AreTallied declared.now (entries_of queues.now) plan.old.tallies.entries entries
+        → ForeseesTurns declared.now (entries_of queues.now) (turn_at declared.now letter.now place ∷ []) entries plan.new.tallies.entries
+        plan.old.arrivals.items plan.new.arrivals.items notes.old.items notes.new.items) }
+    ensures within { (n : ℕ) → place < n → All (λ i. i < n) (arriving_at plan.old.arrivals.items)
+        → All (λ i. i < n) (arriving_at plan.new.arrivals.items) }
+    ensures notes { Extends notes.old.items notes.new.items }
+    ensures notes_len { vec_len notes.new ≤ vec_len notes.old + 1 }
+    ensures notes_capacity { vec_capacity notes.new ≡ vec_capacity notes.old }
+{
+    let queue = declared[place].name.clone()?;
+    let number = letter.number();
+    let size = letter.content().body.len();
+    if count(declared, queues, &mut plan.tallies, place, size)? {
+        notes.push_reserved(Note::Refused { number, queue });
+        return Ok(());
+    }
+    let message = letter.clone()?;
+    plan.arrivals.push(Arrival { place, message })?;
+    notes.push_reserved(Note::Entered {
+        number,
+        queue,
+        way: Way::Dead,
+    });
+    Ok(())
+}
+
+/// Plans that `letter` comes to each queue with an index in `targets`, as [`plan_turn`] does, and appends the notes. If an allocation fails,
+/// something may be planned.
+fn plan_turns(
+    declared: &[DeclaredQueue],
+    queues: &Queues,
+    targets: &[usize],
+    letter: &Message,
+    plan: &mut Plan,
+    notes: &mut Notes,
+) -> Result<(), AllocError>
+    requires len { length queues.now ≡ length declared.now }
+    requires within { All (λ i. i < length queues.now) targets.now }
+    requires room { vec_len notes.old + length targets.now ≤ vec_capacity notes.old }
+    ensures ok { OnOk result ((entries : List (List Entry)) → AreTallied declared.now (entries_of queues.now) plan.old.tallies.entries entries
+        → ForeseesTurns declared.now (entries_of queues.now) (map (turn_at declared.now letter.now) targets.now) entries plan.new.tallies.entries
+        plan.old.arrivals.items plan.new.arrivals.items notes.old.items notes.new.items) }
+    ensures within { All (λ i. i < length queues.now) (arriving_at plan.old.arrivals.items)
+        → All (λ i. i < length queues.now) (arriving_at plan.new.arrivals.items) }
+    ensures notes { Extends notes.old.items notes.new.items }
+{
+    for target in targets {
+        plan_turn(declared, queues, *target, letter, plan, notes)?;
+    }
+    Ok(())
+}
+
+/// Returns the dead letter of a message that dies in the queue at index `place`, or `None` if the queue has no dead-letter exchange. Fails
+/// only if an allocation fails.
+fn letter_of(
     alloc: Global,
     router: &mut Router,
     marker: &mut Marker,
     place: usize,
     message: &Message,
-) -> Result<Vec<PlannedTurn>, AllocError>
+) -> Result<Option<Letter>, AllocError>
     requires { place < length router.old.queues }
-    ensures letters { IfOk result (λ turns. LettersAt router.old place message.now turns.items) }
+    ensures letter { IfOk result (IsLetterAt router.old place message.now) }
     ensures same { router.new ≡ router.old }
 {
     let declared = router.topology().queue(place);
     let Some(exchange) = &declared.dead_letter_exchange else {
-        return Ok(Vec::new(alloc));
+        return Ok(None);
     };
     let exchange = exchange.clone()?;
     let key = key_of(&declared.dead_letter_key, message.key())?;
     let content = marker.marked(alloc, &declared.name, message.exchange(), message.content())?;
-    let letter = message.dead_letter(alloc, &exchange, &key, &content)?;
+    let message = message.dead_letter(alloc, &exchange, &key, &content)?;
     let route = router.route(alloc, &exchange, &key)?;
-    turns(alloc, router.topology().queues(), &route.targets, &letter)
+    Ok(Some(Letter { message, route }))
 }
 
-/// Appends the death of the delivery's message, if it is still held.
+/// Plans the dead letter of a message that dies in the queue at index `place`, if there is one.
+fn plan_letter(
+    alloc: Global,
+    router: &mut Router,
+    queues: &Queues,
+    place: usize,
+    message: &Message,
+    plan: &mut Plan,
+    notes: &mut Notes,
+) -> Result<(), AllocError>
+    requires len { length queues.now ≡ length router.old.queues }
+    requires within { place < length router.old.queues }
+    ensures ok { OnOk result ((entries : List (List Entry)) → AreTallied router.old.queues (entries_of queues.now) plan.old.tallies.entries entries
+        → ForeseesLetters router.old place message.now (entries_of queues.now) entries plan.new.tallies.entries
+        plan.old.arrivals.items plan.new.arrivals.items notes.old.items notes.new.items) }
+    ensures within { All (λ i. i < length queues.now) (arriving_at plan.old.arrivals.items)
+        → All (λ i. i < length queues.now) (arriving_at plan.new.arrivals.items) }
+    ensures notes { Extends notes.old.items notes.new.items }
+    ensures same { router.new ≡ router.old }
+{
+    let Some(letter) = letter_of(alloc, router, &mut plan.marker, place, message)? else {
+        return Ok(());
+    };
+    let targets = &letter.route.targets;
+    notes.reserve(targets.len())?;
+    plan_turns(
+        router.topology().queues(),
+        queues,
+        targets,
+        &letter.message,
+        plan,
+        notes,
+    )
+}
+
+/// Plans the death of the delivery's message, if it is still held.
 fn plan_one(
     alloc: Global,
     router: &mut Router,
-    marker: &mut Marker,
     queues: &Queues,
     id: ChannelId,
     given: &Delivery,
-    deaths: &mut Vec<Death>,
+    plan: &mut Plan,
+    notes: &mut Notes,
 ) -> Result<(), AllocError>
     requires len { length queues.now ≡ length router.old.queues }
     requires within { given.now.queue < length router.old.queues }
-    ensures planned { OnOk result ((planned : List Planned)
-        × (deaths.new.items ≡ deaths.old.items ++ planned)
-        × PlansAt router.old id.connection id.number (entries_of queues.now) given.now planned) }
+    ensures ok { OnOk result ((entries : List (List Entry)) → AreTallied router.old.queues (entries_of queues.now) plan.old.tallies.entries entries
+        → ForeseesGiven router.old id.connection id.number given.now (entries_of queues.now) entries plan.new.tallies.entries
+        plan.old.arrivals.items plan.new.arrivals.items notes.old.items notes.new.items) }
+    ensures within { All (λ i. i < length queues.now) (arriving_at plan.old.arrivals.items)
+        → All (λ i. i < length queues.now) (arriving_at plan.new.arrivals.items) }
+    ensures notes { Extends notes.old.items notes.new.items }
     ensures same { router.new ≡ router.old }
 {
     let place = given.queue;
@@ -78,158 +184,152 @@ fn plan_one(
     let Some(entry) = queues.queue(place).held(&holder, given.arrival) else {
         return Ok(());
     };
-    let note = Note::Left {
+    let queue = router.topology().queue(place).name.clone()?;
+    notes.reserve(1)?;
+    notes.push_reserved(Note::Left {
         number: entry.message.number(),
-        queue: router.topology().queue(place).name.clone()?,
+        queue,
         cause: Cause::Rejected,
-    };
-    let turns = letters(alloc, router, marker, place, &entry.message)?;
-    deaths.push(Death {
-        place,
-        holder,
-        arrival: given.arrival,
-        note,
-        turns,
-    })?;
-    Ok(())
+    });
+    plan_letter(alloc, router, queues, place, &entry.message, plan, notes)
 }
 
-/// Does the same if the delivery waits.
+/// Plans the death of the message of `given`, as [`plan_one`] does, if this delivery is unacknowledged.
 fn plan_waiting(
     alloc: Global,
     router: &mut Router,
-    marker: &mut Marker,
     queues: &Queues,
     id: ChannelId,
     given: &Delivery,
-    deaths: &mut Vec<Death>,
+    plan: &mut Plan,
+    notes: &mut Notes,
 ) -> Result<(), AllocError>
     requires len { length queues.now ≡ length router.old.queues }
     requires within { is_waiting given.now ≡ true → given.now.queue < length router.old.queues }
-    ensures yes { OnOk result (is_waiting given.now ≡ true → (planned : List Planned)
-        × (deaths.new.items ≡ deaths.old.items ++ planned)
-        × PlansAt router.old id.connection id.number (entries_of queues.now) given.now planned) }
-    ensures no { OnOk result (is_waiting given.now ≡ false → deaths.new.items ≡ deaths.old.items) }
+    ensures yes { OnOk result (is_waiting given.now ≡ true
+        → (entries : List (List Entry)) → AreTallied router.old.queues (entries_of queues.now) plan.old.tallies.entries entries
+        → ForeseesGiven router.old id.connection id.number given.now (entries_of queues.now) entries plan.new.tallies.entries
+        plan.old.arrivals.items plan.new.arrivals.items notes.old.items notes.new.items) }
+    ensures no { OnOk result (is_waiting given.now ≡ false → (plan.new.tallies.entries ≡ plan.old.tallies.entries)
+        × (plan.new.arrivals.items ≡ plan.old.arrivals.items) × (notes.new.items ≡ notes.old.items)) }
+    ensures within { All (λ i. i < length queues.now) (arriving_at plan.old.arrivals.items)
+        → All (λ i. i < length queues.now) (arriving_at plan.new.arrivals.items) }
+    ensures notes { Extends notes.old.items notes.new.items }
     ensures same { router.new ≡ router.old }
 {
     if given.is_waiting() {
-        plan_one(alloc, router, marker, queues, id, given, deaths)
+        plan_one(alloc, router, queues, id, given, plan, notes)
     } else {
         Ok(())
     }
 }
 
-/// Returns the deaths of all messages of `gone` that wait and are still held.
-fn plan(
+/// Plans the deaths of all messages of `gone` that wait and are still held. Returns the dead letters that enter queues. Appends all notes; if
+/// an allocation fails, some.
+fn plan_all(
     alloc: Global,
     router: &mut Router,
     queues: &Queues,
     id: ChannelId,
     gone: &[Delivery],
-) -> Result<Vec<Death>, AllocError>
+    notes: &mut Notes,
+) -> Result<Vec<Arrival>, AllocError>
     requires len { length queues.now ≡ length router.old.queues }
     requires within { AreWithin router.old (waiting gone.now) }
-    ensures planned { IfOk result (λ deaths.
-        ArePlanned router.old id.connection id.number (entries_of queues.now) (waiting gone.now) deaths.items) }
+    ensures foreseen { IfOk result (λ arrivals. IsForeseen router.old id.connection id.number (waiting gone.now)
+        (entries_of queues.now) arrivals.items notes.old.items notes.new.items) }
+    ensures within { IfOk result (λ arrivals. All (λ i. i < length queues.now) (arriving_at arrivals.items)) }
+    ensures notes { Extends notes.old.items notes.new.items }
     ensures same { router.new ≡ router.old }
 {
-    let mut marker = Marker::new();
-    let mut deaths = Vec::new(alloc);
-    deaths.reserve_exact(gone.len())?;
+    let mut plan = Plan::new(alloc);
     for given in gone {
-        plan_waiting(alloc, router, &mut marker, queues, id, given, &mut deaths)?;
+        plan_waiting(alloc, router, queues, id, given, &mut plan, notes)?;
     }
-    Ok(deaths)
+    let Plan { arrivals, .. } = plan;
+    Ok(arrivals)
 }
 
-/// Gives back the room of each queue that these deaths are routed to. Never allocates.
-fn give_back_targets(queues: &mut Queues, deaths: &[Death])
-    requires { All (IsSoundDeath (length queues.old)) deaths.now }
-    ensures same { entries_of queues.new ≡ entries_of queues.old }
+/// Removes the delivery's message from its queue, if it waits.
+fn leave(queues: &mut Queues, id: ChannelId, given: &Delivery)
+    requires { is_waiting given.now ≡ true → given.now.queue < length queues.old }
+    ensures yes { is_waiting given.now ≡ true → entries_of queues.new ≡ left_at id.connection id.number (entries_of queues.old) given.now }
+    ensures no { is_waiting given.now ≡ false → entries_of queues.new ≡ entries_of queues.old }
     ensures len { length queues.new ≡ length queues.old }
-    ensures gains { GainsNone queues.old queues.new }
-    ensures emptied { AreEmptied queues.new (λ place. times_in place deaths.now) }
+    ensures room { (place : ℕ) → room_at queues.new place ≡ room_at queues.old place }
 {
-    for death in deaths {
-        give_back_turns(queues, &death.turns);
+    if given.is_waiting() {
+        let holder = given.holder(id);
+        queues.queue_mut(given.queue).remove(&holder, given.arrival);
     }
 }
 
-/// Reserves room for the dead letters in each routed queue, but no more than its limit leaves. Appends the index of each queue that had no room
-/// to `roomy`. Fails only if an allocation fails; some of the room may be reserved then.
-fn make_rooms(
-    declared: &[DeclaredQueue],
+/// Removes the messages of those deliveries of `gone` that wait.
+fn leave_all(queues: &mut Queues, id: ChannelId, gone: &[Delivery])
+    requires { AreOf (length queues.old) (waiting gone.now) }
+    ensures left { entries_of queues.new ≡ all_left id.connection id.number (waiting gone.now) (entries_of queues.old) }
+    ensures len { length queues.new ≡ length queues.old }
+    ensures room { (place : ℕ) → room_at queues.new place ≡ room_at queues.old place }
+{
+    for given in gone {
+        leave(queues, id, given);
+    }
+}
+
+/// Appends the dead letter to its queue.
+fn arrive(queues: &mut Queues, arrival: Arrival)
+    requires within { arrival.place < length queues.old }
+    requires room { 0 < room_at queues.old arrival.place }
+    ensures arrived { entries_of queues.new ≡ arrived (arrival ∷ []) (entries_of queues.old) }
+    ensures len { length queues.new ≡ length queues.old }
+    ensures room { (place : ℕ) → room_at queues.new place + times place (arrival.place ∷ []) ≡ room_at queues.old place }
+{
+    let Arrival { place, message } = arrival;
+    queues.queue_mut(place).push(message);
+}
+
+/// Appends each of `arrivals` to its queue, one after another. There is room for all of them.
+fn arrive_all(queues: &mut Queues, arrivals: Vec<Arrival>)
+    requires within { All (λ i. i < length queues.old) (arriving_at arrivals.items) }
+    requires room { (place : ℕ) → times place (arriving_at arrivals.items) ≤ room_at queues.old place }
+    ensures arrived { entries_of queues.new ≡ arrived arrivals.items (entries_of queues.old) }
+    ensures len { length queues.new ≡ length queues.old }
+    ensures room { (place : ℕ) → room_at queues.new place + times place (arriving_at arrivals.items) ≡ room_at queues.old place }
+{
+    for arrival in arrivals {
+        arrive(queues, arrival);
+    }
+}
+
+/// Plans the rejection and reserves room for its dead letters, which are returned. Appends all notes; if an allocation fails, some.
+fn prepare(
+    alloc: Global,
+    router: &mut Router,
     queues: &mut Queues,
-    deaths: &[Death],
-    roomy: &mut Vec<usize>,
-) -> Result<(), AllocError>
-    requires len { length queues.old ≡ length declared.now }
-    requires sound { All (IsSoundDeath (length queues.old)) deaths.now }
-    ensures same { entries_of queues.new ≡ entries_of queues.old }
+    id: ChannelId,
+    gone: &[Delivery],
+    notes: &mut Notes,
+) -> Result<Vec<Arrival>, AllocError>
+    requires len { length queues.old ≡ length router.old.queues }
+    requires within { AreWithin router.old (waiting gone.now) }
+    ensures foreseen { IfOk result (λ arrivals. IsForeseen router.old id.connection id.number (waiting gone.now)
+        (entries_of queues.old) arrivals.items notes.old.items notes.new.items) }
+    ensures within { IfOk result (λ arrivals. All (λ i. i < length queues.old) (arriving_at arrivals.items)) }
+    ensures room { IfOk result (λ arrivals. (place : ℕ) → times place (arriving_at arrivals.items) ≤ room_at queues.new place) }
+    ensures few { IfOk result (λ arrivals. MakesAtMost queues.old queues.new (λ k. times k (arriving_at arrivals.items))) }
+    ensures gains { OnErr result (GainsNone queues.old queues.new) }
+    ensures queues { entries_of queues.new ≡ entries_of queues.old }
     ensures len { length queues.new ≡ length queues.old }
-    ensures room { OnOk result ((place : ℕ) → CanTakeAt declared.now queues.new place (times_in place deaths.now)) }
-    ensures promises { Promises queues.old queues.new roomy.old.items roomy.new.items (λ place. times_in place deaths.now) }
+    ensures notes { Extends notes.old.items notes.new.items }
+    ensures same { router.new ≡ router.old }
 {
-    for death in deaths {
-        promise_turns(declared, queues, &death.turns, roomy)?;
-    }
-    Ok(())
+    let arrivals = plan_all(alloc, router, queues, id, gone, notes)?;
+    make_rooms(queues, &arrivals)?;
+    Ok(arrivals)
 }
 
-/// Returns how many notes these deaths make, or the greatest `usize` if there are more: no vector has that capacity.
-fn count_notes(deaths: &[Death]) -> usize
-    ensures { (result ≡ notes_in deaths.now) ⊎ (result ≡ 2 ^ 64 - 1) }
-{
-    let mut count: usize = 0;
-    for death in deaths {
-        count = count.saturating_add(1 + death.turns.len());
-    }
-    count
-}
-
-/// Removes the message from its queue, and appends its dead letter to each routed queue that is not full.
-fn die(declared: &[DeclaredQueue], queues: &mut Queues, death: Death, notes: &mut Notes)
-    requires len { length queues.old ≡ length declared.now }
-    requires sound { IsSoundDeath (length queues.old) death }
-    requires room { (place : ℕ) → CanTakeAt declared.now queues.old place (times place (places death.turns.items)) }
-    requires notes { vec_len notes.old + 1 + vec_len death.turns ≤ vec_capacity notes.old }
-    ensures entries { entries_of queues.new ≡ died declared.now death (entries_of queues.old) }
-    ensures spent { SpendsRoom declared.now queues.old queues.new (λ place. times place (places death.turns.items)) }
-    ensures gains { GainsNone queues.old queues.new }
-    ensures len { length queues.new ≡ length queues.old }
-    ensures notes { notes.new.items ≡ notes.old.items ++ death_notes declared.now death (entries_of queues.old) }
-    ensures notes_len { vec_len notes.new ≡ vec_len notes.old + 1 + vec_len death.turns }
-    ensures notes_capacity { vec_capacity notes.new ≡ vec_capacity notes.old }
-{
-    let Death {
-        place,
-        holder,
-        arrival,
-        note,
-        turns,
-    } = death;
-    queues.queue_mut(place).remove(&holder, arrival);
-    notes.push_reserved(note);
-    enter_all(declared, queues, turns, Way::Dead, notes);
-}
-
-/// Performs these deaths, one after another.
-fn perform(declared: &[DeclaredQueue], queues: &mut Queues, deaths: Vec<Death>, notes: &mut Notes)
-    requires len { length queues.old ≡ length declared.now }
-    requires sound { All (IsSoundDeath (length queues.old)) deaths.items }
-    requires room { (place : ℕ) → CanTakeAt declared.now queues.old place (times_in place deaths.items) }
-    requires notes { vec_len notes.old + notes_in deaths.items ≤ vec_capacity notes.old }
-    ensures entries { entries_of queues.new ≡ died_all declared.now deaths.items (entries_of queues.old) }
-    ensures len { length queues.new ≡ length queues.old }
-    ensures gains { GainsNone queues.old queues.new }
-    ensures notes { notes.new.items ≡ notes.old.items ++ all_notes declared.now deaths.items (entries_of queues.old) }
-{
-    for death in deaths {
-        die(declared, queues, death, notes);
-    }
-}
-
-/// Rejects those deliveries of `gone` that wait: their messages leave their queues one after another.
+/// Rejects the unacknowledged deliveries of `gone`: their messages leave their queues one after another. Fails only if an
+/// allocation fails; only capacity may have changed then.
 pub(crate) fn reject_in(
     alloc: Global,
     router: &mut Router,
@@ -248,19 +348,19 @@ pub(crate) fn reject_in(
     ensures len { length queues.new ≡ length queues.old }
     ensures queues { OnErr result (entries_of queues.new ≡ entries_of queues.old) }
     ensures notes { OnErr result (notes.new.items ≡ notes.old.items) }
-    // what was reserved and not used is given back
+    // no room is left over
     ensures gains { GainsNone queues.old queues.new }
 {
-    let deaths = plan(alloc, router, queues, id, gone)?;
-    notes.reserve_exact(count_notes(&deaths))?;
-    give_back_targets(queues, &deaths);
-    let declared = router.topology().queues();
-    let mut roomy = Vec::new(alloc);
-    if make_rooms(declared, queues, &deaths, &mut roomy).is_err() {
-        give_back_all(queues, &roomy);
-        return Err(AllocError);
+    let len = notes.len();
+    match prepare(alloc, router, queues, id, gone, notes) {
+        Ok(arrivals) => {
+            leave_all(queues, id, gone);
+            arrive_all(queues, arrivals);
+            Ok(())
+        }
+        Err(_) => {
+            notes.truncate(len);
+            Err(AllocError)
+        }
     }
-    perform(declared, queues, deaths, notes);
-    give_back_all(queues, &roomy);
-    Ok(())
 }

@@ -25,7 +25,7 @@ pub(crate) fn name_of(topology: &Topology, given: &Delivery) -> Result<Text, All
     topology.queue(given.queue).name.clone()
 }
 
-/// Appends this delivery with its queue's name, if it waits. There is capacity for it.
+/// Appends `given`, with its queue's name, to `departures` if it is unacknowledged. There is capacity for it.
 fn add_departure(
     topology: &Topology,
     given: &Delivery,
@@ -33,7 +33,7 @@ fn add_departure(
 ) -> Result<(), AllocError>
     requires within { is_waiting given.now ≡ true → given.now.queue < length topology.now.queues }
     requires room { vec_len departures.old < vec_capacity departures.old }
-    // The delivery is appended if it waits, and at most one entry is used.
+    // The delivery is appended if it is unacknowledged, and at most one entry is used.
     ensures yes { OnOk result (is_waiting given.now ≡ true
         → departures.new.items ≡ departures.old.items ++ departure_in topology.now given.now ∷ []) }
     ensures no { OnOk result (is_waiting given.now ≡ false → departures.new.items ≡ departures.old.items) }
@@ -51,7 +51,7 @@ fn add_departure(
     Ok(())
 }
 
-/// Returns those deliveries of `gone` that wait, each with the name of its queue. Fails only if an allocation fails.
+/// Returns the unacknowledged deliveries of `gone`, each with the name of its queue. Fails only if an allocation fails.
 fn departures_of(
     alloc: Global,
     topology: &Topology,
@@ -68,7 +68,7 @@ fn departures_of(
     Ok(departures)
 }
 
-/// Removes the delivery's message from its queue, whose name is `queue`, with a note, if it is still held. There is capacity for the note.
+/// If the message of `given` is still held, removes it from its queue, which is named `queue`, and appends a note. There is capacity for the note.
 pub(crate) fn leave(
     queues: &mut Queues,
     id: ChannelId,
@@ -97,7 +97,8 @@ pub(crate) fn leave(
     }
 }
 
-/// Acknowledges those deliveries of `gone` that wait: their messages leave their queues one after another. All allocations come before that.
+/// Acknowledges the unacknowledged deliveries of `gone`: makes all allocations, and then removes their messages one after another.
+/// Fails only if an allocation fails; only capacity may have grown then.
 pub(crate) fn ack_all(
     alloc: Global,
     topology: &Topology,
@@ -127,7 +128,7 @@ pub(crate) fn ack_all(
     Ok(())
 }
 
-/// Requeues the delivery's message, if it waits: it is ready again in its place, marked redelivered.
+/// Requeues the message of `given` if this delivery is unacknowledged: it is ready again in its place, marked redelivered.
 fn put_back(queues: &mut Queues, id: ChannelId, given: &Delivery)
     requires { is_waiting given.now ≡ true → given.now.queue < length queues.old }
     ensures yes { is_waiting given.now ≡ true
@@ -143,7 +144,7 @@ fn put_back(queues: &mut Queues, id: ChannelId, given: &Delivery)
     }
 }
 
-/// Requeues those deliveries of `gone` that wait: each message is ready again in its place.
+/// Requeues the unacknowledged deliveries of `gone`: each message is ready again in its place, marked redelivered.
 pub(crate) fn requeue_in(queues: &mut Queues, id: ChannelId, gone: &[Delivery])
     requires { AreOf (length queues.old) (waiting gone.now) }
     ensures settled { (t : Declared) (n : ℕ) → IsWellFormed t → length queues.old ≡ length t.queues

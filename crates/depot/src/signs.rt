@@ -27,7 +27,7 @@ impl Model for QueueSigns {
     ghost view = { λ s. s.ready };
 }
 
-/// Returns whether a message of the queue can be given out.
+/// Returns whether `queue` has a ready message.
 pub(crate) fn has_ready(queue: &Queue) -> bool
     ensures { cond result 1 0 ≡ ready_bit queue.now.entries }
 {

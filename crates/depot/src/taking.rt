@@ -10,7 +10,7 @@ use model::{Cause, Note};
 use notes::Notes;
 use queue::Store;
 
-/// Gives out the first ready message of `queue` as `how` says, if any. Returns the number of its arrival if it is held now.
+/// Gives out the first ready message of `queue`, if any: marks it as held and returns the number of its arrival, or removes it with a note.
 pub(crate) fn give(queue: &mut Queue, how: Giving, notes: &mut Notes) -> Option<u64>
     requires free { CanGive how queue.old.entries }
     requires room { HasRoomFor how (vec_len notes.old) (vec_capacity notes.old) }

@@ -1,8 +1,8 @@
-//! The turn of a message at one routed queue.
+//! The turn of a message at one of the queues that it is routed to.
 
 use model::{Message, Text};
 
-/// The turn of a message at the queue at an index, with the queue's name.
+/// A turn: `message` is to be appended to the queue at index `place`, named `name`, which refuses it if it is full then.
 #[derive(Drop)]
 pub(crate) struct PlannedTurn {
     pub(crate) place: usize,

@@ -21,6 +21,10 @@ pub ok_map : {T F : Type 0} (r : Result T F) (P Q : T → Type 0) → ((x : T) �
 ok_map (Ok x) P Q f p = f x p
 ok_map (Err e) P Q f p = tt
 
+pub ok_both : {T F : Type 0} (r : Result T F) (P Q R : T → Type 0) → ((x : T) → P x → Q x → R x) → IfOk r P → IfOk r Q → IfOk r R
+ok_both (Ok x) P Q R f p q = f x p q
+ok_both (Err e) P Q R f p q = tt
+
 pub on_err : {T F : Type 0} (r : Result T F) (P : Type 0) → P → OnErr r P
 on_err (Ok x) P p = tt
 on_err (Err e) P p = p

@@ -9,6 +9,7 @@ pub mod Changed
 pub mod Agreeing
 pub mod Putting
 pub mod Lifted
+pub mod Within
 pub mod Openings
 pub mod Tooks
 pub mod Swept
@@ -17,3 +18,4 @@ pub mod Certifying
 pub mod Waiting
 pub mod Offered
 pub mod Retried
+pub mod Reserved

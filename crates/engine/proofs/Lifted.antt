@@ -1,5 +1,5 @@
 -- A turn of one connection is a turn of the world.
-use Rattle.engine.proofs.Names.{◌≡◌, ◌≢◌, ℕ, List, [], ◌∷◌, ◌++◌, Bool, true, false, cond, Option, Some, None, drop, refl, sym, ap, subst, ◌∙◌, append-nil, ◌⊎◌, inl, inr, ◌==◌, ◌&&◌, not, if◌then◌else◌, MatchBool, eq-eqb, Broker, with_one, Stream, Ends, stays, running_stream, heard, Session, Move, to_phase, after_sends, faulted, IsAnswered, first_move, User, Config, State, Step, Steps, Moves, OfCommand, OfLarge, OfFault, OfFirst, Acts, empty_publish, spelling, Happening, notes_of, Wire, Turns, Pauses, Reads, again, fresh, fault, event_of, is_over, is_paused, is_ended, is_past_bound, wire_after, under_session, new_wire, Waits, Same, SameToCome, still, waits, IsIdle, Takes_off, Loses, with_heard, Note, Send, Phase, Command, Head, Plain, TooLarge, Event, stream_of, rules_of, DecidesByPhase, ByBroker, ByPhase, session_after, PausesOr, kept_of, ConnectionDid, ConnectionWaits, WaitingBytes, Parts, connection_in, session_of, wire_in, wire_of, config_of, state_of, world_of, Becomes, ConnectionSent, ConnectionFed, world_same, Hears, Connection}
+use Rattle.engine.proofs.Names.{◌≡◌, ◌≢◌, ℕ, List, [], ◌∷◌, ◌++◌, Bool, true, false, cond, Option, Some, None, drop, refl, sym, ap, subst, ◌∙◌, append-nil, ◌⊎◌, inl, inr, ◌==◌, ◌&&◌, not, if◌then◌else◌, MatchBool, eq-eqb, Broker, with_one, Stream, Ends, stays, running_stream, heard, Session, Move, to_phase, after_sends, faulted, IsAnswered, first_move, User, Config, State, Step, Steps, Moves, OfCommand, OfLarge, OfFault, OfFirst, Acts, empty_publish, spelling, Happening, notes_of, Wire, Turns, Pauses, Reads, again, fresh, fault, event_of, is_over, is_paused, is_ended, is_past_bound, wire_after, under_session, new_wire, Waits, Same, SameToCome, still, waits, IsIdle, Takes_off, Loses, with_heard, Note, Send, Phase, Command, Head, Plain, TooLarge, Event, stream_of, rules_of, IsAskedBy, DecidesByPhase, ByBroker, ByPhase, session_after, PausesOr, kept_of, ConnectionDid, ConnectionWaits, WaitingBytes, Parts, connection_in, session_of, wire_in, wire_of, config_of, state_of, world_of, Becomes, ConnectionSent, ConnectionFed, world_same, Hears, Connection}
 use Rattle.model.specs.Words.{Text}
 use Rattle.model.specs.declared.contents.Content.{Content}
 use Rattle.model.specs.declared.methods.Method.{Method}
@@ -76,6 +76,29 @@ commanded (Full h p content) f s c sess sess' sends notes mid eq by =
     subst (λ (z : Session). OfCommand f s z.phase c h (BasicPublish p) (Some content) sends notes (record { broker = mid; session = with_one s.session c sess' })) (sym eq) (of_command sess.phase f s c h (BasicPublish p) (Some content) sess sess' sends notes mid eq refl by)
 commanded (TooLarge h) f s c sess sess' sends notes mid eq by =
     subst (λ (z : Session). OfLarge f s z.phase c h sends notes (record { broker = mid; session = with_one s.session c sess' })) (sym eq) (of_large sess.phase f s c h sess sess' sends notes mid eq refl by)
+
+-- the same for any event that the connection itself asks for
+pub decided_steps : (c : ℕ) (e : Event) → IsAskedBy c e → (f : Config) (s : State) (sess sess' : Session) (sends : List Send) (notes : List Note) (mid : Broker)
+    → s.session c ≡ sess → DecidesByPhase c sess.phase (rules_of f.topology f.users) s.broker sess e sends notes mid sess'
+    → Step f s e sends notes (record { broker = mid; session = with_one s.session c sess' })
+decided_steps c (event.First d bytes) is f s sess sess' sends notes mid eq =
+    subst (λ (x : ℕ). DecidesByPhase c sess.phase (rules_of f.topology f.users) s.broker sess (event.First x bytes) sends notes mid sess' → Step f s (event.First x bytes) sends notes (record { broker = mid; session = with_one s.session c sess' })) (sym is)
+    (λ by. subst (λ (z : Session). OfFirst f s z.phase c bytes sends notes (record { broker = mid; session = with_one s.session c sess' })) (sym eq) (of_first sess.phase f s c bytes sess sess' sends notes mid eq refl by))
+decided_steps c (event.Command d h m content) is f s sess sess' sends notes mid eq =
+    subst (λ (x : ℕ). DecidesByPhase c sess.phase (rules_of f.topology f.users) s.broker sess (event.Command x h m content) sends notes mid sess' → Step f s (event.Command x h m content) sends notes (record { broker = mid; session = with_one s.session c sess' })) (sym is)
+    (λ by. subst (λ (z : Session). OfCommand f s z.phase c h m content sends notes (record { broker = mid; session = with_one s.session c sess' })) (sym eq) (of_command sess.phase f s c h m content sess sess' sends notes mid eq refl by))
+decided_steps c (event.TooLarge d h) is f s sess sess' sends notes mid eq =
+    subst (λ (x : ℕ). DecidesByPhase c sess.phase (rules_of f.topology f.users) s.broker sess (event.TooLarge x h) sends notes mid sess' → Step f s (event.TooLarge x h) sends notes (record { broker = mid; session = with_one s.session c sess' })) (sym is)
+    (λ by. subst (λ (z : Session). OfLarge f s z.phase c h sends notes (record { broker = mid; session = with_one s.session c sess' })) (sym eq) (of_large sess.phase f s c h sess sess' sends notes mid eq refl by))
+decided_steps c (event.Fault d code) is f s sess sess' sends notes mid eq =
+    subst (λ (x : ℕ). DecidesByPhase c sess.phase (rules_of f.topology f.users) s.broker sess (event.Fault x code) sends notes mid sess' → Step f s (event.Fault x code) sends notes (record { broker = mid; session = with_one s.session c sess' })) (sym is)
+    (λ by. subst (λ (z : Session). OfFault f s z.phase c code sends notes (record { broker = mid; session = with_one s.session c sess' })) (sym eq) (of_fault sess.phase f s c code sess sess' sends notes mid eq refl by))
+decided_steps c (event.Open d) is f s sess sess' sends notes mid eq = absurd is
+decided_steps c (event.Running d max k) is f s sess sess' sends notes mid eq = absurd is
+decided_steps c (event.Lose d) is f s sess sess' sends notes mid eq = absurd is
+decided_steps c (event.Pause d) is f s sess sess' sends notes mid eq = absurd is
+decided_steps c (event.Resume d) is f s sess sess' sends notes mid eq = absurd is
+decided_steps c (event.Deliver d) is f s sess sess' sends notes mid eq = absurd is
 
 pub asked_steps : (c : ℕ) (k : Option Command) (st nx : Stream) (e : Event) (f : Config) (s : State) (sess sess' : Session) (sends : List Send) (notes : List Note) (mid : Broker)
     → Reads c k st e nx → s.session c ≡ sess → DecidesByPhase c sess.phase (rules_of f.topology f.users) s.broker sess e sends notes mid sess'

@@ -1,6 +1,5 @@
 -- The contracts of an engine's calls: first over one connection, then over the list of connections, then over the world.
-use Rattle.std.specs.Prelude.{◌≡◌, ◌+◌, ◌≤◌, ◌<◌, ℕ, List, [], ◌∷◌, ◌++◌, length, drop, true, false, Option, Some, None, Result, Ok}
-use Rattle.model.specs.Sending.{most_sent}
+use Rattle.std.specs.Prelude.{◌≡◌, ◌+◌, ◌<◌, ℕ, List, [], ◌∷◌, ◌++◌, length, drop, true, false, Option, Some, None, Result, Ok}
 use Rattle.std.specs.Prelude.{Err, if◌then◌else◌, get_or, set}
 use Rattle.std.specs.List.{remove}
 use Rattle.model.specs.Topology.{Topology}
@@ -39,12 +38,12 @@ pub record ConnectionWants (b : Broker) (old : Connection) (new_b : Broker) (new
   pub more : HasMore (kept_of old.kept) (stream_of old.stream)
   pub waits : ConnectionWaits b old new_b new
 
--- what a turn of one connection leaves: the right outcome, or after an allocation failure the state before it
+-- the state after a turn of one connection: as the outcome says, or with nothing performed if an allocation failed
 abbrev pub ConnectionTookOr : {E : Type 0} → Rules → Broker → Connection → Result Turn E → Broker → Connection → Type 0
 ConnectionTookOr r b old (Ok what) new_b new = ConnectionTook r b old what new_b new
 ConnectionTookOr r b old (Err e) new_b new = ConnectionWants b old new_b new
 
--- `n` bytes were taken from the front of the output, and the broker has learned of the resumption if the output fell below the bound.
+-- `n` bytes were taken from the front of the output, and the broker has resumed the connection if its output fell below the bound.
 pub record ConnectionSent (t : Topology) (b : Broker) (old : Connection) (n : ℕ) (new_b : Broker) (new : Connection) : Type 0 where
   pub number : new.number ≡ old.number
   pub session : new.session ≡ old.session
@@ -61,12 +60,12 @@ pub record ConnectionFed (old : Connection) (bytes : List ℕ) (new : Connection
   pub output : new.output ≡ old.output
   pub stream : is_ended old.session.phase ≡ false → stream_of new.stream ≡ heard (stream_of old.stream) bytes
   pub fault : new.stream.fault ≡ old.stream.fault
-  -- a connection that is over keeps nothing
+  -- a connection that is over is unchanged
   pub over : is_ended old.session.phase ≡ true → new ≡ old
 
 -- ---- the connections
 
--- how many more bytes a connection's input takes without a growth
+-- how many more bytes a connection's input takes before it has to grow
 abbrev pub room_in : Option Connection → ℕ
 room_in None = 0
 room_in (Some l) = l.stream.room
@@ -92,10 +91,6 @@ IsStanding ls i = (l : Connection) → get_or ls i l ≡ l → is_connection_gon
 pub record IsSwept (ls : List Connection) (i : ℕ) (l : Connection) (new_ls : List Connection) : Type 0 where
   pub left : new_ls ≡ (if is_connection_gone l then remove ls i else ls)
   pub over : is_connection_gone l ≡ true → l.session ≡ no_session
-
--- the storage of a lost connection's output becomes spare, if it has the usual size and at most 16 are spare
-abbrev pub IsSpared : ℕ → Connection → ℕ → Type 0
-IsSpared old l new = most_sent ≤ l.output.storage → l.output.storage ≤ 1125536 → old ≤ 16 → new ≡ old + 1
 
 -- The connection at index `i` changed from `old` to `new`.
 pub record Changes (ls : List Connection) (i : ℕ) (old new : Connection) (new_ls : List Connection) : Type 0 where
@@ -132,7 +127,7 @@ pub record ConnectionsFed (ls : List Connection) (i : ℕ) (bytes : List ℕ) (n
 
 -- ---- the engine
 
--- how many more bytes the input of connection `c` takes without a growth
+-- how many more bytes the input of connection `c` takes before it has to grow
 abbrev pub room_for : Parts → ℕ → ℕ
 room_for p c = room_in (connection_in p.connections c)
 
@@ -153,7 +148,7 @@ pub record IsTurn (old : World) (c : ℕ) (notes : List Note) (new : World) : Ty
   pub promises : KeepsEvents old.state.broker happenings new.state.broker
   -- its replies are appended to the connection's output
   pub output : (new.wire c).output ≡ (old.wire c).output ++ put_out c happenings
-  -- its acks and nacks are those of the publishes that were confirmed in this turn
+  -- the acks and nacks that are put out are those of the publishes that were confirmed in this turn
   pub confirms : Confirms c happenings (put_out c happenings)
 
 -- what each result of a turn means: what was performed, or why nothing was

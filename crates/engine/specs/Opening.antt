@@ -9,15 +9,15 @@ use Rattle.engine.specs.declared.engines.Refused.{Refused}
 use Rattle.engine.specs.declared.engines.Refused.TheVariants.{Full, Spent, Memory}
 use Rattle.engine.specs.declared.connection.Connection.{Connection}
 
--- the number of the next connection if `given` numbers were given and `ls` are not gone; or why there is none
+-- the number of the next connection, if `given` numbers were given and `ls` are the connections that are not gone; or why it can't be opened
 abbrev pub Numbers : ℕ → List Connection → Result ℕ Refused → Type 0
 Numbers given ls (Ok n) = (n ≡ given + 1) × (length ls < 1024) × (given < 18446744073709551615)
 Numbers given ls (Err Full) = 1024 ≤ length ls
 Numbers given ls (Err Spent) = (length ls < 1024) × (18446744073709551615 ≤ given)
 Numbers given ls (Err Memory) = (length ls < 1024) × (given < 18446744073709551615)
 
--- The event `e` opened the connection with the next number, whose stream is `s`; or 1,024 connections are not gone; or the last number was given;
--- or a connection could be opened, but an allocation failed. In the last three cases nothing has changed.
+-- The event `e` opened the connection with the next number, whose stream is `s`. Or nothing has changed, for one of three reasons: there are 1,024
+-- connections that are not gone, the last number was given, or an allocation failed.
 abbrev pub OpenedBy : Event → Stream → World → Result ℕ Refused → World → Type 0
 OpenedBy e s old (Ok n) new = IsOpened e s old (Some n) new
 OpenedBy e s old (Err Full) new = (nat_lt (standing old old.given) 1024 ≡ false) × Same old new

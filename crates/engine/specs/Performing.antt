@@ -1,4 +1,4 @@
--- What one event of one connection does: a running connection's is performed by the broker, any other's is answered by its phase.
+-- The effect of one event of one connection. If the connection runs, the broker performs the event; otherwise the phase answers it.
 use Rattle.std.specs.Prelude.{◌≡◌, ℕ, List, [], Bool, true, false}
 use Rattle.model.specs.Topology.{Topology}
 use Rattle.model.specs.Broker.{Broker}
@@ -50,7 +50,7 @@ pub record ByBroker (t : Topology) (b : Broker) (s : Session) (e : Event)
   pub acts : Acts t b e sends notes new_b
   pub session : new_s ≡ session_after s e sends
 
--- The phase answers connection c's event by itself: nothing is noted, and the broker gets the connection if it is running after that.
+-- The phase answers connection c's event by itself: there are no notes, and the connection is opened at the broker if it is running afterwards.
 pub record ByPhase (users : List User) (c : ℕ) (p : Phase) (b : Broker) (s : Session) (e : Event)
     (sends : List Send) (notes : List Note) (new_b : Broker) (new_s : Session) : Type 0 where
   pub asked : IsAskedBy c e
@@ -71,7 +71,7 @@ pub record IsPause (t : Topology) (c : ℕ) (b new : Broker) : Type 0 where
 pub record IsResume (t : Topology) (c : ℕ) (b new : Broker) : Type 0 where
   pub acts : Acts t b (Resume c) [] [] new
 
--- the pause or resume that a change of the output causes: `was` and `is` are whether it is past the bound before and after
+-- the pause or resume that a change of the output causes: `was` is whether the output was past the bound before, `is` whether it is after
 abbrev pub PausesOr : Topology → ℕ → Bool → Bool → Broker → Broker → Type 0
 PausesOr t c false true b new = IsPause t c b new
 PausesOr t c true false b new = IsResume t c b new

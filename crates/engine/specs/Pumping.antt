@@ -1,4 +1,4 @@
--- What a delivery does to the broker and to one connection.
+-- The effects of a delivery on the broker and on one connection.
 use Rattle.std.specs.Prelude.{◌≡◌, ◌≤◌, ◌<◌, ◌++◌, ℕ, List, length, false, get_or, set}
 use Rattle.std.specs.List.{AllByRecursion}
 use Rattle.model.specs.Topology.{Topology}
@@ -16,7 +16,8 @@ use Rattle.engine.specs.declared.connection.Connection.{Connection}
 
 -- ---- one connection
 
--- A message was delivered to consumer `to` of the connection: the frames are appended to its output, and the broker pauses it if that passed the bound.
+-- A message was delivered to consumer `to` of the connection: its frames are appended to the output, and the broker pauses the connection if that
+-- brought the output past the bound.
 pub record ConnectionPumped (t : Topology) (b : Broker) (to : Pick) (old : Connection) (notes : List Note) (new_b : Broker) (new : Connection) : Type 0 where
   pub sends : List Send
   pub mid : Broker
@@ -61,7 +62,7 @@ pub record IsPump (old : World) (connection : ℕ) (notes : List Note) (new : Wo
   pub delivers : Delivers old connection happenings new
   pub promises : KeepsEvents old.state.broker happenings new.state.broker
 
--- The same, and the delivery that happened is the one to the consumer `to`.
+-- `IsPump`, and the delivery is the one to the consumer `to`.
 pub record IsPumpTo (old : World) (to : Pick) (notes : List Note) (new : World) : Type 0 where
   pub pump : IsPump old to.connection notes new
   pub given : DeliversTo old.state.broker to pump.delivers.puts.h.sends pump.delivers.puts.h.notes pump.delivers.puts.h.after.broker

@@ -1,4 +1,4 @@
--- What putting another topology in force does to the broker (own).
+-- The effect on the broker of putting another topology in force (own).
 use Rattle.std.specs.Prelude.{◌≡◌, Option, Some, None, Result, Ok, Err}
 use Rattle.model.specs.Step.{Is}
 use Rattle.model.specs.State.{Config}

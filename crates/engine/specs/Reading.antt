@@ -1,4 +1,4 @@
--- What a connection's bytes ask for next.
+-- The next event in a connection's bytes: a command or a fault.
 use Rattle.std.specs.Prelude.{◌≡◌, ◌⊎◌, ◌+◌, ◌<◌, ℕ, length, Option, Some, None}
 use Rattle.model.specs.Commands.{Stream, Ends, GoesOn, IsCommand}
 use Rattle.model.specs.Arrivals.{Reads, SameToCome, event_of}

@@ -1,4 +1,4 @@
--- What a turn does to the broker and to one connection.
+-- The effects of a turn on the broker and on one connection.
 use Rattle.std.specs.Prelude.{◌≡◌, ◌⊎◌, ◌≤◌, ◌<◌, ◌++◌, ℕ, List, Bool, true, false, Option, Some, None, Result, Ok, Err}
 use Rattle.std.specs.List.{AllByRecursion}
 use Rattle.model.specs.Broker.{Broker}
@@ -19,7 +19,7 @@ use Rattle.engine.specs.declared.connection.Connection.{Connection}
 use Rattle.engine.specs.declared.turning.Turn.{Turn}
 use Rattle.engine.specs.declared.turning.Turn.TheVariants as turn
 
--- An event of connection c was performed: the replies are appended to its output, and the broker pauses it if that passed the bound.
+-- An event of connection c was performed: the replies are appended to its output, and the broker pauses it if that brought the output past the bound.
 pub record Performed (r : Rules) (b : Broker) (c : ℕ) (s : Session) (output : List ℕ) (event : Event)
     (notes : List Note) (new_b : Broker) (new_s : Session) (new_output : List ℕ) : Type 0 where
   pub sends : List Send
@@ -31,7 +31,7 @@ pub record Performed (r : Rules) (b : Broker) (c : ℕ) (s : Session) (output : 
   pub put : new_output ≡ output ++ spelling s.frame_max sends
   pub pauses : PausesOr r.topology c false (is_past_bound new_output) mid new_b
 
--- The event was performed: nothing is pending, no further byte was read, and the stream follows the session unless it broke.
+-- The event was performed: nothing is pending, no further byte was read, and the stream has the session's settings unless it broke.
 pub record ConnectionPerformed (r : Rules) (b : Broker) (old : Connection) (event : Event) (notes : List Note)
     (new_b : Broker) (new : Connection) : Type 0 where
   pub performed : Performed r b old.number old.session old.output.bytes event notes new_b new.session new.output.bytes
@@ -50,7 +50,7 @@ DidEvent r b old event turn.Over new_b new = ⊥
 abbrev pub MayTurn : Connection → Type 0
 MayTurn l = (is_ended l.session.phase ≡ false) × (is_past_bound l.output.bytes ≡ false)
 
--- Nothing was performed, and what the connection says next is unchanged.
+-- Nothing was performed, and the commands still to come from the connection are unchanged.
 pub record ConnectionWaits (b : Broker) (old : Connection) (new_b : Broker) (new : Connection) : Type 0 where
   pub broker : new_b ≡ b
   pub number : new.number ≡ old.number
@@ -75,7 +75,7 @@ abbrev pub DidNext : Rules → WithTurn → Connection → (kept : Option Event)
 DidNext r b old (Some event) what new_b new = DidEvent r (broker_of b) old event what (broker_of new_b) new × NobodyIsPutBack b new_b
 DidNext r b old None what new_b new = DidNothing b old what new_b new
 
--- The next event was read and performed. Nothing is pending, and the stream goes on behind it, with the session's frame length.
+-- The next event was read and performed. Nothing is pending, and the stream continues behind that event, with the session's settings.
 pub record ConnectionDid (r : Rules) (b : Broker) (old : Connection) (notes : List Note) (new_b : Broker) (new : Connection) : Type 0 where
   pub event : Event
   pub next : Stream
@@ -84,7 +84,7 @@ pub record ConnectionDid (r : Rules) (b : Broker) (old : Connection) (notes : Li
   pub performed : Performed r b old.number old.session old.output.bytes event notes new_b new.session new.output.bytes
   pub number : new.number ≡ old.number
   pub none_kept : new.kept ≡ None
-  -- after a fault the connection is over
+  -- the stream has the session's settings, and less is left to read; or the connection is over, as after a fault
   pub follows : (stream_of new.stream ≡ under_session new.session next) ⊎ (is_ended new.session.phase ≡ true)
   pub fewer : (to_read None (stream_of new.stream) < to_read (kept_of old.kept) (stream_of old.stream)) ⊎ (is_ended new.session.phase ≡ true)
 
@@ -94,7 +94,7 @@ pub record ConnectionIdle (b : Broker) (old : Connection) (new_b : Broker) (new 
   pub none_kept : old.kept ≡ None
   pub ends : Ends (stream_of old.stream) None
 
--- nothing has changed
+-- neither the broker nor the connection has changed
 pub record ConnectionSame (b : Broker) (old : Connection) (new_b : Broker) (new : Connection) : Type 0 where
   pub broker : new_b ≡ b
   pub connection : new ≡ old

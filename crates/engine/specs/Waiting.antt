@@ -21,7 +21,7 @@ pub record KeepsTurns (old new : WithTurn) : Type 0 where
   pub topology : topology_kept new ≡ topology_kept old
   pub later : NoneIsLater old new
 
--- The next event of connection c was performed: no consumer is put back, and a new one is added behind all others.
+-- The next event of connection c was performed: no consumer is put back, and a new one, if any, is added behind all others.
 pub record PerformsNext (c : ℕ) (w : Wire) (old new : WithTurn) : Type 0 where
   pub event : Event
   pub next : Stream
@@ -43,7 +43,7 @@ TurnLeaves c w old turn.Over new = new ≡ old
 abbrev pub KeepsTold : WithTurn → Pick → Type 0
 KeepsTold old told = (p : Pick) → old.turn ≡ Some p → IsPick (broker_of old) p → told ≡ p
 
--- A consumer was picked in round-robin order, or again. Nothing is delivered.
+-- The consumer `told` is picked: again if it was picked before and still can take a message, otherwise in round-robin order. Nothing is delivered.
 pub record TellsOne (old new : WithTurn) : Type 0 where
   pub told : Pick
   pub again : KeepsTold old told
@@ -51,8 +51,8 @@ pub record TellsOne (old new : WithTurn) : Type 0 where
   pub kept : new.kept ≡ old.kept
   pub in_turn : IsToldInTurn old told new
 
--- A consumer of this connection was picked in its turn, and a message was delivered to it. Each consumer that waits in its queue was passed over
--- by few deliveries of that queue, this one among them, and none is put back.
+-- A consumer of `connection` was picked in its turn, and a message was delivered to it. Each other consumer that waits at the same queue was passed
+-- over by few deliveries of that queue, this delivery included, and no consumer is put back.
 pub record ServesOne (old : Parts) (connection : ℕ) (notes : List Note) (new : Parts) : Type 0 where
   pub mid : WithTurn
   pub told : TellsOne old.broker mid
@@ -63,7 +63,7 @@ pub record ServesOne (old : Parts) (connection : ℕ) (notes : List Note) (new :
   pub later : NoneIsLater mid new.broker
   pub soon : ServesSoon mid told.told
 
--- No consumer is picked: the order of each queue is unchanged, and so is everything else.
+-- No consumer is picked: the order of each queue's consumers is unchanged, and so is everything else.
 pub record TellsNobody (old new : WithTurn) : Type 0 where
   pub turn : new.turn ≡ None
   pub kept : new.kept ≡ old.kept

@@ -1,16 +1,22 @@
 -- When a call of an engine may fail to allocate (own).
-use Rattle.std.specs.Prelude.{◌≡◌, ◌<◌, ◌≤◌, ℕ, length, Bool, true, false, Some}
+use Rattle.std.specs.Prelude.{◌≡◌, ◌<◌, ◌≤◌, if◌then◌else◌, ℕ, List, [], length, Bool, true, false, None, Some}
 use Rattle.reloading.specs.Wanting.{MayWant}
 use Rattle.model.specs.Consuming.{CanDeliver}
 use Rattle.model.specs.Arrivals.{World, can_open, is_over, is_awake}
+use Rattle.model.specs.Spelling.{spelling}
+use Rattle.model.specs.declared.methods.Method.TheVariants.{BasicAck, BasicGet, BasicNack, BasicPublish, BasicReject}
 use Rattle.model.specs.declared.events.Event.{Event}
-use Rattle.model.specs.declared.events.Event.TheVariants.{Command}
+use Rattle.model.specs.declared.events.Event.TheVariants.{Command, Deliver}
+use Rattle.model.specs.declared.events.Send.{Send}
+use Rattle.outputs.specs.Storages.{SpareCounts, room_of}
+use Rattle.outputs.specs.declared.room.Room.{Room}
+use Rattle.outputs.specs.declared.room.Room.TheVariants as room
 use Rattle.engine.specs.Reading.{HasMore}
 use Rattle.runs.specs.Wants.{Want, To_open, To_open_ready, To_feed, To_turn, To_pump, To_reload}
 
--- opening may if a connection can be opened, feeding if the connection is not over and there are bytes, a turn if a command is pending or there
--- is something to read, a delivery if one can be made;
--- a reload if each queue in use is still declared, or if the first that is not has a long name
+-- Which calls may fail to allocate: opening if a connection can be opened; feeding if the connection is not over and there are bytes; a turn if the
+-- connection is awake and a command is pending or there is something to read; a delivery if one can be made; a reload if the new topology declares
+-- each queue in use, or if the first queue in use that it lacks has a name of more than 22 bytes.
 abbrev pub engine_lacks : World → Want → Type 0
 engine_lacks w To_open = can_open w ≡ true
 engine_lacks w (To_open_ready k) = can_open w ≡ true
@@ -19,15 +25,31 @@ engine_lacks w (To_turn c) = (is_awake w c ≡ true) × HasMore (w.wire c).kept 
 engine_lacks w To_pump = (c : ℕ) × CanDeliver w.state.broker c
 engine_lacks w (To_reload offered) = MayWant w.config.topology offered.topology w.state.broker
 
--- a command with a content, as a publish has (own)
+-- the event is a command with a content, as a publish is (own)
 abbrev pub brings_message : Event → Bool
 brings_message (Command c h m (Some content)) = true
 brings_message e = false
 
--- the reserve is whole: at least eight storages are spare
-abbrev pub IsHeld : ℕ → Type 0
-IsHeld spares = 8 ≤ spares
+-- What the event's sends need room for. Only a get, a publish that may be returned and a delivery send a content (own).
+abbrev pub room_wanted : Event → Room
+room_wanted (Command c h (BasicGet m) content) = room.Content
+room_wanted (Command c h (BasicPublish p) content) = if p.mandatory then room.Content else room.Reply
+room_wanted (Deliver c) = room.Content
+room_wanted e = room.Reply
 
--- the reserve was freed: at most two storages are spare
-abbrev pub IsFreed : ℕ → Type 0
-IsFreed spares = spares ≤ 2
+-- the sends have no more bytes than this room, whatever size of frames is agreed on
+abbrev pub AreWithin : Room → List Send → Type 0
+AreWithin room sends = (max : ℕ) → 4096 ≤ max → length (spelling max sends) ≤ room_of room
+
+-- Room for a reply, in an output in which nothing waits, costs no large storage, unless the reserve was freed: then at most 3 are spare.
+abbrev pub KeepsLarge : Room → List ℕ → SpareCounts → SpareCounts → Type 0
+KeepsLarge wanted bytes old new = wanted ≡ room.Reply → bytes ≡ [] → 3 < new.contents → old.contents ≤ new.contents
+
+-- How many unread bytes may be read with memory of the reserve after this event: none after a publish, what two reads of a socket give after
+-- an ack, nack or reject, and otherwise more than a login has (own).
+abbrev pub allowance_after : Event → ℕ
+allowance_after (Command c h m (Some content)) = 0
+allowance_after (Command c h (BasicAck m) None) = 131072
+allowance_after (Command c h (BasicNack m) None) = 131072
+allowance_after (Command c h (BasicReject m) None) = 131072
+allowance_after e = 4096

@@ -16,7 +16,7 @@ use Rattle.broker.specs.Turns.{topology_kept, broker_of}
 use Rattle.engine.specs.Reading.{IsKeptEvent, kept_of}
 use Rattle.engine.specs.declared.connection.Connection.{Connection}
 
--- the broker, what is in force, the last number that was given, and the connections that are not gone
+-- the broker, what is in force, the last connection number that was given, and the connections that are not gone
 pub record Parts : Type 0 where
   pub broker : broker.WithTurn
   pub guarantees : List Guarantee
@@ -35,7 +35,7 @@ abbrev pub session_of : Option Connection → Session
 session_of None = no_session
 session_of (Some l) = l.session
 
--- a connection's bytes, in and out; `true` is that it is over, and then nothing further is read
+-- a connection's bytes, in and out; only its output if it is over (`true`), since nothing further is read then
 abbrev pub wire_in : Bool → Connection → Wire
 wire_in true l = record new_wire { output = l.output.bytes }
 wire_in false l = record { kept = kept_of l.kept; stream = stream_of l.stream; output = l.output.bytes }
@@ -74,7 +74,7 @@ pub record IsConnection (given : ℕ) (l : Connection) : Type 0 where
   pub here : is_connection_gone l ≡ false
   pub kept : IsKeptEvent l.number l.kept l.stream.fault
 
--- a connection that was just opened, in this session and with this stream
+-- `l` is connection `number`, just opened, with this session and this stream, nothing pending and no output
 pub record IsNew (l : Connection) (number : ℕ) (session : Session) (stream : Stream) : Type 0 where
   pub number_is : l.number ≡ number
   pub session_is : l.session ≡ session
@@ -82,7 +82,7 @@ pub record IsNew (l : Connection) (number : ℕ) (session : Session) (stream : S
   pub stream_is : stream_of l.stream ≡ stream
   pub output : l.output.bytes ≡ []
 
--- the connections that are not gone, if `given` numbers were given
+-- `ls` are connections that are not gone, in ascending order of their numbers, all of which are at most `given`
 pub record AreConnections (given : ℕ) (ls : List Connection) : Type 0 where
   pub rising : AreRising 0 ls
   pub each : AllByRecursion (IsConnection given) ls

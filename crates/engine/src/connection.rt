@@ -25,11 +25,12 @@ pub(crate) struct Connection {
     /// The pending event: read and not performed yet. Between turns it is a command for which an allocation failed.
     pub(crate) kept: Option<Event>,
     pub(crate) output: Output,
-    /// The most bytes of unread input with which its reading may use the memory of the reserve, by the last command that was performed.
+    /// Reading this connection's input may use the memory of the reserve only if at most this number of bytes is unread.
+    /// Depends on the last command that was performed.
     pub(crate) allowance: usize,
 }
 
-/// Written out so that a drop is one call.
+/// Not derived: a derived drop is expanded, and proved again, in each function that drops the value.
 impl Drop for Connection {
     fn drop(self) {
         let Connection {

@@ -17,10 +17,11 @@ ghost use Rattle.std.specs.List.{remove};
 ghost use Rattle.model.specs.Arrivals.{is_ended};
 ghost use Rattle.broker.specs.Turns.{topology_kept, broker_of};
 ghost use Rattle.broker.specs.Waiting.{NoneIsLater};
+ghost use Rattle.outputs.specs.Storages.{TakesIn};
 ghost use Rattle.outputs.specs.Waiting.{HoldsNone};
 ghost use Rattle.engine.specs.World.{AreRising};
 ghost use Rattle.engine.specs.Turning.{has_performed as performs};
-ghost use Rattle.engine.specs.Engines.{HasConnection, IsConnectionPlace, ConnectionSent, ConnectionFed, IsSwept, IsStanding, IsSpared};
+ghost use Rattle.engine.specs.Engines.{HasConnection, IsConnectionPlace, ConnectionSent, ConnectionFed, IsSwept, IsStanding};
 ghost use Rattle.engine.specs.declared.connection.Connection as seen;
 
 use crate::connection::{BOUND, Connection};
@@ -99,7 +100,7 @@ pub(crate) fn sweep(places: &mut Places, connections: &mut Vec<Connection>, inde
     }
 }
 
-/// Sweeps after a turn of the connection at `index`, if the turn performed something. Otherwise the connection is not gone.
+/// Removes the connection at `index` if it is gone after its turn. It can be gone only if the turn performed something.
 pub(crate) fn sweep_after(
     turn: &Result<Turn, AllocError>,
     places: &mut Places,
@@ -115,7 +116,7 @@ pub(crate) fn sweep_after(
     }
 }
 
-/// Takes up to `n` bytes from the front of a connection's output. Frees its storage if it is empty then.
+/// Takes up to `n` bytes from the front of a connection's output. If the output is empty then, its storage goes back to `spares`.
 pub(crate) fn take_from(
     broker: &mut Broker,
     spares: &mut Spares,
@@ -136,11 +137,11 @@ pub(crate) fn take_from(
 }
 
 /// Removes the connection at `index`, which was lost. The storage of its output becomes spare, even if bytes are left in it, unless 256
-/// are spare or it has grown past 1,125,536 bytes.
+/// of its size are spare or it has grown past the size of a new one.
 pub(crate) fn remove_lost(spares: &mut Spares, connections: &mut Vec<Connection>, index: usize)
     requires { index < length connections.old.items }
     ensures left { connections.new.items ≡ remove connections.old.items index }
-    ensures kept { (l : seen.Connection) → get_or connections.old.items index l ≡ l → IsSpared spares.old l spares.new }
+    ensures kept { (l : seen.Connection) → get_or connections.old.items index l ≡ l → TakesIn l.output.storage spares.old spares.new }
 {
     let mut lost = connections.remove(index);
     spares.take_lost(&mut lost.output);

@@ -43,7 +43,7 @@ pub type ConnId = u64;
 /// Why no connection was opened.
 #[derive(Clone, Copy, PartialEq, Eq, Debug, Drop)]
 pub enum Refused {
-    /// 1,024 connections are not gone.
+    /// There are 1,024 connections already. One that is over counts until its output is empty.
     Full,
     /// No connection number is left.
     Spent,
@@ -71,14 +71,14 @@ pub struct Engine {
     guarantees: Vec<Guarantee>,
     users: Vec<User>,
     given: u64,
-    /// Those that are not gone, in ascending order of their numbers.
+    /// The connections that are not gone, in ascending order of their numbers.
     connections: Vec<Connection>,
     places: Places,
     scratch: Scratch,
     spares: Spares,
 }
 
-/// Written out so that a drop is one call.
+/// Not derived: a derived drop is expanded, and proved again, in each function that drops the value.
 impl Drop for Engine {
     fn drop(self) {
         let Engine {
@@ -144,7 +144,7 @@ impl Engine {
     /// Opens a connection and returns its number. Its first eight bytes are awaited.
     ///
     /// Refused as [`Refused::Full`] if 1,024 connections are not gone, otherwise as [`Refused::Spent`] if the last number was given. Fails with
-    /// [`Refused::Memory`] only if neither is so and an allocation fails. A refusal changes nothing.
+    /// [`Refused::Memory`] only if neither applies and an allocation fails. A refusal changes nothing.
     pub fn open(&mut self, alloc: Global) -> Result<ConnId, Refused>
         ensures opened { OpenedNew (world_of self.old) result (world_of self.new) }
         ensures broker { self.new.broker ≡ self.old.broker }
@@ -229,19 +229,19 @@ impl Engine {
     }
 
     /// Makes one delivery, to the next consumer in round-robin order, and returns its connection and notes, or `None` if no delivery can be made.
-    /// Queues take turns, and so do the consumers of each: a consumer that waits was passed over by fewer deliveries of its queue than the queue has
-    /// consumers, this one among them. If no delivery can be made the order of every queue is unchanged.
+    /// The queues alternate, and so do the consumers of each: a waiting consumer has been passed over by fewer deliveries of its queue, this delivery
+    /// included, than the queue has consumers. If no delivery can be made, the order of every queue's consumers is unchanged.
     ///
     /// Fails only if a delivery can be made and an allocation fails. Nothing is delivered then, and the picked consumer is picked again next time, if
-    /// a delivery to it can be made still.
+    /// it still can take a message.
     pub fn pump(&mut self, alloc: Global) -> Result<Option<Delivered>, AllocError>
         // One delivery that keeps certified delivery's promises, or none if none can be made.
         ensures ok { IfOk result (λ did. MatchOption did (Idles (world_of self.old) (world_of self.new))
             (λ d. IsPump (world_of self.old) d.connection d.notes.items (world_of self.new))) }
-        // It goes to the consumer whose turn it is, and no other that waits is put back.
+        // The delivery goes to the consumer whose turn it is, and no other that waits is put back.
         ensures in_turn { IfOk result (λ did. MatchOption did (TellsNobody self.old.broker self.new.broker)
             (λ d. ServesOne self.old d.connection d.notes.items self.new)) }
-        // A failure delivers nothing, leaves the picked consumer picked, and comes only if a delivery can be made.
+        // A failure delivers nothing, leaves the picked consumer picked, and occurs only if a delivery can be made.
         ensures err { OnErr result (Same (world_of self.old) (world_of self.new)) }
         ensures told { OnErr result (TellsOne self.old.broker self.new.broker) }
         ensures wanted { OnErr result ((c : ℕ) × CanDeliver (world_of self.old).state.broker c) }
@@ -334,19 +334,20 @@ impl Engine {
         let _connections = &self.connections;
     }
 
-    /// Shows that each message is in a queue of the topology, and that no guarantee forbids it any queue that it can still reach by dead-lettering,
-    /// nor, unless the last reload found it there, the queue that it is in. So before any reload no message is in a queue that is forbidden it.
+    /// Shows that each message is in a queue of the topology, and that no guarantee forbids to it a queue that it can still reach by
+    /// dead-lettering. Nor does one forbid to it the queue that it is in, unless the last reload found it there. So before any reload no
+    /// message is in a queue that is forbidden to it.
     pub fn ghost_is_safe(&self)
         ensures kept { AreKept (world_of self.now).config (world_of self.now).state.broker }
         ensures safe { NoneStood (world_of self.now).state.broker
             → AreSafe (world_of self.now).config.topology (world_of self.now).config.guarantees (world_of self.now).state.broker }
     {
-        // Borrowing a field, as above.
+        // Borrowing a field brings the invariant of an engine into scope.
         let _connections = &self.connections;
     }
 }
 
-/// Returns the number of the next connection, where `given` is the last one, and reserves capacity for it. A refusal changes nothing.
+/// Returns the number of the next connection, which follows `given`, and reserves capacity for the connection. A refusal changes nothing.
 fn next_number(connections: &mut Vec<Connection>, given: u64) -> Result<u64, Refused>
     ensures numbers { Numbers given connections.old.items result }
     ensures room { OnOk result (vec_len connections.new < vec_capacity connections.new) }

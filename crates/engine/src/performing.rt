@@ -1,6 +1,6 @@
 //! Performs one event of one connection.
 
-ghost use Rattle.std.specs.Prelude.{◌≡◌, ℕ, [], true, false, IfOk, OnErr, OnOk};
+ghost use Rattle.std.specs.Prelude.{◌≡◌, ◌<◌, ℕ, [], true, false, IfOk, OnErr, OnOk};
 ghost use Rattle.model.specs.Step.{Acts, Is};
 ghost use Rattle.model.specs.Phases.{is_running};
 ghost use Rattle.model.specs.State.{after_move};
@@ -9,7 +9,8 @@ ghost use Rattle.model.specs.Sending.{AreCarried, AreOwn};
 ghost use Rattle.broker.specs.Turns.{topology_kept, broker_of};
 ghost use Rattle.broker.specs.Waiting.{NobodyIsPutBack, NoneIsLater};
 ghost use Rattle.engine.specs.Performing.{IsAskedBy, session_after, rules_of, IsAnswerTo, ByPhase, DecidesByPhase, PausesOr};
-ghost use Rattle.engine.specs.Wanting.{brings_message as brings, IsFreed, IsHeld};
+ghost use Rattle.engine.specs.Wanting.{brings_message as brings, AreWithin, room_wanted};
+ghost use Rattle.outputs.specs.Storages.{IsReleased, IsWhole};
 
 use crate::reserve::{self, hold_for};
 use broker::{Broker, Step};
@@ -19,7 +20,7 @@ use outputs::Spares;
 use session::Session;
 use std::alloc::{AllocError, Global};
 
-/// Updates a running `session` by what the broker sent at this event.
+/// Updates a running `session` by `sends`, what the broker sent at `event`.
 fn learn(session: &mut Session, event: &Event, sends: &[Send])
     ensures { is_running session.old.phase ≡ true → session.new ≡ session_after session.old event.now sends.now }
 {
@@ -29,7 +30,7 @@ fn learn(session: &mut Session, event: &Event, sends: &[Send])
     }
 }
 
-/// Returns what the phase of connection `c` answers. Fails only if an allocation fails.
+/// Returns the answer of connection `c`'s phase to `event`, and moves `session`. Fails only if an allocation fails.
 fn sends_of(
     c: u64,
     alloc: Global,
@@ -102,9 +103,9 @@ pub(crate) fn by_phase(
     })
 }
 
-/// Performs the first eight bytes of connection `c`, a command of it, or the fault of its stream: the broker does while it is running, otherwise
-/// its phase answers. A command with a content is performed only while the reserve is whole. Any other event fails only if an
-/// allocation fails after the reserve was freed for it.
+/// Performs the first eight bytes of connection `c`, a command of it, or the fault of its stream. The broker performs the event if the connection
+/// is running; otherwise its phase answers. A command with a content is performed only while the reserve is whole. Any other event
+/// fails only if an allocation fails after the reserve was freed for it.
 pub(crate) fn perform(
     c: u64,
     alloc: Global,
@@ -122,6 +123,7 @@ pub(crate) fn perform(
     ensures ok { IfOk result (λ d. DecidesByPhase c session.old.phase (rules_of (topology_kept broker.old) users.now)
         (broker_of broker.old) session.old event.now d.sends.items d.notes.items (broker_of broker.new) session.new) }
     ensures own { IfOk result (λ d. AreOwn c d.sends.items) }
+    ensures size { IfOk result (λ d. AreWithin (room_wanted event.now) d.sends.items) }
     // A failure changes nothing.
     ensures broker_kept { OnErr result (broker.new ≡ broker.old) }
     ensures session_kept { OnErr result (session.new ≡ session.old) }
@@ -130,8 +132,9 @@ pub(crate) fn perform(
     ensures turn { broker.new.turn ≡ broker.old.turn }
     ensures later { OnOk result (NobodyIsPutBack broker.old broker.new) }
     // The reserve: a publish needs it whole, anything else fails only after it was freed.
-    ensures whole { OnOk result (brings event.now ≡ true → IsHeld spares.new) }
-    ensures last { OnErr result (brings event.now ≡ false → IsFreed spares.new) }
+    ensures whole { OnOk result (brings event.now ≡ true → IsWhole spares.new) }
+    ensures last { OnErr result (brings event.now ≡ false → IsReleased spares.new) }
+    ensures kept { brings event.now ≡ false → 3 < spares.new.contents → spares.new ≡ spares.old }
 {
     hold_for(spares, event)?;
     match session.phase() {
@@ -144,7 +147,7 @@ pub(crate) fn perform(
     }
 }
 
-/// Pauses connection `c` at the broker if `is`: its output is past the bound now.
+/// Pauses connection `c` at the broker if `is`, which says that the connection's output is past the bound now.
 pub(crate) fn pause_if(broker: &mut Broker, c: u64, is: bool)
     ensures pauses { PausesOr (topology_kept broker.old) c false is (broker_of broker.old) (broker_of broker.new) }
     ensures topology { topology_kept broker.new ≡ topology_kept broker.old }

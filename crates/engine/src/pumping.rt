@@ -14,7 +14,7 @@ use crate::reserve::pump;
 use crate::turning::{make_room, put_out};
 use broker::{Broker, Pick};
 use notes::Notes;
-use outputs::{Scratch, Spares};
+use outputs::{Room, Scratch, Spares};
 use std::alloc::{AllocError, Global};
 
 /// Delivers to the picked consumer of `connection`, after reserving capacity for the largest delivery. If an allocation fails nothing is
@@ -45,7 +45,7 @@ pub(crate) fn pump_connection(
     ensures later { OnOk result (NoneIsLater broker.old broker.new) }
     ensures soon { OnOk result (ServesSoon broker.old pick) }
 {
-    make_room(spares, &mut connection.output)?;
+    make_room(spares, &mut connection.output, Room::Content)?;
     let max = connection.session.frame_max();
     match pump(alloc, spares, broker, pick) {
         Ok(step) => {

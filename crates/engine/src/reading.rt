@@ -1,4 +1,4 @@
-//! Reads what a connection's bytes ask for next.
+//! Reads the next event in a connection's bytes.
 
 ghost use Rattle.std.specs.Prelude.{◌≡◌, None, OnOk, OnErr};
 ghost use Rattle.model.specs.Commands.{IsCommand};
@@ -14,7 +14,7 @@ use outputs::Spares;
 use std::alloc::AllocError;
 
 /// Reads the next event of connection `number` into `kept`, unless one is pending: the next command in its bytes, or the fault that they
-/// end in. The reserve is freed for it only up to `allowance` unread bytes. Fails only if an allocation fails; nothing is pending then, and
+/// end in. Frees the reserve only if at most `allowance` bytes are unread. Fails only if an allocation fails; nothing is pending then, and
 /// the same event comes next.
 pub(crate) fn read_next(
     number: u64,

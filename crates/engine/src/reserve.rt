@@ -1,14 +1,14 @@
 //! Calls that retry with the memory of the reserve.
 //!
-//! The spare storages of the outputs are the reserve. If an allocation fails, they are freed, and the call is made again. Only a command that
-//! brings a message in, which a publish does, leaves them alone: it is performed only while the reserve is whole. Reading uses them only up to
-//! the connection's allowance, a number of unread bytes, so that publishers that press on don't take what others need to empty their queues.
+//! The spare storages of the outputs are the reserve. If an allocation fails, they are freed, and the call is made again. Only a publish
+//! leaves them alone: it brings a message in, and is performed only while the reserve is whole. Reading frees them only while at most a number of
+//! bytes, the connection's allowance, is unread: so publishers that keep sending don't take the memory that others need to empty their queues.
 
-ghost use Rattle.std.specs.Prelude.{◌≡◌, ◌≤◌, ◌<◌, ◌+◌, None, IsOk, IfOk, OnOk, OnErr, length, true, false};
+ghost use Rattle.std.specs.Prelude.{◌≡◌, ◌≤◌, ◌<◌, ◌+◌, if◌then◌else◌, [], None, IsOk, IfOk, OnOk, OnErr, length, true, false};
 ghost use Rattle.model.specs.Arrivals.{IsSaid};
 ghost use Rattle.model.specs.Commands.{heard};
 ghost use Rattle.model.specs.Naming.{AreNamed};
-ghost use Rattle.model.specs.Sending.{AreCarried, AreOwn, most_sent};
+ghost use Rattle.model.specs.Sending.{AreCarried, AreOwn};
 ghost use Rattle.model.specs.Step.{Acts};
 ghost use Rattle.assembly.specs.Held.{stream_of};
 ghost use Rattle.assembly.specs.Onward.{YieldsNext, broken_by};
@@ -18,26 +18,28 @@ ghost use Rattle.commands.specs.Judged.{IsAsked};
 ghost use Rattle.commands.specs.Picked.{IsPick, DeliversTo};
 ghost use Rattle.replies.specs.Sent.{AreAddressed, connection_of_event};
 ghost use Rattle.engine.specs.Performing.{IsAskedBy, ByPhase};
-ghost use Rattle.engine.specs.Wanting.{brings_message as brings, IsFreed, IsHeld};
+ghost use Rattle.engine.specs.Wanting.{brings_message as brings, allowance_after as allowed, room_wanted as wants, KeepsLarge};
+ghost use Rattle.outputs.specs.Storages.{IsReleased, IsWhole, room_of, spare_for};
+ghost use Rattle.outputs.specs.declared.room.Room.TheVariants as room;
 
 use crate::performing;
 use assembly::{Fault, Stream};
 use broker::{Broker, Pick, Step};
 use model::{Command, Event, Method, User};
-use outputs::{Output, Spares};
+use outputs::{Output, Room, Spares};
 use session::Session;
 use std::alloc::{AllocError, Global};
 
 /// The allowance in bytes of a connection until its first command: a login is shorter.
 pub(crate) const FIRST_ALLOWANCE: usize = 4096;
 
-/// The allowance in bytes of a connection that settles messages, which frees memory: what two reads of its socket give at most.
+/// The allowance in bytes of a connection that settles messages, which frees memory: the most that two reads of its socket give.
 const SETTLING_ALLOWANCE: usize = 131_072;
 
 /// Returns the allowance in bytes of a connection whose last command was `event`: 0 after a publish, [`SETTLING_ALLOWANCE`] after an ack, nack
 /// or reject, and otherwise [`FIRST_ALLOWANCE`].
 pub(crate) fn allowance_after(event: &Event) -> usize
-    ensures none { brings event.now ≡ true → result ≡ 0 }
+    ensures { result ≡ allowed event.now }
 {
     match event {
         Event::Command {
@@ -67,8 +69,9 @@ fn brings_message(event: &Event) -> bool
 
 /// Makes the reserve whole, unless `event` is a command without a content. Fails only if an allocation fails.
 pub(crate) fn hold_for(spares: &mut Spares, event: &Event) -> Result<(), AllocError>
-    ensures whole { OnOk result (brings event.now ≡ true → IsHeld spares.new) }
+    ensures whole { OnOk result (brings event.now ≡ true → IsWhole spares.new) }
     ensures only { OnErr result (brings event.now ≡ true) }
+    ensures other { brings event.now ≡ false → spares.new ≡ spares.old }
 {
     if brings_message(event) {
         return spares.hold();
@@ -76,12 +79,12 @@ pub(crate) fn hold_for(spares: &mut Spares, event: &Event) -> Result<(), AllocEr
     Ok(())
 }
 
-/// Frees the reserve for `event`, so that it can be performed again. Fails exactly if that is a command with a content, and changes nothing
-/// then.
+/// Frees the reserve, so that `event` can be tried again. Fails exactly if `event` is a command with a content, and changes nothing then.
 fn release_for(spares: &mut Spares, event: &Event) -> Result<(), AllocError>
-    ensures left { OnOk result (IsFreed spares.new) }
+    ensures left { OnOk result (IsReleased spares.new) }
     ensures other { OnOk result (brings event.now ≡ false) }
     ensures only { OnErr result (brings event.now ≡ true) }
+    ensures same { OnErr result (spares.new ≡ spares.old) }
 {
     if brings_message(event) {
         return Err(AllocError);
@@ -101,8 +104,8 @@ fn is_within(unread: usize, more: usize, allowance: usize) -> bool
     }
 }
 
-/// Appends `bytes` to the unread input of `stream`, if necessary with the memory of the reserve, which is freed only for at most `allowance`
-/// unread bytes. If it fails, nothing has changed.
+/// Appends `bytes` to the unread input of `stream`, if necessary with the memory of the reserve, which is freed only if at most `allowance`
+/// bytes are unread, `bytes` included. If it fails, `stream` is unchanged.
 pub(crate) fn feed(
     spares: &mut Spares,
     stream: &mut Stream,
@@ -113,8 +116,9 @@ pub(crate) fn feed(
     ensures err { OnErr result (stream.new ≡ stream.old) }
     ensures full { OnErr result (stream.old.room < length bytes.now) }
     ensures fault { stream.new.fault ≡ stream.old.fault }
-    // The reserve is freed before a failure within the allowance, and left alone past it.
-    ensures last { OnErr result (length (stream_of stream.old).unread + length bytes.now ≤ allowance → IsFreed spares.new) }
+    // If the unread bytes, the new ones included, are within the allowance, the call fails only after the reserve was freed. Past the allowance
+    // the reserve is left alone.
+    ensures last { OnErr result (length (stream_of stream.old).unread + length bytes.now ≤ allowance → IsReleased spares.new) }
     ensures whole { allowance < length (stream_of stream.old).unread + length bytes.now → spares.new ≡ spares.old }
 {
     let is_little = is_within(stream.unread(), bytes.len(), allowance);
@@ -127,7 +131,7 @@ pub(crate) fn feed(
     }
 }
 
-/// Reads the next command of `stream`, if necessary with the memory of the reserve, which is freed only for at most `allowance` unread bytes.
+/// Reads the next command of `stream`, if necessary with the memory of the reserve, which is freed only if at most `allowance` bytes are unread.
 pub(crate) fn next(
     spares: &mut Spares,
     stream: &mut Stream,
@@ -147,25 +151,60 @@ pub(crate) fn next(
     }
 }
 
-/// Makes room in `output` for what one event sends, if necessary with the memory of the reserve. If that fails, at most 2 storages are spare.
-pub(crate) fn make_room(spares: &mut Spares, output: &mut Output) -> Result<(), AllocError>
-    ensures bytes { output.new.bytes ≡ output.old.bytes }
-    ensures ok { OnOk result (most_sent ≤ output.new.room) }
-    ensures full { OnErr result (output.old.room < most_sent) }
-    ensures enough { output.old.storage ≡ 0 → 0 < spares.old → IsOk result }
-    ensures last { OnErr result (IsFreed spares.new) }
+/// Returns what `event` needs room for: a content for a get, a publish that may be returned and a delivery, a reply for any other.
+pub(crate) fn room_wanted(event: &Event) -> Room
+    ensures { result ≡ wants event.now }
 {
-    match spares.make_room(output) {
+    match event {
+        Event::Command {
+            method: Method::BasicGet(_),
+            ..
+        }
+        | Event::Deliver { .. } => Room::Content,
+        Event::Command {
+            method: Method::BasicPublish(publish),
+            ..
+        } => room_of_publish(publish.mandatory),
+        _ => Room::Reply,
+    }
+}
+
+/// Returns what a publish needs room for: it is sent back only if it is `mandatory`.
+fn room_of_publish(mandatory: bool) -> Room
+    ensures { result ≡ (if mandatory then room.Content else room.Reply) }
+{
+    if mandatory {
+        Room::Content
+    } else {
+        Room::Reply
+    }
+}
+
+/// Makes room in `output` for what `wanted` says, if necessary with the memory of the reserve. If that fails, the reserve was freed.
+pub(crate) fn make_room(
+    spares: &mut Spares,
+    output: &mut Output,
+    wanted: Room,
+) -> Result<(), AllocError>
+    ensures bytes { output.new.bytes ≡ output.old.bytes }
+    ensures ok { OnOk result (room_of wanted ≤ output.new.room) }
+    // When it may fail, and what a failure leaves.
+    ensures full { OnErr result (output.old.room < room_of wanted) }
+    ensures enough { output.old.bytes ≡ [] → 0 < spare_for wanted spares.old → IsOk result }
+    ensures err { OnErr result (output.new ≡ output.old) }
+    ensures last { OnErr result (IsReleased spares.new) }
+    ensures large { KeepsLarge wanted output.old.bytes spares.old spares.new }
+{
+    match spares.make_room(output, wanted) {
         Err(_) => {
             spares.release();
-            spares.make_room(output)
+            spares.make_room(output, wanted)
         }
         made => made,
     }
 }
 
-/// Makes the delivery `pick`, if necessary with the memory of the reserve. If that fails, nothing is delivered, and at most 2 storages are
-/// spare.
+/// Makes the delivery `pick`, if necessary with the memory of the reserve. If that fails, nothing is delivered, and the reserve was freed.
 pub(crate) fn pump(
     alloc: Global,
     spares: &mut Spares,
@@ -184,7 +223,7 @@ pub(crate) fn pump(
     // The frame; a failure changes nothing, and comes only after the reserve was freed.
     ensures topology { topology_kept broker.new ≡ topology_kept broker.old }
     ensures err { OnErr result (broker.new ≡ broker.old) }
-    ensures last { OnErr result (IsFreed spares.new) }
+    ensures last { OnErr result (IsReleased spares.new) }
 {
     match broker.pump(alloc, pick) {
         Err(_) => {
@@ -195,7 +234,7 @@ pub(crate) fn pump(
     }
 }
 
-/// Performs `event`, if necessary with the memory of the reserve. If that fails, nothing has changed, and at most 2 storages are spare. A
+/// Performs `event`, if necessary with the memory of the reserve. If that fails, nothing has changed, and the reserve was freed. A
 /// command with a content leaves the reserve alone.
 pub(crate) fn step(
     alloc: Global,
@@ -214,7 +253,8 @@ pub(crate) fn step(
     // A failure changes nothing in the broker. A publish leaves the reserve alone; anything else fails only after it was freed.
     ensures err { OnErr result (broker.new ≡ broker.old) }
     ensures whole { OnOk result (brings event.now ≡ true → spares.new ≡ spares.old) }
-    ensures last { OnErr result (brings event.now ≡ false → IsFreed spares.new) }
+    ensures last { OnErr result (brings event.now ≡ false → IsReleased spares.new) }
+    ensures kept { 3 < spares.new.contents → spares.new ≡ spares.old }
 {
     match broker.step(alloc, event) {
         Err(_) => {
@@ -226,7 +266,7 @@ pub(crate) fn step(
 }
 
 /// Answers an event of the connection `c`, which does not run, if necessary with the memory of the reserve. If that fails, nothing has
-/// changed, and at most 2 storages are spare. A command with a content leaves the reserve alone.
+/// changed, and the reserve was freed. A command with a content leaves the reserve alone.
 pub(crate) fn by_phase(
     c: u64,
     alloc: Global,
@@ -250,7 +290,8 @@ pub(crate) fn by_phase(
     ensures later { OnOk result (NobodyIsPutBack broker.old broker.new) }
     // The reserve: a publish leaves it alone; anything else fails only after it was freed.
     ensures whole { OnOk result (brings event.now ≡ true → spares.new ≡ spares.old) }
-    ensures last { OnErr result (brings event.now ≡ false → IsFreed spares.new) }
+    ensures last { OnErr result (brings event.now ≡ false → IsReleased spares.new) }
+    ensures kept { 3 < spares.new.contents → spares.new ≡ spares.old }
 {
     match performing::by_phase(c, alloc, users, broker, session, event) {
         Err(_) => {

@@ -1,4 +1,4 @@
-//! What an engine is set up by.
+//! The setup of an engine: a topology with its guarantees, and the users.
 
 ghost use Rattle.std.specs.Prelude.{◌≡◌, IfOk};
 ghost use Rattle.model.specs.Headline.{IsSound};
@@ -29,7 +29,7 @@ pub struct Setup {
     users: Vec<User>,
 }
 
-/// Written out so that a drop is one call.
+/// Not derived: a derived drop is expanded, and proved again, in each function that drops the value.
 impl Drop for Setup {
     fn drop(self) {
         let Setup {

@@ -1,10 +1,10 @@
 //! One turn of one connection.
 
-ghost use Rattle.std.specs.Prelude.{◌≡◌, ◌≤◌, ◌<◌, ◌++◌, true, false, IfOk, IsOk, OnOk, OnErr, IfSome, IsSome};
+ghost use Rattle.std.specs.Prelude.{◌≡◌, ◌≤◌, ◌<◌, ◌++◌, [], length, true, false, IfOk, IsOk, OnOk, OnErr, IfSome, IsSome};
 ghost use Rattle.std.specs.List.{AllByRecursion};
 ghost use Rattle.model.specs.Arrivals.{IsSaid, is_ended, is_past_bound, under_session};
 ghost use Rattle.model.specs.Phases.{is_running as runs};
-ghost use Rattle.model.specs.Sending.{AreCarried, AreOwn, most_sent};
+ghost use Rattle.model.specs.Sending.{AreCarried, AreOwn};
 ghost use Rattle.model.specs.Spelling.{receiver, spelling, IsSpelled};
 ghost use Rattle.broker.specs.Turns.{topology_kept, broker_of};
 ghost use Rattle.broker.specs.Waiting.{NoneIsLater};
@@ -12,7 +12,8 @@ ghost use Rattle.assembly.specs.Held.{stream_of};
 ghost use Rattle.engine.specs.Reading.{IsKeptEvent, HasMore, kept_of};
 ghost use Rattle.engine.specs.Performing.{IsAskedBy, PausesOr, rules_of};
 ghost use Rattle.engine.specs.Turning.{has_performed as performs, Performed, DidNext, ConnectionStays, ConnectionTook, ConnectionWaits, MayTurn, OnIdle};
-ghost use Rattle.engine.specs.Wanting.{brings_message, IsHeld};
+ghost use Rattle.engine.specs.Wanting.{brings_message as brings, allowance_after, room_wanted, KeepsLarge};
+ghost use Rattle.outputs.specs.Storages.{AreAtMost, IsWhole, room_of, spare_for};
 ghost use Rattle.engine.specs.World.{wire_in};
 ghost use Rattle.engine.specs.Waiting.{TurnLeaves};
 ghost use Rattle.outputs.specs.Waiting.{HoldsNone};
@@ -25,7 +26,7 @@ use assembly::Stream;
 use broker::Broker;
 use model::{Event, Phase, Send, User};
 use notes::Notes;
-use outputs::{Output, Scratch, Spares, put_sends};
+use outputs::{Output, Room, Scratch, Spares, put_sends};
 use session::Session;
 use std::alloc::{AllocError, Global};
 
@@ -49,8 +50,8 @@ pub(crate) fn has_performed(turn: &Result<Turn, AllocError>) -> bool
     matches!(turn, Ok(Turn::Did(_)))
 }
 
-/// Appends what is sent to connection `c` at one event to its output, which has capacity for it, and pauses `c` at the broker if the output
-/// is past the bound then. Before it was below the bound.
+/// Appends `sends`, all that one event sends to connection `c`, to its output, which has capacity for them and is below the bound. Pauses `c` at
+/// the broker if the output is past the bound then.
 pub(crate) fn put_out(
     c: u64,
     broker: &mut Broker,
@@ -62,7 +63,7 @@ pub(crate) fn put_out(
     // What the caller knows: the sends are this connection's, and there is capacity for them.
     requires own { AreOwn c sends.now }
     requires max { 4096 ≤ max }
-    requires room { most_sent ≤ output.old.room }
+    requires room { length (spelling max sends.now) ≤ output.old.room }
     // The promise: their frames are appended.
     ensures bytes { output.new.bytes ≡ output.old.bytes ++ spelling max sends.now }
     ensures spelled { AllByRecursion (IsSpelled max) sends.now }
@@ -100,16 +101,19 @@ fn do_next(
     // The frame.
     ensures topology { topology_kept broker.new ≡ topology_kept broker.old }
     ensures turn { broker.new.turn ≡ broker.old.turn }
-    // A publish leaves the reserve whole, and the reading behind it uses none of it. Anything else is refused memory only after the reserve was freed.
-    ensures whole { OnOk result (IfSome connection.old.kept (λ e. brings_message e ≡ true → IsHeld spares.new)) }
-    ensures after { OnOk result (IfSome connection.old.kept (λ e. brings_message e ≡ true → connection.new.allowance ≡ 0)) }
-    ensures last { OnErr result (IfSome connection.old.kept (λ e. brings_message e ≡ false → spares.new ≤ 3)) }
+    // A publish leaves the reserve whole. Any other event fails only after the reserve was freed, and takes no large storage for a reply.
+    ensures whole { OnOk result (IfSome connection.old.kept (λ e. brings e ≡ true → IsWhole spares.new)) }
+    ensures after { OnOk result (IfSome connection.old.kept (λ e. connection.new.allowance ≡ allowance_after e)) }
+    ensures last { OnErr result (IfSome connection.old.kept (λ e. brings e ≡ false → AreAtMost 9 3 spares.new)) }
+    ensures large { OnOk result (IfSome connection.old.kept (λ e. brings e ≡ false
+        → KeepsLarge (room_wanted e) connection.old.output.bytes spares.old spares.new)) }
 {
     let Some(event) = &connection.kept else {
         spares.take_back(&mut connection.output);
         return Ok(Turn::Idle);
     };
-    if let Err(error) = make_room(spares, &mut connection.output) {
+    let wanted = reserve::room_wanted(event);
+    if let Err(error) = make_room(spares, &mut connection.output, wanted) {
         forget_fault(&mut connection.kept);
         return Err(error);
     }
@@ -147,7 +151,7 @@ fn do_next(
     }
 }
 
-/// Sets the stream's frame length, and whether it keeps contents, by the session.
+/// Sets the stream's frame length, and whether it keeps contents, as `session` requires.
 fn follow(stream: &mut Stream, session: &Session)
     ensures { stream.old.fault ≡ None → stream_of stream.new ≡ under_session session.now (stream_of stream.old) }
 {
@@ -162,18 +166,23 @@ fn is_running(phase: Phase) -> bool
     matches!(phase, Phase::Running)
 }
 
-/// Reserves capacity in `output` for what one event sends. If that fails an empty output holds no storage.
-pub(crate) fn make_room(spares: &mut Spares, output: &mut Output) -> Result<(), AllocError>
-    // The bytes stay, and there is capacity.
+/// Makes room in `output` for what `wanted` says. If that fails an empty output holds no storage.
+pub(crate) fn make_room(
+    spares: &mut Spares,
+    output: &mut Output,
+    wanted: Room,
+) -> Result<(), AllocError>
+    // The bytes stay, and there is room.
     ensures bytes { output.new.bytes ≡ output.old.bytes }
-    ensures ok { OnOk result (most_sent ≤ output.new.room) }
+    ensures ok { OnOk result (room_of wanted ≤ output.new.room) }
     // When it may fail, and what a failure leaves.
-    ensures full { OnErr result (output.old.room < most_sent) }
-    ensures enough { output.old.storage ≡ 0 → 0 < spares.old → IsOk result }
+    ensures full { OnErr result (output.old.room < room_of wanted) }
+    ensures enough { output.old.bytes ≡ [] → 0 < spare_for wanted spares.old → IsOk result }
     ensures refused { OnErr result (HoldsNone output.new) }
-    ensures last { OnErr result (spares.new ≤ 3) }
+    ensures last { OnErr result (AreAtMost 9 3 spares.new) }
+    ensures large { KeepsLarge wanted output.old.bytes spares.old spares.new }
 {
-    match reserve::make_room(spares, output) {
+    match reserve::make_room(spares, output, wanted) {
         Ok(()) => Ok(()),
         Err(error) => {
             spares.take_back(output);

@@ -7,7 +7,8 @@ use Rattle.model.specs.declared.topologies.DeclaredQueue.{DeclaredQueue}
 use Rattle.topology_drafts.specs.Causes.{IsBuildable}
 use Rattle.exchange_graph.specs.Fans.{Fan, fan_of}
 
--- the topology is valid, `fans` has for each exchange what leads on from it, and `of_exchanges` and `of_queues` are the names
+-- the topology is valid, `fans` has for each exchange what leads on from it, and `of_exchanges` and `of_queues`
+-- are the names of its exchanges and of its queues
 pub record IsBuilt (t : Topology) (fans : List Fan) (of_exchanges of_queues : List Text) : Type 0 where
   pub good : IsBuildable t
   pub known : fans ≡ map (fan_of t) t.exchanges

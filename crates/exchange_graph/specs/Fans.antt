@@ -39,7 +39,7 @@ ways_from exchanges queues name [] = []
 ways_from exchanges queues name (b ∷ bs) =
     if bytes_eq b.source name then way_of exchanges queues b ∷ ways_from exchanges queues name bs else ways_from exchanges queues name bs
 
--- their binding keys as topic patterns
+-- the binding keys of `ways` as topic patterns
 abbrev pub patterns_of : List Branch → List (List Token)
 patterns_of ways = map (λ (w : Branch). tokens (words w.key)) ways
 
@@ -67,12 +67,12 @@ abbrev pub EndsWithin : ℕ → ℕ → End → Type 0
 EndsWithin exchanges queues (Onward i) = i < exchanges
 EndsWithin exchanges queues (Into i) = i < queues
 
--- `ends` has exactly the destinations of those of `ways` whose binding key lets `key` pass, for this kind of exchange.
+-- `ends` has exactly the destinations of the bindings in `ways` whose binding key lets `key` pass at an exchange of kind `kind`.
 pub record ArePassing (kind : ExchangeKind) (key : Text) (ways : List Branch) (ends : List End) : Type 0 where
   pub only : (e : End) → IsIn e ends → (w : Branch) × IsIn w ways × (w.end ≡ e) × Passes kind w.key key
   pub all : (w : Branch) → IsIn w ways → Passes kind w.key key → IsIn w.end ends
 
--- the destinations of these bindings
+-- the destinations of the bindings `ways`
 abbrev pub ends_of : List Branch → List End
 ends_of ways = map (λ (w : Branch). w.end) ways
 
@@ -81,7 +81,7 @@ abbrev pub ends_by_key : Text → List Branch → List End
 ends_by_key key [] = []
 ends_by_key key (w ∷ ws) = if bytes_eq w.key key then w.end ∷ ends_by_key key ws else ends_by_key key ws
 
--- the destinations of the bindings at these indices
+-- the destinations of the bindings at the indices `places`
 abbrev pub ends_at : List Branch → List ℕ → List End
 ends_at ways places = map (λ (i : ℕ). slice_index_or (ends_of ways) i (Onward 0)) places
 

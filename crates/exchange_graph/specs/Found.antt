@@ -20,6 +20,6 @@ IsIndex ways (Keys keyed) = AreKeyed ways keyed
 IsIndex ways All = Unit {0}
 IsIndex ways (Patterns topics) = topics ≡ patterns_of ways
 
--- and it is for this kind of exchange
+-- the index has the bindings `ways`, and is for an exchange of this kind
 abbrev pub Indexes : ExchangeKind → List Branch → Index → Type 0
 Indexes kind ways index = (kind_of index ≡ kind) × IsIndex ways index

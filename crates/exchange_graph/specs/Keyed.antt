@@ -7,7 +7,7 @@ use Rattle.exchange_graph.specs.declared.ends.Branch.{Branch}
 use Rattle.exchange_graph.specs.declared.ends.KeyedEnds.{KeyedEnds}
 use Rattle.exchange_graph.specs.Fans.{ends_by_key}
 
--- the list at the index of the first of these keys that is `key`, or none
+-- the list in `lists` at the index of the first key that equals `key`, or an empty list if none does
 abbrev pub ends_beside : Text → List Text → List (List End) → List End
 ends_beside key [] lists = []
 ends_beside key (k ∷ ks) [] = []
@@ -21,7 +21,7 @@ ends_under key keyed = ends_beside key keyed.keys keyed.lists.items
 abbrev pub IsEven : KeyedEnds → Type 0
 IsEven keyed = length keyed.keys ≡ length keyed.lists.items
 
--- Under each key the destinations of the bindings with this binding key are kept.
+-- `keyed` has, under each key, the destinations of the bindings in `ways` with this binding key.
 pub record AreKeyed (ways : List Branch) (keyed : KeyedEnds) : Type 0 where
   pub even : IsEven keyed
   pub told : (key : Text) → ends_under key keyed ≡ ends_by_key key ways

@@ -67,31 +67,31 @@ pub record Reaching (t : Topology) (start key : Text) (seen found done : List Bo
   pub sound : (e : End) → IsMet seen found e → Arrives t start key (place_of t e)
   pub closed : (i : ℕ) → IsSet done i → MarksAreClosed t key (exchange_name t i) seen found
 
--- The next steps from exchange `at` are marked, and it is done.
+-- The next steps from exchange `at` are marked, and the exchange is marked as done.
 pub record Expands (t : Topology) (key : Text) (at : ℕ) (seen found done seen' found' done' : List Bool) : Type 0 where
   pub ends : List End
   pub steps : AreSteps t key (exchange_name t at) ends
   pub marks : MarksEnds ends seen found seen' found'
   pub ticked : done' ≡ slice_set done at true
 
--- Exactly the queues are marked to which `start` routes a message with `key`.
+-- Marked in `found` are exactly the queues to which `start` routes a message with `key`.
 pub record AreFound (t : Topology) (start key : Text) (found : List Bool) : Type 0 where
   pub room : length found ≡ length t.queues
   pub sound : (i : ℕ) → i < length t.queues → IsSet found i → Routes t start key (queue_name t i)
   pub all : (i : ℕ) → i < length t.queues → Routes t start key (queue_name t i) → IsSet found i
 
--- Exactly the exchanges are marked that a chain leads to from `start`, which is one of them.
+-- Marked in `seen` are exactly the exchanges to which a chain leads from `start`, itself included.
 pub record AreSeen (t : Topology) (start key : Text) (seen : List Bool) : Type 0 where
   pub room : length seen ≡ length t.exchanges
   pub sound : (i : ℕ) → i < length t.exchanges → IsSet seen i → Leads t (of_key key) start (exchange_name t i)
   pub all : (i : ℕ) → i < length t.exchanges → Leads t (of_key key) start (exchange_name t i) → IsSet seen i
 
--- Both kinds of marks are right: those of the exchanges, and those of the queues.
+-- `seen` has the right marks of exchanges (`AreSeen`), and `found` those of queues (`AreFound`).
 pub record AreMet (t : Topology) (start key : Text) (seen found : List Bool) : Type 0 where
   pub exchanges : AreSeen t start key seen
   pub queues : AreFound t start key found
 
--- The first exchange that is marked and not done, or none.
+-- The first exchange that is marked and not done; `None` if each marked one is done.
 abbrev pub IsPending : List Bool → List Bool → Option ℕ → Type 0
 IsPending seen done None = (i : ℕ) → IsSet seen i → IsSet done i
 IsPending seen done (Some i) = (i < length seen) × IsSet seen i × (slice_index_or done i false ≡ false)

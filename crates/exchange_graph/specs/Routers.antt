@@ -29,7 +29,7 @@ pub record IsRoute (t : Topology) (exchange key : Text) (r : Route) : Type 0 whe
   pub access : r.access ≡ access_to t exchange
   pub targets : AreTargets t exchange key r.targets.items
 
--- What a slot has, if anything, is the route of its own exchange and key.
+-- A slot is empty, or its route is right for the exchange and the key that the route names.
 abbrev pub IsRight : {Z : Type 0} → Topology → Option (Arc Route Z) → Type 0
 IsRight t None = Unit {0}
 IsRight t (Some a) = IsRoute t a.value.exchange a.value.key a.value

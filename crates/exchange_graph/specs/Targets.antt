@@ -4,7 +4,7 @@ use Rattle.model.specs.Words.{Text}
 use Rattle.model.specs.Topology.{Topology, exchange_names, queue_names}
 use Rattle.model.specs.Routing.{Leads, Routes, Picks, of_key}
 
--- the names at these indices
+-- the names at the indices `places`
 abbrev pub names_at : List Text → List ℕ → List Text
 names_at names places = map (λ (i : ℕ). slice_index_or names i []) places
 

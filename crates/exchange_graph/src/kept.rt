@@ -17,11 +17,11 @@ pub struct Kept {
     pub slots: Vec<Option<Arc<Route>>>,
     /// The bytes of all routes: their names, and 16 for each queue that they lead to.
     pub bytes: usize,
-    /// Which slot is emptied next, modulo 1,024.
+    /// The index of the slot that is emptied next, modulo 1,024.
     pub hand: u16,
 }
 
-/// Written out, so that a drop is one call.
+/// Not derived: a derived drop is expanded, and proved again, in each function that drops the value.
 impl Drop for Kept {
     fn drop(self) {
         let Kept {
@@ -90,8 +90,8 @@ impl Kept {
         self.hand = self.hand.wrapping_add(1);
     }
 
-    /// Puts `route` into slot `index`. If all routes had more than 1 MiB then, it is dropped instead, and slot `index` and the next one in turn
-    /// are emptied. Never allocates.
+    /// Puts `route` into slot `index`. If all routes together would then take more than 1 MiB, `route` is dropped instead: slot `index` is left empty,
+    /// and another slot, the next one in turn, is emptied. Never allocates.
     pub fn keep(&mut self, index: usize, route: Arc<Route>)
         requires index { index < 1024 }
         requires bounded { IsBounded self.old }

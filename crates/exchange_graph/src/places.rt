@@ -19,7 +19,7 @@ pub struct NamedLists<'a> {
     queue_names: &'a Names,
 }
 
-/// Written out, so that a drop is one call.
+/// Not derived: a derived drop is expanded, and proved again, in each function that drops the value.
 impl<'a> Drop for NamedLists<'a> {
     fn drop(self) {
         let NamedLists {
@@ -44,7 +44,7 @@ impl<'a> Model for NamedLists<'a> {
 }
 
 impl<'a> NamedLists<'a> {
-    /// Returns these lists with the names of their exchanges and queues.
+    /// Returns the lists, in which exchanges and queues are looked up by `exchange_names` and `queue_names`.
     pub fn of(
         exchanges: &'a [Exchange],
         queues: &'a [DeclaredQueue],

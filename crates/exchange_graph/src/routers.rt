@@ -17,7 +17,7 @@ pub struct Router {
     scratch: Scratch,
 }
 
-/// Written out, so that a drop is one call.
+/// Not derived: a derived drop is expanded, and proved again, in each function that drops the value.
 impl Drop for Router {
     fn drop(self) {
         let Router {
@@ -64,7 +64,7 @@ impl Router {
         found(&self.topology, &self.kept.slots[index], exchange, key)
     }
 
-    /// Looks for the route of a message that is sent to `exchange` under `key` in the topology, and keeps it with both names if it fits.
+    /// Finds in the topology the route of a message that is sent to `exchange` under `key`, and keeps it, with both texts, if it fits.
     /// An exchange that does not exist leads nowhere; `""` is the default exchange. Fails only if an allocation fails.
     pub fn learn(
         &mut self,

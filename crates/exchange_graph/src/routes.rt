@@ -23,7 +23,7 @@ pub struct Route {
     pub targets: Targets,
 }
 
-/// Written out, so that a drop is one call.
+/// Not derived: a derived drop is expanded, and proved again, in each function that drops the value.
 impl Drop for Route {
     fn drop(self) {
         let Route {

@@ -1,4 +1,4 @@
-//! Looking for a route: in the slot on which it falls ([`found`]), or in the topology ([`looked_for`]).
+//! Looks for a route: in the slot that the hash of its exchange and key names ([`found`]), or in the topology ([`looked_for`]).
 
 ghost use Rattle.std.specs.Prelude.{◌≡◌, ◌<◌, IfOk, IfSome, IsTrue, option_copied};
 ghost use Rattle.std.specs.Arc.{arc_value};
@@ -45,7 +45,7 @@ fn access_at(exchange: Option<&Exchange>) -> Access
     }
 }
 
-/// Returns whether clients may publish to the exchange with the name `exchange`.
+/// Returns whether clients may publish to the exchange with the name `exchange`; [`Access::Absent`] if it doesn't exist.
 fn access_to(topology: &Topology, exchange: &[u8]) -> Access
     ensures { result ≡ access_to topology.now exchange.now }
 {

@@ -43,7 +43,7 @@ pub struct Topology {
     queue_names: Names,
 }
 
-/// Written out, so that a drop is one call.
+/// Not derived: a derived drop is expanded, and proved again, in each function that drops the value.
 impl Drop for Topology {
     fn drop(self) {
         let Topology {
@@ -195,7 +195,7 @@ impl Topology {
         Ok(targets.into_vec()?)
     }
 
-    /// Returns the same indices, and uses the buffers of `scratch`, whatever they contain. Fails only if an allocation fails.
+    /// Returns the same indices as `route`, using the buffers of `scratch`, whatever they contain. Fails only if an allocation fails.
     pub fn targets(
         &self,
         alloc: Global,
@@ -281,7 +281,7 @@ impl Topology {
         self.queue_names.place(name)
     }
 
-    /// The queue at `index`, which has to be below the number of queues.
+    /// Returns the queue at `index`, which has to be below the number of queues.
     pub fn queue(&self, index: usize) -> &DeclaredQueue
         requires { index < length self.now.queues }
         ensures { result.now ≡ slice_index_or self.now.queues index result.now }

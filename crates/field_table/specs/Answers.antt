@@ -4,12 +4,12 @@ use Rattle.model.specs.Tables.{Pairs, table_bytes, HavePairsSpelling}
 use Rattle.field_table.specs.declared.refusals.BadTable.{BadTable}
 use Rattle.field_table.specs.declared.refusals.BadTable.TheVariants.{SyntaxError, Memory}
 
--- a refusal with a true reason; an allocation failure needs none
+-- the error is right: a syntax error only for the reason `why`; an allocation failure needs no reason
 abbrev pub TableRefused : BadTable → Type 0 → Type 0
 TableRefused SyntaxError why = why
 TableRefused Memory why = Unit {0}
 
--- what was read has the property `Found`, or it was refused and `why` is the reason
+-- `Found` is true of what was read, or the error is right: a syntax error only for the reason `why`
 abbrev pub AnswersOr : {X : Type 0} → Result X BadTable → (X → Type 0) → Type 0 → Type 0
 AnswersOr (Ok x) Found why = Found x
 AnswersOr (Err e) Found why = TableRefused e why

@@ -28,15 +28,15 @@ kind_of (Long_text t) = a_long_text
 kind_of (Field_table pairs) = a_field_table
 kind_of (Bits bs) = some_bits (length bs)
 
--- an argument split off the front and the bytes after it, or nothing if it isn't there
+-- an argument split off the front and the bytes after it, or `None` if the argument isn't there
 abbrev pub Front : Type 0
 Front = Option (Argument × List ℕ)
 
--- a big-endian number of the given width; nothing if there are fewer bytes
+-- a big-endian number of the given width; `None` if there are fewer bytes
 abbrev pub number_at : (ℕ → Argument) → Width → List ℕ → Front
 number_at made w bytes = if nat_lt (length bytes) (byte_len w) then None else Some (made (from_be_bytes w (take (byte_len w) bytes)), drop (byte_len w) bytes)
 
--- a text of `n` bytes; nothing if there are fewer bytes
+-- a text of `n` bytes; `None` if there are fewer bytes
 abbrev pub text_at : (List ℕ → Argument) → ℕ → List ℕ → Front
 text_at made n bytes = if nat_lt (length bytes) n then None else Some (made (take n bytes), drop n bytes)
 
@@ -48,7 +48,7 @@ short_text_at bytes = if nat_lt (length bytes) 1 then None else text_at Short_te
 abbrev pub long_text_at : (List ℕ → Argument) → List ℕ → Front
 long_text_at made bytes = if nat_lt (length bytes) 4 then None else text_at made (from_be_bytes w32 (take 4 bytes)) (drop 4 bytes)
 
--- 2 to the number of bits: an octet of these bits is less
+-- 2 to the power `n`: an octet with only its lowest `n` bits set is less
 abbrev pub octets : ℕ → ℕ
 octets zero = 1
 octets (suc n) = 2 * octets n
@@ -65,7 +65,7 @@ bits_at n bytes =
     else if nat_lt (slice_index bytes 0) (octets n) then Some (Bits (bits_of n (slice_index bytes 0)), drop 1 bytes)
     else None
 
--- the argument of this kind at the front and the bytes after it, or nothing if it isn't there
+-- the argument of this kind at the front and the bytes after it, or `None` if the argument isn't there
 abbrev pub argument_at : Kind → List ℕ → Front
 argument_at an_octet bytes = if nat_lt (length bytes) 1 then None else Some (Octet (slice_index bytes 0), drop 1 bytes)
 argument_at a_short bytes = number_at Short w16 bytes

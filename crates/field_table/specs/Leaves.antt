@@ -32,7 +32,7 @@ leaf_seen (leaves.Table body) = unread 70 (Long_text body.now ∷ [])
 leaf_seen (leaves.Bytes t) = unread 120 (Long_text t.now ∷ [])
 leaf_seen leaves.Void = unread 86 []
 
--- the kinds of the arguments after a type letter, or nothing if the letter is unknown
+-- the kinds of the arguments after a type letter, or `None` if the letter is unknown
 abbrev pub kinds_behind : ℕ → Option (List Kind)
 kinds_behind letter =
     if letter == 116 then Some (some_bits 1 ∷ [])
@@ -51,7 +51,7 @@ kinds_behind letter =
     else if letter == 86 then Some []
     else None
 
--- arguments of these kinds at the front, and the bytes after them
+-- the arguments of the kinds `ks` at the front of `bytes`, and the bytes after them; `None` if these arguments aren't there
 abbrev pub front_at : List Kind → List ℕ → Option (List Argument × List ℕ)
 front_at [] bytes = Some ([], bytes)
 front_at (k ∷ ks) bytes = argument_at k bytes >>= λ x. front_at ks x.1 >>= λ y. Some (x.0 ∷ y.0, y.1)

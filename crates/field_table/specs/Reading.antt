@@ -46,13 +46,13 @@ HasValues depth bytes = (vs : Values) × SpellsValues depth bytes vs
 abbrev pub HasPairs : ℕ → List ℕ → Type 0
 HasPairs depth bytes = (ps : Pairs) × SpellsPairs depth bytes ps
 
--- a level is left, and the content of an array is values, of a table pairs, one level deeper; other leaves have no content to check
+-- for an array or a table: `depth` is not 0, and the content is values or pairs with at most `depth` - 1 levels inside; other leaves have no content
 abbrev pub HoldsValues : ℕ → Leaf → Type 0
 HoldsValues depth (leaves.Array body) = (1 ≤ depth) × HasValues (depth - 1) body.now
 HoldsValues depth (leaves.Table body) = (1 ≤ depth) × HasPairs (depth - 1) body.now
 HoldsValues depth _ = Unit {0}
 
--- the leaf is what is read first of the value, and the value can be encoded if its arguments can
+-- the leaf is the value `v` with the content of an array or a table still as bytes, and `v` can be encoded if the arguments after its letter can
 pub record Means (depth : ℕ) (leaf : Leaf) (v : Value) : Type 0 where
   pub read : leaf_seen leaf ≡ unread_of v
   pub fits : AllByRecursion IsSized (contents_of v) → IsValue depth v

@@ -22,6 +22,6 @@ contents_of (tables.Inner_table ps) = Long_text (pairs_bytes ps) ∷ []
 contents_of (tables.Byte_array t) = Long_text t ∷ []
 contents_of tables.Void = []
 
--- a value as it is read first: its letter and the arguments after it, an array or a table as its bytes
+-- a value as a leaf has it: its letter and the arguments after it, an array or a table as its bytes
 abbrev pub unread_of : Value → Unread
 unread_of v = unread (letter v) (contents_of v)

@@ -7,7 +7,7 @@ ghost use Rattle.field_table.specs.Reading.{IsFirstValue, HasNone, IsFirstPair, 
 use crate::leaves::{Leaf, leaf_at};
 use crate::takes::short_text_at;
 
-/// How many levels deep arrays and tables may be nested inside a table.
+/// The most levels of arrays and tables that may be nested inside a table.
 pub(crate) const DEPTH: usize = 15;
 
 /// Returns whether `pairs` are the pairs of a field table, without the table's length in front. Never allocates.

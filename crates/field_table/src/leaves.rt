@@ -6,7 +6,7 @@ ghost use Rattle.field_table.specs.Leaves.{leaf_seen, kinds_behind, read_leaf, b
 
 use crate::takes::{long_at, long_long_at, long_text_at, octet_at, one_bit_at, short_at};
 
-/// A value whose array or table is still encoded.
+/// A value of a table or an array, of which a nested array or table is still encoded.
 #[derive(Clone, Copy, Drop)]
 pub enum Leaf<'a> {
     Truth(bool),
@@ -25,7 +25,7 @@ pub enum Leaf<'a> {
     Void,
 }
 
-/// Splits the value at the front, type letter included: returns it and the bytes after it.
+/// Splits a value, type letter included, off the front of `bytes`. Returns it and the rest, or `None` if no value is there.
 pub fn leaf_at(bytes: &[u8]) -> Option<(Leaf<'_>, &[u8])>
     ensures { option_map (λ x. (leaf_seen x.0, x.1.now)) result ≡ read_leaf bytes.now }
 {
@@ -33,7 +33,7 @@ pub fn leaf_at(bytes: &[u8]) -> Option<(Leaf<'_>, &[u8])>
     leaf_behind(letter, rest)
 }
 
-/// Splits the value whose type letter is `letter` off the front of `bytes`, which begin after the letter.
+/// Splits the value whose type letter is `letter` off the front of `bytes`, which begin after the letter. Returns `None` if it isn't there.
 fn leaf_behind(letter: u8, bytes: &[u8]) -> Option<(Leaf<'_>, &[u8])>
     ensures { option_map (λ x. (leaf_seen x.0, x.1.now)) result ≡ behind letter bytes.now }
 {

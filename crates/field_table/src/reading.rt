@@ -14,7 +14,7 @@ use crate::takes::{long_text_at, short_text_at};
 use model::Text;
 use std::alloc::Global;
 
-/// Decodes the field table that `bytes` are, its length (4 bytes) included.
+/// Decodes all of `bytes` as one field table, its length (4 bytes) included.
 ///
 /// Returns [`BadTable::SyntaxError`] if bytes are left over, a length isn't filled exactly, a type letter or a truth octet
 /// is unknown, or tables and arrays are nested more than 16 levels deep; [`BadTable::Memory`] if an allocation fails.

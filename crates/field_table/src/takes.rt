@@ -33,7 +33,7 @@ pub fn short_at(bytes: &[u8]) -> Option<(u16, &[u8])>
     Some((BigEndian::read_u16(front), rest))
 }
 
-/// Splits a long integer (4 bytes, big-endian) off the front of `bytes`.
+/// Splits a long integer (4 bytes, big-endian) off the front of `bytes`, or returns `None` if there are fewer bytes.
 pub fn long_at(bytes: &[u8]) -> Option<(u32, &[u8])>
     ensures { option_map (λ x. (Long x.0, x.1.now)) result ≡ argument_at a_long bytes.now }
 {
@@ -90,7 +90,7 @@ pub fn one_bit_at(bytes: &[u8]) -> Option<(bool, &[u8])>
     None
 }
 
-/// Splits two bits off the front of `bytes`: an octet below 4, the lowest bit first.
+/// Splits two bits off the front of `bytes`: an octet below 4, the lowest bit first. Returns `None` if there is no such octet.
 pub fn two_bits_at(bytes: &[u8]) -> Option<(bool, bool, &[u8])>
     ensures { option_map (λ x. (Bits (x.0 ∷ x.1 ∷ []), x.2.now)) result ≡ argument_at (some_bits 2) bytes.now }
 {
@@ -118,7 +118,7 @@ pub fn four_bits_at(bytes: &[u8]) -> Option<([bool; 4], &[u8])>
     None
 }
 
-/// Splits five bits off the front of `bytes`: an octet below 32, the lowest bit first.
+/// Splits five bits off the front of `bytes`: an octet below 32, the lowest bit first. Returns `None` if there is no such octet.
 pub fn five_bits_at(bytes: &[u8]) -> Option<([bool; 5], &[u8])>
     ensures { option_map (λ x. (Bits x.0, x.1.now)) result ≡ argument_at (some_bits 5) bytes.now }
 {

@@ -6,7 +6,7 @@ use Rattle.frame.specs.declared.frames.Frame.{Frame}
 use Rattle.frame.specs.declared.frames.ReadFrame.{ReadFrame}
 use Rattle.frame.specs.declared.frames.ReadFrame.TheVariants.{Whole, More, Fault}
 
--- the frame as `model` defines it, without where its payload is stored
+-- the frame as `model` defines it: type, channel and the bytes of the payload
 abbrev pub seen : Frame → Frames.Frame
 seen f = record { kind = f.kind; channel = f.channel; payload = f.payload.now }
 
@@ -14,7 +14,7 @@ seen f = record { kind = f.kind; channel = f.channel; payload = f.payload.now }
 abbrev pub IsKind : ℕ → Type 0
 IsKind kind = (kind ≡ 1) ⊎ (kind ≡ 2) ⊎ (kind ≡ 3) ⊎ (kind ≡ 8)
 
--- some bytes exist that, appended to these, put a whole frame at the front
+-- `bytes` can be completed: with some `more` bytes appended they begin with a whole frame
 pub record MayGoOn (max : ℕ) (bytes : List ℕ) : Type 0 where
   pub more : List ℕ
   pub are_bytes : (i : ℕ) → slice_index more i < 256
@@ -33,7 +33,7 @@ pub record IsFrontFrame (max : ℕ) (bytes : List ℕ) (f : Frame) (size : ℕ) 
   pub front : Begins max bytes (seen f) (drop size bytes)
   pub whole : size ≡ length (frame_bytes (seen f))
 
--- the result is correct for these bytes: the frame at the front with its length, `More` if it is unfinished, 501 if no bytes can complete it
+-- the result of `read_frame` is right: the frame at the front and its length, `More` if it is unfinished, 501 if no further bytes can complete it
 abbrev pub TellsFrame : ℕ → List ℕ → ReadFrame → Type 0
 TellsFrame max bytes (Whole f len) = IsFrontFrame max bytes f len
 TellsFrame max bytes More = IsUnfinished max bytes

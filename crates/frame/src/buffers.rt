@@ -10,7 +10,7 @@ use std::alloc::{AllocError, Global};
 use std::marker::Model;
 use std::mem;
 
-/// The number of taken bytes from which on the rest may move to the front.
+/// Once this many bytes have been taken, the rest may move to the front.
 const MOVED_FROM: usize = 16_384;
 
 /// A byte queue for output that a socket hasn't taken yet, in one `Vec`.
@@ -61,6 +61,14 @@ impl Buffer {
         self.bytes.capacity() == 0
     }
 
+    /// Returns the number of bytes that can be put without an allocation.
+    pub fn room(&self) -> usize
+        ensures value { result ≡ self.now.room }
+        ensures within { result + length self.now.bytes ≤ self.now.storage }
+    {
+        self.bytes.capacity() - self.bytes.len()
+    }
+
     /// Replaces the storage of an empty buffer by `storage`, whose content is cleared, and returns the old storage.
     pub fn move_into(&mut self, mut storage: Vec<u8>) -> Vec<u8>
         requires { self.old.bytes ≡ [] }
@@ -108,8 +116,8 @@ impl Buffer {
 
     /// Removes the first `n` bytes.
     ///
-    /// The rest moves to the front of the storage if at least 16 KiB have been taken since it last moved, and no fewer bytes
-    /// than are left. So no more than one byte is moved for each byte taken. If none is left all of the storage is free
+    /// The rest moves to the front of the storage once at least 16 KiB, and at least as many bytes as are left, have been taken
+    /// since it last moved. So no more than one byte is moved for each byte taken. If no byte is left, all of the storage is free
     /// again.
     pub fn take(&mut self, n: usize)
         requires { n ≤ length self.old.bytes }

@@ -72,7 +72,7 @@ fn channel_at(input: &[u8]) -> u16
     BigEndian::read_u16(&input[1..])
 }
 
-// Returns whether AMQP has this frame type.
+// Returns whether `kind` is a frame type of AMQP.
 fn is_kind(kind: u8) -> bool
     ensures yes { IsTrue result → IsKind kind }
     ensures no { IsKind kind → IsTrue result }

@@ -7,5 +7,5 @@ mod spelling;
 mod states;
 mod verdicts;
 
-pub use searching::search;
+pub use searching::{search, search_by};
 pub use verdicts::{UndecidedCause, Verdict};

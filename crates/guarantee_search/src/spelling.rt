@@ -21,7 +21,7 @@ fn is_word(word: &[u8])
     let _ = word;
 }
 
-/// Shows the same of each of `words`.
+/// Shows that each of `words`, which are not empty and have no dot, is a key of one word.
 fn are_words(words: &[Text])
     requires { AllByRecursion IsFilled words.now }
     ensures { AllByRecursion IsWord words.now }
@@ -31,7 +31,7 @@ fn are_words(words: &[Text])
     }
 }
 
-/// Returns whether one of `words` has these bytes.
+/// Returns whether one of `words` equals `word`.
 fn any_word(words: &[Text], word: &[u8]) -> bool
     ensures { result ≡ list_any (λ w. bytes_eq w word.now) words.now }
 {
@@ -45,7 +45,7 @@ fn has_word(words: &[Text], word: &[u8]) -> bool
     any_word(words, word)
 }
 
-/// Returns the word `w` with a decimal number behind it.
+/// Returns the word `w` followed by `number` in decimal.
 fn numbered(alloc: Global, number: usize) -> Result<Text, AllocError>
     ensures { IfOk result (λ w. w ≡ 119 ∷ decimal number) }
 {

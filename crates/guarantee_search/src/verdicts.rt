@@ -7,7 +7,7 @@ use certificate::{Certificate, Refutation};
 pub enum UndecidedCause {
     /// There are more than 64 tracked patterns, or more than 65,536 states.
     TooManyStates,
-    /// The key that breaks it has more than 255 bytes.
+    /// A key was found that breaks the guarantee, but it has more than 255 bytes.
     KeyTooLong,
 }
 

@@ -12,7 +12,7 @@ use Rattle.json_file.specs.Files.{IsCauseTold}
 abbrev pub IsExchangeOrDefault : Topology → Text → Type 0
 IsExchangeOrDefault t name = (name ≡ []) ⊎ IsIn name (exchange_names t.exchanges)
 
--- cause 5: the exchange and the queue of a guarantee exist; the default exchange does
+-- cause 5: the exchange and the queue of a guarantee exist; the default exchange always does
 pub record NamesAreThere (t : Topology) (g : Guarantee) : Type 0 where
   pub exchange : IsExchangeOrDefault t g.exchange
   pub queue : IsIn g.queue (queue_names t.queues)
@@ -50,7 +50,7 @@ AreClear _ t gs = Unit {0}
 abbrev pub AreTold : FileCause → Topology → List Guarantee → Type 0
 AreTold bad t gs = IsCauseTold (λ (lower : FileCause). AreClear lower t gs) bad
 
--- a guarantee is built if and only if its texts are topic patterns, and then from the given parts
+-- the result is the guarantee `given` if its texts are topic patterns, otherwise `None`
 abbrev pub Makes : Option Guarantee → Guarantee → Type 0
 Makes (Some g) given = (g ≡ given) × ArePatterns given
 Makes None given = ArePatterns given → ⊥

@@ -1,4 +1,4 @@
--- Which keys the `except` patterns leave in (own).
+-- Which keys an `except` pattern leaves covered (own).
 use Rattle.model.specs.Words.{Text, words, tokens, Matches}
 
 -- the pattern does not match the key

@@ -8,7 +8,7 @@ use Rattle.json_file.specs.Files.{IsCauseTold, IsFileOf, IsFreeOf, IsLeastCause,
 use Rattle.guarantees.specs.Stated.{guarantees_at}
 use Rattle.guarantees.specs.Causes.{AreClear}
 
--- the file is JSON and states these guarantees
+-- the file is JSON and states the guarantees `gs`
 abbrev pub IsGuaranteesFile : List ℕ → List Guarantee → Type 0
 IsGuaranteesFile bytes gs = IsFileOf guarantees_at bytes gs
 
@@ -28,12 +28,12 @@ IsFirstAgainst bad t bytes = IsLeastCause (IsFreeOf guarantees_at (AreClearFor t
 abbrev pub AreRefused : FileCause → Topology → List ℕ → Type 0
 AreRefused bad t bytes = IsCauseTold (IsFreeOf guarantees_at (AreClearFor t) bytes) bad
 
--- the guarantees that a file states, or the cause for which it is refused before any is known
+-- the guarantees that a file states, or the cause for which it is refused before its guarantees are known
 abbrev pub OpensGuarantees : Result (Vec Guarantee Global) FileCause → List ℕ → Type 0
 OpensGuarantees (Ok gs) bytes = IsGuaranteesFile bytes gs.items
 OpensGuarantees (Err bad) bytes = IsUnreadFile guarantees_at bad bytes
 
--- No cause applies to the file, and these are its guarantees.
+-- No cause applies to the file, and `gs` are its guarantees.
 pub record AreAccepted (gs : List Guarantee) (t : Topology) (bytes : List ℕ) : Type 0 where
   pub free : (bad : FileCause) → AreFree bad t bytes
   pub is_file : IsGuaranteesFile bytes gs

@@ -30,7 +30,7 @@ back_rows = row 8 a_short_text ∷ row 7 a_short_text ∷ row 6 a_long_long ∷ 
 abbrev pub has_flag : ℕ → ℕ → Bool
 has_flag flags bit = flags / 2 ^ bit % 2 == 1
 
--- a property at the front if `is` is true, or none, and the bytes after it
+-- the property at the front if `is` is true, otherwise no property, with the bytes after it; `None` if `is` is true and the property isn't there
 abbrev pub option_at : Bool → Kind → List ℕ → Option (Option Argument × List ℕ)
 option_at is k bytes = if is then (argument_at k bytes >>= λ x. Some (Some x.0, x.1)) else Some (None, bytes)
 

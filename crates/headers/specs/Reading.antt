@@ -38,7 +38,7 @@ abbrev pub TellsHeader : List ℕ → Result Header BadHeader → Type 0
 TellsHeader payload (Ok h) = SaysHeader payload (Ok (header_seen h))
 TellsHeader payload (Err e) = HeaderIsRefused payload e
 
--- the result is this header, or an allocation failed
+-- the result is the header `h`, or an allocation failed
 abbrev pub IsHeaderOr : Headers.Header → Result Header BadHeader → Type 0
 IsHeaderOr h (Ok g) = header_seen g ≡ h
 IsHeaderOr h (Err FrameError) = ⊥

@@ -1,4 +1,4 @@
--- Properties that were read and still are bytes of the payload.
+-- Properties that were read but not copied: their texts and their headers are still bytes of the payload.
 use Rattle.std.specs.Prelude.{◌≡◌, ℕ, List, [], ◌∷◌, ◌++◌, Option, Some, None, Result, Ok, Err, ⊤}
 use Rattle.std.specs.Borrow.{Bor}
 use Rattle.model.specs.Tables.{IsTable}
@@ -69,13 +69,13 @@ headers_in _ = None
 abbrev pub LacksHeaders : Option (List (Option Argument)) → Type 0
 LacksHeaders read = (given : List (Option Argument)) → read ≡ Some given → HeadersAreWhole (headers_in given) → ⊥
 
--- the error is a syntax error and no properties were read or their headers are no table, or an allocation failed
+-- the error is right: `Memory` always is, `SyntaxError` is if no properties were read or their headers are no table, and `FrameError` never is
 abbrev pub WantsHeaders : Option (List (Option Argument)) → BadHeader → Type 0
 WantsHeaders read FrameError = ⊥
 WantsHeaders read SyntaxError = LacksHeaders read
 WantsHeaders read Memory = ⊤
 
--- the result is the properties that were read and their headers are a table, or the error is correct
+-- the result has the properties that were read, and their headers are a table; or the error is correct
 abbrev pub GivesProperties : Result Properties BadHeader → Option (List (Option Argument)) → Type 0
 GivesProperties (Ok p) read = (read ≡ Some (properties_of p)) × HeadersAreWhole p.headers
 GivesProperties (Err e) read = WantsHeaders read e

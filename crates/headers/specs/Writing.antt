@@ -28,7 +28,7 @@ values os = flat_map value_of os
 abbrev pub AreValues : List (Option Argument) → Type 0
 AreValues os = AllByRecursion IsValue os
 
--- the weight if the property is present, or else 0
+-- `weight` if the property is present, as `is` says, and otherwise 0
 abbrev pub flag : Bool → ℕ → ℕ
 flag is weight = cond is 1 0 * weight
 
@@ -54,12 +54,12 @@ fixed size flags = to_be_bytes w16 60 ++ to_be_bytes w16 0 ++ to_be_bytes w64 si
 
 -- ---- the result
 
--- the error is correct: a syntax error only if the properties can't be encoded
+-- the error is correct: `SyntaxError` only if the properties can't be encoded; `Memory` always is
 abbrev pub PropertiesRefused : Properties → UnwrittenHeader → Type 0
 PropertiesRefused p SyntaxError = AreProperties p → ⊥
 PropertiesRefused p Memory = ⊤
 
--- the result is the length of a header with these properties, for a body of any size, or nothing if they can't be encoded
+-- the result is the length of a header with these properties, for a body of any size, or `None` if they can't be encoded
 abbrev pub CountsHeader : Properties → Option ℕ → Type 0
 CountsHeader p (Some n) = AreProperties p × ((size : ℕ) → n ≡ length (header_bytes size p))
 CountsHeader p None = AreProperties p → ⊥

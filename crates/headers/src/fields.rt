@@ -6,7 +6,7 @@ ghost use Rattle.headers.specs.Reading.{Fields};
 
 use byteorder::{BigEndian, ByteOrder};
 
-/// Splits size, flags and the bytes after them from `payload`. Returns `None` if it is shorter than 14 bytes or of another class or weight.
+/// Splits `payload` into body size, flags and the bytes after them. Returns `None` if it is shorter than 14 bytes or of another class or weight.
 pub fn fields_at(payload: &[u8]) -> Option<(u64, u16, &[u8])>
     ensures { MatchOption result (IsNoHeader payload.now) (λ x. Fields payload.now x.0 x.1 x.2.now) }
 {

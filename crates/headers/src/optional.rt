@@ -55,7 +55,7 @@ pub(crate) fn parts_at(flags: u16, bytes: &[u8]) -> Option<Parts<'_>>
     Some(Parts { front, back })
 }
 
-/// Splits those of the first seven properties that `flags` name off the front, and returns them with the rest.
+/// Splits those of the first seven properties that `flags` name off the front, and returns them with the rest, or `None` if they aren't all there.
 fn front_at(flags: u16, bytes: &[u8]) -> Option<(Front<'_>, &[u8])>
     ensures { option_map (λ x. (front_in x.0, x.1.now)) result ≡ options_at flags front_rows bytes.now }
 {
@@ -78,7 +78,7 @@ fn front_at(flags: u16, bytes: &[u8]) -> Option<(Front<'_>, &[u8])>
     Some((front, rest))
 }
 
-/// Splits those of the last seven properties that `flags` name off the front, and returns them with the rest.
+/// Splits those of the last seven properties that `flags` name off the front, and returns them with the rest, or `None` if they aren't all there.
 fn back_at(flags: u16, bytes: &[u8]) -> Option<(Back<'_>, &[u8])>
     ensures { option_map (λ x. (back_in x.0, x.1.now)) result ≡ options_at flags back_rows bytes.now }
 {

@@ -10,7 +10,8 @@ use crate::fields::fields_at;
 use crate::properties::properties_in;
 use std::alloc::Global;
 
-/// Returns the body size in bytes that `payload` declares, or [`BadHeader::FrameError`]. Flags and properties are not looked at. Never allocates.
+/// Returns the body size in bytes that `payload` declares. Fails with [`BadHeader::FrameError`] if it is no content header of the basic class.
+/// Flags and properties are not looked at. Never allocates.
 pub fn read_size(payload: &[u8]) -> Result<u64, BadHeader>
     ensures { TellsSize payload.now result }
 {

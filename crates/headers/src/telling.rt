@@ -1,4 +1,4 @@
-//! Takes properties apart.
+//! Returns the parts of properties, in whichever form these are kept.
 
 ghost use Rattle.std.specs.Prelude.{◌≡◌, IfOk, option_map};
 ghost use Rattle.model.specs.Headers.{properties_of};

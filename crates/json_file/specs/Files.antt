@@ -1,5 +1,5 @@
--- Files and the causes for which they are refused (own). `stated_at` is what a JSON value states, if it states anything, and `Clear` is the condition
--- that keeps a statement clear of a cause.
+-- Files and the causes for which they are refused (own). `stated_at` returns what a JSON value states, or `None` if it states nothing. `Clear bad x`
+-- says that the cause `bad` doesn't apply to the statement `x`.
 use Rattle.std.specs.Prelude.{◌≡◌, ◌<◌, ◌≤◌, ℕ, List, Option, Some, None, length}
 use Rattle.serde_json.specs.Data.{Data}
 use Rattle.json_file.specs.Members.{IsJson, IsJsonFile}
@@ -51,7 +51,7 @@ IsUnreadFile stated_at _ bytes = ⊥
 abbrev pub IsWellShaped : {X : Type 0} → (Data → Option X) → List ℕ → Type 0
 IsWellShaped {X} stated_at bytes = (d : Data) → IsJson bytes d → (x : X) × (stated_at d ≡ Some x)
 
--- if the file states something, that is clear of this cause
+-- if the file states something, the cause does not apply to what it states
 abbrev pub HasClear : {X : Type 0} → (Data → Option X) → (FileCause → X → Type 0) → FileCause → List ℕ → Type 0
 HasClear {X} stated_at Clear bad bytes = (x : X) → IsFileOf stated_at bytes x → Clear bad x
 

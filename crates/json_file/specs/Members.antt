@@ -64,7 +64,7 @@ if_object d = if is_some (as_object d) then Some d else None
 unfoldable pub arguments_member : Data → Option Data
 arguments_member d = option_and_then if_object (get (codes "arguments") d)
 
--- a member that may be left out
+-- the value of a member that may be left out: `Some None` if it is, and `None` if it is there and `reads` finds no value in it
 abbrev pub optional : {A : Type 0} → (Data → Option A) → Option Data → Option (Option A)
 optional reads None = Some None
 optional reads (Some d) = option_map (λ x. Some x) (reads d)
@@ -73,7 +73,7 @@ optional reads (Some d) = option_map (λ x. Some x) (reads d)
 unfoldable pub optional_text_member : List ℕ → Data → Option (Option (List ℕ))
 optional_text_member name d = optional as_str (get name d)
 
--- a whole number below 2^32
+-- `n`, if it is below 2^32
 abbrev pub small : ℕ → Option ℕ
 small n = if nat_lt n (2 ^ 32) then Some n else None
 
@@ -94,12 +94,12 @@ fills (item d ds) = true
 unfoldable pub is_filled : List ℕ → Data → Option Bool
 is_filled name d = option_map (λ o. unwrap_or o false) (optional (λ x. option_map fills (as_array x)) (get name d))
 
--- whether each member has one of these names
+-- whether each member has one of the names `names`
 abbrev pub named_among : List (List ℕ) → Members → Bool
 named_among names no_members = true
 named_among names (member k d ms) = list_any (λ n. bytes_eq n k) names && named_among names ms
 
--- whether the value is an object whose members each have one of these names
+-- whether the value is an object whose members each have one of the names `names`
 abbrev pub has_only : List (List ℕ) → Data → Bool
 has_only names null = false
 has_only names (boolean b) = false

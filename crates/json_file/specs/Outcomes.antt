@@ -9,23 +9,23 @@ use Rattle.json_file.specs.Members.{IsJson}
 use Rattle.json_file.specs.declared.causes.FileCause.{FileCause}
 use Rattle.json_file.specs.declared.causes.FileCause.TheVariants.{NotJson, Malformed, TooMany, Memory}
 
--- a member is refused as malformed only for this reason
+-- the reader fails as `Malformed`, and the reason `why` applies; or as `Memory`, which needs no reason
 abbrev pub FailsJson : FileCause → Type 0 → Type 0
 FailsJson Malformed why = why
 FailsJson Memory why = Unit {0}
 FailsJson _ why = ⊥
 
--- the reader returns what the value states, and refuses it only if it states nothing
+-- the reader returns what the value states; or the value states nothing, or an allocation failed
 abbrev pub GivesValue : {A : Type 0} → Result A FileCause → Option A → Type 0
 GivesValue (Ok x) o = o ≡ Some x
 GivesValue (Err e) o = FailsJson e (o ≡ None)
 
--- the reader returns the part that the value states, borrowed, and refuses it only if it states nothing
+-- the reader returns the part that the value states, borrowed; or the value states nothing, or an allocation failed
 abbrev pub GivesView : Result (Bor Value) FileCause → Option Data → Type 0
 GivesView (Ok v) o = o ≡ Some (view v.now)
 GivesView (Err e) o = FailsJson e (o ≡ None)
 
--- the reader returns the list that the value states, and refuses it only if it states nothing
+-- the reader returns the list that the value states, or refuses the value: it states no list, or an allocation failed
 abbrev pub GivesItems : {A : Type 0} → Result (Vec A Global) FileCause → Option (List A) → Type 0
 GivesItems (Ok v) o = o ≡ Some v.items
 GivesItems (Err e) o = FailsJson e (o ≡ None)

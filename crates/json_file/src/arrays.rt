@@ -51,7 +51,7 @@ impl FromValue for Text {
     }
 }
 
-/// Reads the entries that `values` state, in their order. Fails if one states none, or if an allocation fails.
+/// Reads one entry from each of `values`, in their order. Fails if one of `values` states no entry, or if an allocation fails.
 pub fn elements<E: FromValue>(alloc: Global, values: &[Value]) -> Result<Vec<E>, FileCause>
     ensures { GivesItems result (each E.states (items_view values.now)) }
 {

@@ -19,8 +19,7 @@ pub enum FileCause {
     OtherVhost,
     /// 4: two users, two queues or two exchanges have the same name.
     Repeated,
-    /// 5: the source or the destination of a binding doesn't exist. Guarantees: an exchange or a queue doesn't exist; the default
-    /// exchange `""` does.
+    /// 5: the source or the destination of a binding doesn't exist. Guarantees: an exchange or a queue doesn't exist; the default exchange `""` always does.
     Absent,
     /// 6: an exchange has another type than `direct`, `fanout` and `topic`.
     OtherType,
@@ -43,7 +42,8 @@ pub enum FileCause {
     TooMany,
     /// 11: an alternate exchange doesn't exist, or a dead-letter exchange doesn't exist and isn't the default one.
     NoExchange,
-    /// 12: a user doesn't have exactly one permission, a permission is of no user, or it isn't to configure nothing and to write and read all.
+    /// 12: a user doesn't have exactly one permission, a permission is of no user, or a permission is another one than to configure nothing, and
+    /// to write and read everything.
     OtherPermission,
     /// 13: a password is hashed in another way, or its hash is not the Base64 of 36 bytes.
     OtherHash,

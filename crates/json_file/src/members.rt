@@ -78,7 +78,7 @@ pub fn arguments(value: &Value) -> Result<&Value, FileCause>
     }
 }
 
-/// Returns the text at member `name`, which may be left out. Fails if the member is no text, or if an allocation fails.
+/// Returns the text at member `name`, or `None` if the member is left out. Fails if it is no text, or if an allocation fails.
 #[tactic(auto, unfolding(crate::specs::Members::optional_text_member))]
 pub fn optional_text(alloc: Global, value: &Value, name: &str) -> Result<Option<Text>, FileCause>
     ensures { GivesValue result (optional_text_member name.now (view value.now)) }

@@ -82,7 +82,7 @@ gets_one = Command 1 1 (BasicGet (record { reserved = 0; queue = codes "audit"; 
 abbrev pub purges_all : Event
 purges_all = Command 1 1 (QueuePurge (record { reserved = 0; queue = codes "audit"; no_wait = true })) None
 
--- The same event under the topology with the queue `audit` alone.
+-- The event of `quiet_event`, under the topology with the queue `audit` alone.
 abbrev pub over_audit : Event → State → State → Happening
 over_audit e old new = record (quiet_event e old new) { config = record (under []) { topology = audit_alone } }
 
@@ -98,9 +98,9 @@ pub record AccountsRefuse : Type 0 where
   -- A message that is requeued, and still unacknowledged.
   pub requeued_is_outstanding : SettlesAsAsked (quiet_event requeueing (holding (taken ∷ []) (taken_entry ∷ []))
       (holding (taken ∷ []) (freed_now taken_entry ∷ []))) → ⊥
-  -- A delivery whose connection is lost, and whose message nobody can be given.
+  -- A delivery whose connection is lost, while its message is still held, so that nobody can be given it.
   pub lost_with_its_connection : NoneIsForgotten (quiet_event (Lose 1) (holding (taken ∷ []) (taken_entry ∷ [])) (left_behind (taken_entry ∷ []))) → ⊥
-  -- A get that is sent nothing although a message is ready.
+  -- A get that is not answered although a message is ready.
   pub get_without_answer : GetsAreAnswered (over_audit gets_one (holding [] (first_entry ∷ [])) (holding [] (first_entry ∷ []))) → ⊥
   -- A purge that leaves a ready message.
   pub purge_leaves_one : PurgesLeaveNone (over_audit purges_all (holding [] (first_entry ∷ [])) (holding [] (first_entry ∷ []))) → ⊥

@@ -15,7 +15,7 @@ use Rattle.model.specs.declared.messages.Taker.TheVariants as taker
 use Rattle.model.specs.declared.notes.Note.{Note}
 use Rattle.laws.specs.Rows.{first_entry, one_queue}
 
--- They agree in the empty broker, and each event keeps this.
+-- Held messages and unacknowledged deliveries agree in the empty broker, and each event keeps them so.
 pub record BrokersStayAgreed : Type 0 where
   pub empty : IsAgreed empty_broker
   pub acts : (t : Topology) (old new : Broker) (e : Event) (sends : List Send) (notes : List Note) → IsAgreed old → Acts t old e sends notes new → IsAgreed new
@@ -26,11 +26,11 @@ pub record BrokersStayAgreed : Type 0 where
 abbrev pub taken : Outstanding
 taken = record { tag = 1; queue = codes "audit"; by = taker.Get }
 
--- A channel on which it is unacknowledged.
+-- A channel on which the delivery `taken` is unacknowledged.
 abbrev pub with_taken : Channel
 with_taken = record new_channel { next_tag = 2; outstanding = taken ∷ [] }
 
--- A broker with this as channel 1 of connection 1, and with these entries in the queue `audit`.
+-- A broker with `with_taken` as channel 1 of connection 1, and with these entries in the queue `audit`.
 abbrev pub broker_of_taken : List Entry → Broker
 broker_of_taken entries = record {
   published = 1;

@@ -36,15 +36,15 @@ confirming published last = record {
 abbrev pub to_audit : Publishing
 to_audit = record { reserved = 0; exchange = []; routing_key = codes "audit"; mandatory = false; immediate = false }
 
--- The event of this publish, on channel 1 of connection 1.
+-- The event of the publish `to_audit`, on channel 1 of connection 1.
 abbrev pub publishes_one : Event
 publishes_one = Command 1 1 (BasicPublish to_audit) (Some no_content)
 
--- The note of this publish, under this confirm number.
+-- The note of the publish `to_audit`, under this confirm number.
 abbrev pub noted_under : ℕ → Note
 noted_under confirm = Published 3 1 1 [] (codes "audit") (Some confirm)
 
--- This event between the states before and after it, with what is sent and noted.
+-- The event `publishes_one` between the states before and after it, with these `sends` and `notes`.
 abbrev pub publishing : List Send → List Note → Happening
 publishing sends notes = record (over_audit publishes_one (confirming 2 0) (confirming 3 1)) { sends = sends; notes = notes }
 
@@ -76,11 +76,11 @@ pub record ConfirmsRefuse : Type 0 where
   pub number_passed_over : PublishesAreTaken (publishing (reply 1 1 (confirm_method Ack 2) ∷ []) (noted_under 2 ∷ Confirmed 3 Ack ∷ [])) → ⊥
   -- An output without the nack of a publish that was nacked.
   pub output_without_nack : HasNacks (first_nacked ∷ []) select_ok → ⊥
-  -- An output with a nack that no publish had.
+  -- An output with a nack, though no publish was nacked.
   pub unearned_nack : HasNacks [] (select_ok ++ first_nack) → ⊥
-  -- A nack of all publishes up to its own, in place of one of its own alone.
+  -- A nack of all publishes up to a number, in place of one for that number alone.
   pub nack_of_more : HasNacks (first_nacked ∷ []) (select_ok ++ multiple_nack) → ⊥
   -- An entry that is marked as redelivered as it enters.
   pub entered_marked : EnterFresh (event_of_notes [] (with_entries []) (Entered 1 (codes "audit") Publish ∷ []) (with_entries (freed_now first_entry ∷ []))) → ⊥
-  -- An entry that comes to be marked while it waits, and was not given out.
+  -- An entry that gets the redelivered mark while it waits, and was not given out.
   pub marked_where_it_waits : MarksWhatWasGiven (event_of_notes [] (with_entries (first_entry ∷ [])) [] (with_entries (freed_now first_entry ∷ []))) → ⊥

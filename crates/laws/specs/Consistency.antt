@@ -11,8 +11,8 @@ use Rattle.model.specs.declared.events.Arrival.{Arrival}
 use Rattle.model.specs.declared.events.Event.TheVariants as event
 use Rattle.laws.specs.Reloading.{AreOffered}
 
--- A world with no connection is consistent under a sound configuration, and each
--- single thing that is done in it keeps this; a reload if what it offers is sound.
+-- A world with no connection is consistent under a sound configuration. Each kind of step keeps a world
+-- consistent, a reload if the configuration that it offers is sound.
 pub record WorldsStayConsistent : Type 0 where
   pub new_worlds : (f : Config) → IsSound f → IsConsistent (new_world f)
   pub turns : (old new : World) (c : ℕ) (hs : List Happening) → IsConsistent old → Turns old c hs new → IsConsistent new

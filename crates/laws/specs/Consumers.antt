@@ -24,19 +24,19 @@ use Rattle.model.specs.declared.notes.Note.{Note}
 
 -- ---- consumers by their names
 
--- In the empty broker consumers are named as they should be, and each event keeps this.
+-- In the empty broker the consumers are named as `AreNamed` says, and each event keeps them so.
 pub record ConsumersStayNamed : Type 0 where
   pub empty : (t : Topology) → AreNamed t empty_broker
   pub acts : (t : Topology) (old new : Broker) (e : Event) (sends : List Send) (notes : List Note) → IsSaid e → AreNamed t old
       → Acts t old e sends notes new → AreNamed t new
-  -- The next consumer of a channel begins with no unacknowledged message, also under the tag of one that was cancelled.
+  -- The next consumer of a channel begins with no unacknowledged message, also if it has the tag of one that was cancelled.
   pub fresh : (t : Topology) (ch : Channel) → AreNamedOn t ch → count_to taker_of ch.next_number ch.outstanding ≡ 0
 
--- The consumers of the world are named as they should be, under the topology in force.
+-- The consumers of the world are named as `AreNamed` says, under the topology in force.
 abbrev pub IsWorldNamed : World → Type 0
 IsWorldNamed w = AreNamed w.config.topology w.state.broker
 
--- This is so in a world with no connection, and each single thing that is done in it keeps this.
+-- `IsWorldNamed` is true of a world with no connection, and each kind of step keeps it true.
 pub record WorldsStayNamed : Type 0 where
   pub new_worlds : (f : Config) → IsWorldNamed (new_world f)
   pub turns : (old new : World) (c : ℕ) (hs : List Happening) → IsWorldNamed old → Turns old c hs new → IsWorldNamed new
@@ -48,7 +48,7 @@ pub record WorldsStayNamed : Type 0 where
   pub pumps : (old new : World) (hs : List Happening) → IsWorldNamed old → Pumps old hs new → IsWorldNamed new
   pub reloads : (old new : World) (offered : Config) (os : List Occurrence) → IsWorldNamed old → Reloads old offered os new → IsWorldNamed new
 
--- This is so after any arrivals, if it was before them.
+-- `IsWorldNamed` is true after any arrivals, if it was true before them.
 abbrev pub PlaysStayNamed : Type 0
 PlaysStayNamed = (old new : World) (arrivals : List (Arrival Config)) (os : List Occurrence) → IsWorldNamed old → Plays old arrivals os new → IsWorldNamed new
 
@@ -63,14 +63,14 @@ abbrev pub IsMadeBy : Broker → Event → ℕ → ℕ → Consumer → Type 0
 IsMadeBy b e c h k = (m : Consume) × (content : Option Content) × (e ≡ Command c h (BasicConsume m) content)
     × (k.number ≡ (channel_or_new (b.channel c h)).next_number)
 
--- After each event, a consumer was there before it, or the event is the consume that makes it.
+-- Each consumer after an event was there before it, or the event is the consume that makes it.
 abbrev pub ConsumersAreMade : Type 0
 ConsumersAreMade = (t : Topology) (old new : Broker) (e : Event) (sends : List Send) (notes : List Note) → Acts t old e sends notes new
     → (c h : ℕ) (k : Consumer) → WasConsumer new c h k → WasConsumer old c h k ⊎ IsMadeBy old e c h k
 
 -- ---- deliveries
 
--- If consumers are named as they should be and each message can be given out, what a delivery sends can be addressed, on a channel that a frame can name.
+-- If consumers are named as `AreNamed` says and each message can be given out, a delivery's sends can be addressed, on a channel that a frame can name.
 abbrev pub DeliveriesAreAddressed : Type 0
 DeliveriesAreAddressed = (t : Topology) (old new : Broker) (c : ℕ) (sends : List Send) (notes : List Note) (d : IsDelivery old c sends notes new)
     → AreCarried old → AreNamed t old → d.made.number < 2 ^ 16 → AllByRecursion (IsAddressed c) sends
@@ -80,12 +80,12 @@ DeliveriesAreAddressed = (t : Topology) (old new : Broker) (c : ℕ) (sends : Li
 -- The number of the next tag that the server makes on the channel: the first, from `next_name` on, whose tag is free.
 pub record IsNextTag (ch : Channel) : Type 0 where
   pub least : ch.next_name ≤ next_free ch
-  -- Its tag is free, unless it is the greatest number, which is never given.
+  -- The number's tag is free, unless the number is the greatest one, which is never given.
   pub free : next_free ch < greatest → is_in_use (server_tag (next_free ch)) ch.consumers ≡ false
-  -- The tags of all numbers before it are in use.
+  -- The tags of all numbers from `next_name` to the one before it are in use.
   pub before : (k : ℕ) → ch.next_name ≤ k → k < next_free ch → is_in_use (server_tag k) ch.consumers ≡ true
 
--- `next_free` is such a number on each channel, and the only one; it is the greatest number if the tags of all others are in use.
+-- On each channel `next_free` is the number that `IsNextTag` describes, and the only one; it is the greatest number if all other tags are in use.
 pub record NextTagsAreFound : Type 0 where
   pub next : (ch : Channel) → IsNextTag ch
   pub only : (ch : Channel) (n : ℕ) → ch.next_name ≤ n → n < greatest → is_in_use (server_tag n) ch.consumers ≡ false

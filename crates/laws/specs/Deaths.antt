@@ -33,7 +33,7 @@ use Rattle.laws.specs.Rows.{one_queue}
 abbrev pub one_exchange : Text → ExchangeKind → Exchange
 one_exchange name kind = record { name = name; kind = kind; internal = false; alternate = None }
 
--- A queue called `name` that dead-letters to `exchange` under `key`, if it has these.
+-- A queue called `name` with this dead-letter exchange, if any, and this dead-letter key, if any.
 abbrev pub queue_with : Text → Option Text → Option Text → DeclaredQueue
 queue_with name exchange key = record { name = name; limit = None; byte_limit = None; dead_letter_exchange = exchange; dead_letter_key = key }
 
@@ -93,17 +93,17 @@ first_publish published exchange key headers =
 abbrev pub got_from : Text → Outstanding
 got_from queue = record { tag = 1; queue = queue; by = taker.Get }
 
--- The queues before the rejection: `queue` alone has the message, held by this get.
+-- The queues before the rejection: `queue` alone has the message, held by the delivery `got_from queue`.
 abbrev pub while_held : Text → Message → Text → List Entry
 while_held queue m = one_queue queue (record { message = m; mark = Held (holder_of 1 1 (got_from queue)) } ∷ [])
 
--- The message `m` is rejected in the queue `from`, and the queue `to` then has `letter` alone; `notes` follow the note that it left.
+-- The message `m` is rejected in the queue `from`, and then the queue `to` has `letter` alone. `notes` are all notes after the one that `m` left.
 pub record EndsIn (t : Topology) (from to : Text) (m letter : Message) (notes : List Note) : Type 0 where
   pub after : Text → List Entry
   pub rejected : AreRejected t 1 1 (got_from from ∷ []) (while_held from m) (Left 1 from Rejected ∷ notes) after
   pub enters : after to ≡ record { message = letter; mark = Ready } ∷ []
 
--- The letter enters the queue `to` alone.
+-- The message dies in the queue `from`, and its dead letter enters the queue `to` and no other.
 abbrev pub DiesTo : Topology → Text → Text → Message → Message → Type 0
 DiesTo t from to m letter = EndsIn t from to m letter (Entered 1 to Dead ∷ [])
 
@@ -122,7 +122,7 @@ pub record WorkedDeaths : Type 0 where
   -- The dead letter is in `billing` as one sent to `D` under `pay`, with the headers of its death.
   pub first : DiesTo deaths (codes "q1") (codes "billing") (first_publish (codes "Y") (codes "Y") (codes "a") None)
       (first_publish (codes "Y") (codes "D") (codes "pay") in_q1)
-  -- By a second death it is one sent to `E` under the same key, and its headers tell of the first.
+  -- That dead letter dies in `billing`. Its own dead letter is in `q3` as one sent to `E` under `pay`, with the headers of the first death.
   pub second : DiesTo deaths (codes "billing") (codes "q3") (first_publish (codes "Y") (codes "D") (codes "pay") in_q1)
       (first_publish (codes "Y") (codes "E") (codes "pay") in_q1)
   -- Class 60, weight 0, a body of 2 bytes, headers alone, and a table of 90 bytes.
@@ -132,7 +132,7 @@ pub record WorkedDeaths : Type 0 where
   -- A full queue refuses the dead letter and another takes it, in the order of the file.
   pub refused : EndsIn full_topology (codes "q1") (codes "billing") (first_publish (codes "Y") (codes "Y") (codes "a") None)
       (first_publish (codes "Y") (codes "D") (codes "a") in_q1) (Refused 1 (codes "full") ∷ Entered 1 (codes "billing") Dead ∷ [])
-  -- If an exchange leads back, the dead letter enters its queue again; the second time, nothing else changes.
+  -- If the dead-letter exchange leads back, the dead letter enters the queue where the message died. If it dies there again, its dead letter is the same.
   pub round : DiesTo circle (codes "q") (codes "q") (first_publish (codes "X") (codes "X") (codes "a") None)
       (first_publish (codes "X") (codes "X") (codes "a") in_q)
   pub round_again : DiesTo circle (codes "q") (codes "q") (first_publish (codes "X") (codes "X") (codes "a") in_q)
@@ -140,7 +140,7 @@ pub record WorkedDeaths : Type 0 where
 
 -- ---- what deaths do not do
 
--- What is sent to `exchange` never comes to `queue`.
+-- What is sent to `exchange` never reaches `queue`.
 abbrev pub never_to : Text → Text → Guarantee
 never_to exchange queue = record { mode = Never; exchange = exchange; pattern = codes "#"; queue = queue; excepts = [] }
 
@@ -162,7 +162,7 @@ pub record DeathsRefuse : Type 0 where
       (while_held (codes "q1") (first_publish (codes "Y") (codes "Y") (codes "a") None)) (Left 1 (codes "q1") Rejected ∷ []) after → ⊥
   -- Headers do not tell of a second death.
   pub told_twice : AreMarked (codes "billing") (codes "D") in_q1 (Some (first_death (codes "q1") (codes "Y") ++ first_death (codes "billing") (codes "D"))) → ⊥
-  -- A guarantee that forgets where dead letters come does not hold.
+  -- A guarantee that forgets where dead letters go does not hold.
   pub forgets : Holds deaths (never_to (codes "Y") (codes "billing")) → ⊥
   pub forgets_second : Holds deaths (never_to (codes "Y") (codes "q3")) → ⊥
   pub forgets_route : Holds circle (never_to (codes "X") (codes "q")) → ⊥

@@ -16,18 +16,18 @@ use Rattle.laws.specs.Reloading.{AreOffered}
 abbrev pub OneReading : Type 0
 OneReading = (output : List ℕ) (fs gs : List Frame) → IsReading output fs → IsReading output gs → fs ≡ gs
 
--- In a consistent world, one command and the pause that it brings keep the promises of their events.
+-- In a consistent world, a turn keeps the promises of its events: a command or a fault, and the pause that it brings.
 abbrev pub TurnsKeep : Type 0
 TurnsKeep = (old new : World) (c : ℕ) (hs : List Happening) → IsSound old.config → IsConsistent old → Turns old c hs new
     → KeepsEvents old.state.broker hs new.state.broker
 
--- In a consistent world, a delivery and the pause that it brings keep the promises of their events.
+-- In a consistent world, a pump keeps the promises of its events: a delivery and the pause that it brings.
 abbrev pub PumpsKeep : Type 0
 PumpsKeep = (old new : World) (hs : List Happening) → IsSound old.config → IsConsistent old → Pumps old hs new
     → KeepsEvents old.state.broker hs new.state.broker
 
--- What one command and the pause that it brings put out for a connection is appended
--- to what was put out before, and has the acks and the nacks of its own publishes.
+-- What a turn puts out for its connection is appended to what was put out before,
+-- and has the acks and the nacks of the turn's own publishes.
 abbrev pub TurnsConfirm : Type 0
 TurnsConfirm = (old new : World) (c : ℕ) (hs : List Happening) → Turns old c hs new
     → ((new.wire c).output ≡ (old.wire c).output ++ put_out c hs) × Confirms c hs (put_out c hs)

@@ -37,24 +37,24 @@ pub record ArePieces (size : ℕ) (bytes : List ℕ) (pieces : List (List ℕ)) 
   pub most : (i : ℕ) (p : List ℕ) → slice_get pieces i ≡ Some p → length p ≤ size
   pub full : (i : ℕ) (p : List ℕ) → slice_get pieces i ≡ Some p → i + 1 < length pieces → length p ≡ size
 
--- A body is cut into such pieces.
+-- A body is cut into pieces of `size` bytes, of which only the last may be shorter (`ArePieces`).
 abbrev pub BodiesAreCut : Type 0
 BodiesAreCut = (size : ℕ) (bytes : List ℕ) → 1 ≤ size → ArePieces size bytes (pieces_of size (length bytes) bytes)
 
 -- ---- the phase after what was sent
 
--- Whether the phase is another after this method was sent.
+-- Whether sending the method changes the phase: connection.close and close-ok do.
 abbrev pub is_telling : Method → Bool
 is_telling (ConnectionClose m) = true
 is_telling ConnectionCloseOk = true
 is_telling m = false
 
--- Whether the send carries such a method.
+-- Whether the send carries a method that changes the phase.
 abbrev pub tells_phase : Send → Bool
 tells_phase (Greeting c) = false
 tells_phase (Command c h m content) = is_telling m
 
--- The phase that the first such send leads to; Running if there is none.
+-- The phase after the first send that changes it; Running if there is no such send.
 abbrev pub phase_told : Option Send → Phase
 phase_told (Some (Command c h m content)) = after_method m phase.Running
 phase_told (Some (Greeting c)) = phase.Running

@@ -22,16 +22,16 @@ abbrev pub is_first : Event → Bool
 is_first (First c bytes) = true
 is_first e = false
 
--- Whether the first eight bytes are still to be read, or are the command that is kept, is as `said` says.
+-- `said` says whether the first eight bytes are still to be performed: the stream awaits them, or they are the command that is kept.
 abbrev pub AreToCome : Bool → Option Command → Stream → Type 0
 AreToCome said None s = s.is_new ≡ said
 AreToCome said (Some c) s = (is_head c ≡ said) × (s.is_new ≡ false)
 
--- They are, exactly while the phase of connection `c` awaits them.
+-- The first eight bytes of connection `c` are still to be performed exactly while its phase awaits them.
 abbrev pub ReadsByPhase : World → ℕ → Type 0
 ReadsByPhase w c = AreToCome (is_header (w.state.session c).phase) (w.wire c).kept (w.wire c).stream
 
--- Whatever arrives, this is so of each connection.
+-- Whatever arrives, `ReadsByPhase` is true of each connection.
 abbrev pub OpeningsReadByPhase : Type 0
 OpeningsReadByPhase = (f : Config) (arrivals : List (Arrival Config)) (os : List Occurrence) (w : World) → Plays (new_world f) arrivals os w
     → (c : ℕ) → ReadsByPhase w c

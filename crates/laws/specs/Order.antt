@@ -11,11 +11,11 @@ abbrev pub GivenInOrder : Type 0
 GivenInOrder = (q : Text) (hs : List Happening) (old new : State) (ns : List ℕ) → Run old hs new → FirstGiven q hs ns
     → IsPart ns (waiting (old.broker.queue q) ++ entered q (notes_of hs))
 
--- Whatever is given out, no entry ahead of it in its queue is ready.
+-- When an entry is given out of a queue, no entry ahead of it there is ready.
 abbrev pub GivenAfterThoseAhead : Type 0
 GivenAfterThoseAhead = (h : Happening) → IsAfterThoseAhead h
 
--- A message comes to be held only by being given out.
+-- A message becomes held only by being given out.
 abbrev pub HeldAreGiven : Type 0
 HeldAreGiven = (h : Happening) → Step h.config h.before h.event h.sends h.notes h.after → HoldsWhatWasGiven h
 
@@ -23,6 +23,6 @@ HeldAreGiven = (h : Happening) → Step h.config h.before h.event h.sends h.note
 abbrev pub EnteringIsFresh : Type 0
 EnteringIsFresh = (h : Happening) → Step h.config h.before h.event h.sends h.notes h.after → EnterFresh h
 
--- Only a message that was given out of its queue comes to be marked as redelivered.
+-- Only a message that was given out of its queue gets the redelivered mark.
 abbrev pub MarksAreGiven : Type 0
 MarksAreGiven = (h : Happening) → Step h.config h.before h.event h.sends h.notes h.after → MarksWhatWasGiven h

@@ -23,22 +23,22 @@ use Rattle.model.specs.declared.methods.Method.TheVariants.{BasicAck, BasicNack}
 
 -- ---- acks and nacks as they are sent
 
--- The ack that a basic.ack on channel `h` is; no other method is one.
+-- The method on channel `h` as an ack, if it is basic.ack.
 abbrev pub ack_of : ℕ → Method → Option Ack
 ack_of h (BasicAck m) = Some (record { channel = h; number = m.delivery_tag; multiple = m.multiple })
 ack_of h m = None
 
--- The ack that a send is, if it is one.
+-- The ack that the send carries, if it carries one.
 abbrev pub ack_sent : Send → Option Ack
 ack_sent (send.Greeting c) = None
 ack_sent (send.Command c h m content) = ack_of h m
 
--- The nack that a basic.nack on channel `h` is; no other method is one.
+-- The method on channel `h` as a nack, if it is basic.nack.
 abbrev pub nack_of : ℕ → Method → Option Nack
 nack_of h (BasicNack m) = Some (record { channel = h; number = m.delivery_tag; multiple = m.multiple })
 nack_of h m = None
 
--- The nack that a send is, if it is one.
+-- The nack that the send carries, if it carries one.
 abbrev pub nack_sent : Send → Option Nack
 nack_sent (send.Greeting c) = None
 nack_sent (send.Command c h m content) = nack_of h m
@@ -53,7 +53,7 @@ AreSound hs = AllByRecursion (λ (h : Happening). IsSound h.config) hs
 abbrev pub config_after : Happening → Config
 config_after h = h.config
 
--- `f` is in force at the first of the events, at each other one what is in force after the one before it, and `last` after all of them.
+-- `f` is in force at the first event, what is in force after an event is in force at the next, and `last` is in force after all of them.
 abbrev pub InForce : Config → List Happening → Config → Type 0
 InForce f [] last = last ≡ f
 InForce f (h ∷ hs) last = (h.config ≡ f) × InForce (config_after h) hs last
@@ -62,7 +62,7 @@ InForce f (h ∷ hs) last = (h.config ≡ f) × InForce (config_after h) hs last
 abbrev pub AreSaid : List Happening → Type 0
 AreSaid hs = AllByRecursion (λ (h : Happening). IsSaid h.event) hs
 
--- What is in the queues at the beginning: messages with no greater number than that of publishes counted, each of which may be in its queue under `f`.
+-- How a run under `f` may begin: no message in a queue has a number above that of the publishes counted, and each may be in its queue.
 pub record IsBegun (f : Config) (b : Broker) : Type 0 where
   pub counted : AreCounted b
   pub kept : AreKept f b
@@ -82,17 +82,19 @@ AcksAreAcked = (hs : List Happening) (old new : State) → Run old hs new → (c
 abbrev pub NacksAreNacked : Type 0
 NacksAreNacked = (hs : List Happening) (old new : State) → Run old hs new → (c : ℕ) → filter_map nack_sent (sends_to c (sends_of hs)) ≡ nacks_of c hs
 
--- No message, as a publish or a dead letter, entered a queue that was forbidden to its publish, as all notes of the run tell of it.
+-- No message, as a publish or a dead letter, entered a queue that a guarantee forbids to its publish. Where the publish was sent is taken
+-- from all notes of the run.
 abbrev pub ForbiddenAreNotEntered : Type 0
 ForbiddenAreNotEntered = (f last : Config) (hs : List Happening) (old new : State) → AreSound hs → InForce f hs last → AreSaid hs
     → IsBegun f old.broker → Run old hs new → AllByRecursion (AreAllowedIn (notes_of hs)) hs
 
--- No message entered a queue that was forbidden to its publish, as each event tells of it by its notes and the queues before it.
+-- No message entered a queue that a guarantee forbids to its publish. Where the publish was sent is taken from the event's notes
+-- and from the queues before the event.
 abbrev pub ForbiddenAreNotEnteredAtEvents : Type 0
 ForbiddenAreNotEnteredAtEvents = (f last : Config) (hs : List Happening) (old new : State) → AreSound hs → InForce f hs last → AreSaid hs
     → IsBegun f old.broker → Run old hs new → AllByRecursion AreAllowed hs
 
--- What left a queue left it by an event that takes it out.
+-- Each message that left a queue left it by an event that may take it out for the cause that is noted.
 abbrev pub CausesAreShown : Type 0
 CausesAreShown = (hs : List Happening) (old new : State) → Run old hs new → AllByRecursion HaveCauses hs
 
@@ -110,7 +112,8 @@ PublishesEnterAsRouted = (hs : List Happening) (old new : State) → Run old hs 
 abbrev pub LettersComeAsRouted : Type 0
 LettersComeAsRouted = (hs : List Happening) (old new : State) → AreSound hs → Run old hs new → AllByRecursion DieAsRouted hs
 
--- If the configurations in force are sound, for each number at most as many dead letters entered a queue at an event as messages were rejected at it.
+-- If the configurations in force are sound, then at each event, for each publish number,
+-- at most as many dead letters entered a queue as messages of that number were rejected.
 abbrev pub LettersComeOnce : Type 0
 LettersComeOnce = (hs : List Happening) (old new : State) → AreSound hs → Run old hs new → AllByRecursion DieOnce hs
 
@@ -119,8 +122,8 @@ LettersComeOnce = (hs : List Happening) (old new : State) → AreSound hs → Ru
 abbrev pub GivenAsPublished : Type 0
 GivenAsPublished = (hs : List Happening) (old new : State) → ((q : Text) → old.broker.queue q ≡ []) → Run old hs new → AreSourced [] hs
 
--- The events keep the promises of `KeepsEvents` at once: those above, except of acks, nacks and contents that are sent, and
--- besides them the numbers of publishes, the marks of messages, the channels of other connections, and the balance of every queue.
+-- The events keep all promises of `KeepsEvents`. These are the laws above, without those about acks, nacks and contents that are sent,
+-- and four more: about publish numbers, redelivered marks, the channels of other connections, and the balance of every queue.
 abbrev pub RunsKeepEvents : Type 0
 RunsKeepEvents = (f last : Config) (hs : List Happening) (old new : State) → AreSound hs → InForce f hs last → AreSaid hs → IsBegun f old.broker
     → Run old hs new → KeepsEvents old.broker hs new.broker

@@ -8,27 +8,27 @@ use Rattle.model.specs.declared.events.Arrival.{Arrival}
 use Rattle.model.specs.declared.events.Arrival.TheVariants as arrival
 use Rattle.laws.specs.Promises.{AreSaid, IsBegun}
 
--- What each of the reloads offered is sound.
+-- Each of the reloads offered a sound configuration.
 abbrev pub OfferSound : List Reload → Type 0
 OfferSound rs = AllByRecursion (λ (r : Reload). IsSound r.offered) rs
 
--- What the arrival offers is sound, if it is a reload.
+-- If the arrival is a reload, it offers a sound configuration.
 abbrev pub IsOffered : Arrival Config → Type 0
 IsOffered (arrival.Reload offered) = IsSound offered
 IsOffered a = Unit {0}
 
--- What each reload among the arrivals offers is sound.
+-- Each reload among the arrivals offers a sound configuration.
 abbrev pub AreOffered : List (Arrival Config) → Type 0
 AreOffered arrivals = AllByRecursion IsOffered arrivals
 
--- What holds of a history that leaves `last` in force: its events keep the promises, each by what was in force
--- at it, and the next ones will, too, as the messages that it leaves may be in their queues under `last`.
+-- A history that leaves `last` in force: its events keep the promises, each under the configuration in force at it. Another history
+-- may follow it, since `last` is sound and the messages that are left may be in their queues under `last`.
 pub record KeepsOn (old : State) (os : List Occurrence) (last : Config) (new : State) : Type 0 where
   pub kept : KeepsOccurrences old.broker os new.broker
   pub begun : IsBegun last new.broker
   pub sound : IsSound last
 
--- If each message may be in its queue at the beginning, every history keeps the promises, also for messages that came under what was in force before.
+-- If each message may be in its queue at the beginning, every history keeps the promises, also for messages that came under an earlier configuration.
 abbrev pub HistoriesKeep : Type 0
 HistoriesKeep = (f last : Config) (os : List Occurrence) (old new : State) → IsSound f → OfferSound (reloads_of os) → AreSaid (events_of os)
     → IsBegun f old.broker → History f old os last new → KeepsOn old os last new

@@ -97,7 +97,7 @@ pub record FirstOutput : Type 0 where
 abbrev pub bad_end : List ℕ
 bad_end = 1 ∷ 0 ∷ 1 ∷ 0 ∷ 0 ∷ 0 ∷ 5 ∷ 0 ∷ 85 ∷ 0 ∷ 10 ∷ 0 ∷ 205 ∷ []
 
--- No frame can begin with these bytes, and the answer is connection.close 501 with the text frame-error.
+-- No frame can begin with the bytes `bad_end`, and the answer is connection.close 501 with the text frame-error.
 pub record BadEnd : Type 0 where
   pub broken : IsBroken 131072 bad_end
   pub answer : spelling 131072 (connection_close 1 501 (ids 0 0) ∷ [])
@@ -105,12 +105,12 @@ pub record BadEnd : Type 0 where
 
 -- ---- a content that is too large
 
--- Which content is too large, what its bytes do as they come, and how it is answered.
+-- Which content is too large, what follows as the bytes of its body come, and how it is answered.
 pub record TooLargeContent : Type 0 where
   -- A body of 1,048,576 bytes is accepted, and one with a byte more is not.
   pub largest : is_too_large (header_bytes 1048576 no_properties) 1048576 ≡ false
   pub larger : is_too_large (header_bytes 1048577 no_properties) 1048577 ≡ true
-  -- A byte of the body is missing, the body is complete, and a byte too many has come.
+  -- The body is dropped: with one byte missing, complete, and with one byte too many.
   pub missing : taken_dropped 1 1048577 1048576 ≡ Goes_on (Drops 1048577 1048576)
   pub come : taken_dropped 1 1048577 1048577 ≡ Makes (TooLarge 1)
   pub past : taken_dropped 1 1048577 1048578 ≡ Breaks 501
@@ -133,7 +133,7 @@ first_acked = record { number = 1; channel = 1; exchange = codes "orders"; key =
 abbrev pub notes_without_entry : List Note
 notes_without_entry = Published 1 1 1 (codes "orders") (codes "new") (Some 1) ∷ Confirmed 1 Ack ∷ []
 
--- The same ack with `multiple` set: it acknowledges all up to its number.
+-- The ack `first_ack` with `multiple` set: it acknowledges all publishes up to its number.
 abbrev pub multiple_ack : List ℕ
 multiple_ack = 1 ∷ 0 ∷ 1 ∷ 0 ∷ 0 ∷ 0 ∷ 13 ∷ 0 ∷ 60 ∷ 0 ∷ 80 ∷ 0 ∷ 0 ∷ 0 ∷ 0 ∷ 0 ∷ 0 ∷ 0 ∷ 1 ∷ 1 ∷ 206 ∷ []
 
@@ -176,7 +176,7 @@ first_published = Published 1 1 1 (codes "orders") (codes "new") None
 abbrev pub with_entries : List Entry → State
 with_entries entries = record { broker = record empty_broker { published = 1; queue = one_queue (codes "audit") entries }; session = λ c. no_session }
 
--- What is sent to `orders` under `new` never comes to `bin`.
+-- What is sent to `orders` under `new` never reaches `bin`.
 abbrev pub forbids : Guarantee
 forbids = record { mode = Never; exchange = codes "orders"; pattern = codes "new"; queue = codes "bin"; excepts = [] }
 
@@ -196,7 +196,7 @@ event_of_notes guarantees old notes new = record {
   after = new;
 }
 
--- One event alone.
+-- A run of one event with these notes, under no guarantee.
 abbrev pub one_event : State → List Note → State → List Happening
 one_event old notes new = event_of_notes [] old notes new ∷ []
 
@@ -238,11 +238,11 @@ audit_to_bin = record { name = codes "audit"; limit = None; byte_limit = None; d
 abbrev pub bin : DeclaredQueue
 bin = record { name = codes "bin"; limit = None; byte_limit = None; dead_letter_exchange = None; dead_letter_key = None }
 
--- Both queues, under a guarantee that what is sent to `orders` under `new` never comes to `bin`.
+-- The queues `audit` and `bin`, under a guarantee that what is sent to `orders` under `new` never reaches `bin`.
 abbrev pub into_bin : Config
 into_bin = record (under (forbids ∷ [])) { topology = record { exchanges = []; queues = audit_to_bin ∷ bin ∷ []; bindings = [] } }
 
--- A reload that puts this in force, while such a message waits in `audit`.
+-- A reload that puts `into_bin` in force, while a message sent to `orders` under `new` waits in `audit`.
 abbrev pub reload_into_bin : Reload
 reload_into_bin = record {
   config = with_audit;
@@ -253,7 +253,7 @@ reload_into_bin = record {
   in_force = into_bin;
 }
 
--- A user.
+-- A user called `bob`.
 abbrev pub somebody : User
 somebody = record { name = codes "bob"; hash = [] }
 
@@ -295,29 +295,29 @@ pub record HeadlineRefuses : Type 0 where
       (with_entries (first_entry ∷ []))) → ⊥
   -- Two publishes with one number.
   pub one_number_for_two : CountUp 0 (filter_map number_in (first_published ∷ first_published ∷ [])) 2 → ⊥
-  -- A content that is sent and that no publish came with.
+  -- A content that is sent, though no publish came with it.
   pub content_of_no_publish : HaveSources [] (record
       (event_of_notes [] (with_entries (first_entry ∷ [])) [] (with_entries (first_entry ∷ []))) { sends = return_of 1 1 first_sent no_content ∷ [] }) → ⊥
   -- A reload by which a waiting message is gone.
   pub reload_loses_one : StaysOver (with_entries (first_entry ∷ [])).broker
       (Of_reload (reload_of_none (with_entries (first_entry ∷ [])) (with_entries [])) ∷ []) (with_entries []).broker → ⊥
-  -- A reload that is done although a queue in use is gone.
+  -- A reload that is done although the new topology lacks a queue in use.
   pub reload_strands_one : IsDecided (reload_of_none (with_entries (first_entry ∷ [])) (with_entries (stood_now first_entry ∷ []))) → ⊥
   -- A reload that is refused although there is no obstacle.
   pub reload_refused_for_nothing : IsDecided (refused_reload with_audit (with_entries []) (InUse (codes "audit")) with_audit) → ⊥
-  -- A reload that is refused for a message that could come where it is forbidden, while a queue in use is gone.
+  -- A reload that is refused for a message that could come where it is forbidden, although the missing queue in use is the earlier obstacle.
   pub reload_refused_for_the_second : IsDecided (refused_reload (under []) (with_entries (first_entry ∷ []))
       (Breaks (codes "audit") (codes "new") 1) with_audit) → ⊥
   -- A reload that is refused, and puts other users in force.
   pub reload_refused_with_users : IsDecided (refused_reload (under []) (with_entries (first_entry ∷ [])) (InUse (codes "audit"))
       (record with_audit { users = somebody ∷ [] })) → ⊥
-  -- A reload that is done although a message could come where it is forbidden.
+  -- A reload that is done although a waiting message could come to a queue that a new guarantee forbids to it.
   pub reload_beside_a_danger : IsDecided reload_into_bin → ⊥
   -- A message in a queue that a guarantee forbids it.
   pub forbidden_stay : AreSafe with_audit.topology (record forbids { queue = codes "audit" } ∷ []) (with_entries (first_entry ∷ [])).broker → ⊥
-  -- A message that may come by its death to a queue that a guarantee forbids it.
+  -- A message that can reach, by dead-lettering, a queue that a guarantee forbids to it.
   pub forbidden_death : AreSafe into_bin.topology into_bin.guarantees (with_entries (first_entry ∷ [])).broker → ⊥
-  -- Such a message, also if it was in a queue when the last reload was done.
+  -- A message that may come by its death to a queue forbidden it, though it was in a queue when the last reload was done.
   pub forbidden_death_after_a_reload : AreKept into_bin (with_entries (stood_now first_entry ∷ [])).broker → ⊥
   -- Two dead letters of one message, in one queue.
   pub two_letters_of_one : DieOnce (event_of_notes [] (with_entries (first_entry ∷ []))
@@ -342,15 +342,15 @@ consume_of tag = record {
 abbrev pub one_each : Channel
 one_each = record new_channel { each_limit = 1 }
 
--- The consumer that this consume makes on that channel.
+-- The consumer that a consume with this tag makes on the channel `one_each`.
 abbrev pub consumer_under : Text → Consumer
 consumer_under tag = consumer_of one_each (consume_of tag)
 
--- The channel with that consumer.
+-- The channel `one_each` with that consumer.
 abbrev pub consuming_under : Text → Channel
 consuming_under tag = with_consumer one_each (consume_of tag)
 
--- Whether the consumer `mine` may take a message on that channel after the change `given`.
+-- Whether the consumer `mine` may take a message on its channel after the change `given`.
 abbrev pub may_after : (Channel → Channel) → Bool
 may_after given = may_take (given (consuming_under (codes "mine"))) (consumer_under (codes "mine"))
 
@@ -363,15 +363,15 @@ pub record FirstConsumer : Type 0 where
   -- If the client gives no tag, the answer on channel 1 is basic.consume-ok with the tag amq.ctag-1.
   pub answer : spelling 131072 (consume_sends 1 1 false (consumer_under []).tag)
       ≡ 1 ∷ 0 ∷ 1 ∷ 0 ∷ 0 ∷ 0 ∷ 15 ∷ 0 ∷ 60 ∷ 0 ∷ 21 ∷ 10 ∷ 97 ∷ 109 ∷ 113 ∷ 46 ∷ 99 ∷ 116 ∷ 97 ∷ 103 ∷ 45 ∷ 49 ∷ 206 ∷ []
-  -- The next tag is another, and one that a client took is skipped.
+  -- The tag that the server makes next is a new one: it skips a tag that is in use, even one that a client took.
   pub next : tag_for (consuming_under []) [] ≡ codes "amq.ctag-2"
   pub past : tag_for (consuming_under (codes "amq.ctag-1")) [] ≡ codes "amq.ctag-2"
-  -- The consumer may take a message, but none while it has one; those of a get or of another consumer do not count.
+  -- The consumer may take a message, but none while it has one unacknowledged; a message of a get or of another consumer does not count.
   pub may : may_after (λ ch. ch) ≡ true
   pub full : may_after (channel_after false (codes "audit") (taker.Consumer 1)) ≡ false
   pub got : may_after (channel_after false (codes "audit") taker.Get) ≡ true
   pub another : may_after (channel_after false (codes "audit") (taker.Consumer 2)) ≡ true
-  -- It is given the oldest message.
+  -- The consumer is given the oldest message.
   pub oldest : first_ready (first_entry ∷ second_entry ∷ []) ≡ Some first_entry
 
 -- A topology with the queue `audit` alone.
@@ -413,7 +413,7 @@ audit_with limit byte_limit =
 
 -- When a queue refuses a message, by how many messages are ready, how many bytes they have, and the size of the body.
 pub record FullQueues : Type 0 where
-  -- A queue takes four bytes and none above; one that has them still takes an empty body.
+  -- A queue limited to four bytes takes four and no more; with four bytes in it, it still takes an empty body.
   pub long : refuses (audit_with None (Some 4)) 0 0 5 ≡ true
   pub whole : refuses (audit_with None (Some 4)) 0 0 4 ≡ false
   pub empty : refuses (audit_with None (Some 4)) 1 4 0 ≡ false

@@ -1,4 +1,4 @@
--- What a stream yields, in whichever pieces its bytes come, and before all frames.
+-- The commands that a stream yields: the first eight bytes before all frames, and the same in whichever pieces its bytes come.
 use Rattle.std.specs.Prelude.{◌≡◌, ◌<◌, ℕ, List, [], ◌∷◌, ◌++◌, length, Bool, true, false, Option, Some, None}
 use Rattle.model.specs.Words.{Text}
 use Rattle.model.specs.Commands.{Stream, TakesFirst, Yields, Ends, GoesOn, Commands, heard, with_max, keeping}
@@ -7,7 +7,7 @@ use Rattle.model.specs.declared.events.Command.TheVariants.{Head}
 
 -- ---- pieces
 
--- The stream yields these commands, one after another, and `last` is left of it.
+-- The stream yields these commands, one after another, and `last` is the stream after them.
 abbrev pub YieldsAll : Stream → List Command → Stream → Type 0
 YieldsAll s [] last = last ≡ s
 YieldsAll s (c ∷ cs) last = (next : Stream) × Yields s c next × YieldsAll next cs last
@@ -23,13 +23,13 @@ pub record CommandUnder : Type 0 where
   pub frame_max : ℕ
   pub keeps : Bool
 
--- The stream yields these commands, one after another, each read under what was agreed on before it, and `last` is left of it.
+-- The stream yields these commands, one after another, each read under what was agreed on before it, and `last` is the stream after them.
 abbrev pub YieldsTuned : Stream → List CommandUnder → Stream → Type 0
 YieldsTuned s [] last = last ≡ s
 YieldsTuned s (p ∷ ps) last = (next : Stream) × Yields s p.command next × YieldsTuned (keeping p.keeps (with_max p.frame_max next)) ps last
 
--- The commands that were yielded before more bytes came are yielded also with these appended,
--- whatever was agreed on meanwhile, and what was left of the stream then has these appended.
+-- A stream that yields the commands `done` and leaves `last` yields the same with `more` bytes appended, whatever was agreed on
+-- meanwhile, and leaves `last` with these bytes appended.
 abbrev pub TuningDoesNotMatter : Type 0
 TuningDoesNotMatter = (s last : Stream) (done : List CommandUnder) (more : List ℕ) → YieldsTuned s done last → YieldsTuned (heard s more) done (heard last more)
 

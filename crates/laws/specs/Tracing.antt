@@ -20,7 +20,7 @@ pub record MessagesStayTraced : Type 0 where
   pub acts : (t : Topology) (old new : Broker) (e : Event) (sends : List Send) (notes : List Note) → IsSaid e → AreCounted old → AreTraced t old
       → Acts t old e sends notes new → AreTraced t new
 
--- If messages are traced, none is in a queue that a guarantee forbids it, nor may it come to one by deaths.
+-- If messages are traced, none is in a queue that a guarantee forbids it, nor can dead letters bring it to one.
 abbrev pub TracedAreSafe : Type 0
 TracedAreSafe = (f : Config) (b : Broker) → IsSound f → AreTraced f.topology b → AreSafe f.topology f.guarantees b
 
@@ -30,7 +30,7 @@ pub record MessagesStayKept : Type 0 where
   pub acts : (f : Config) (old new : Broker) (e : Event) (sends : List Send) (notes : List Note) → IsSound f → IsSaid e → AreCounted old
       → AreKept f old → Acts f.topology old e sends notes new → AreKept f new
 
--- After a reload without an obstacle, each message may be in its queue under what the reload put in force.
+-- After a reload without an obstacle, each message may be in its queue under the configuration that the reload put in force.
 abbrev pub ReloadsKeep : Type 0
 ReloadsKeep = (f g : Config) (b : Broker) → AreKept f b → NothingStands f.topology g b → AreKept g (with_all_stood b)
 
@@ -40,6 +40,6 @@ pub record NoEventMarks : Type 0 where
   pub acts : (t : Topology) (old new : Broker) (e : Event) (sends : List Send) (notes : List Note) → NoneStood old → Acts t old e sends notes new
       → NoneStood new
 
--- If each message may be in its queue and none is marked so, no guarantee forbids a message its queue, nor one to which it may come from there by deaths.
+-- If each message may be in its queue and none is marked, none is in a queue that a guarantee forbids it, nor can dead letters bring it to one.
 abbrev pub KeptAreSafe : Type 0
 KeptAreSafe = (f : Config) (b : Broker) → AreKept f b → NoneStood b → AreSafe f.topology f.guarantees b

@@ -42,17 +42,17 @@ pub fn word_patterns_are_sound()
     ensures { (t : Topology) (g : Guarantee) → SoundForWords t g }
 {}
 
-/// In every run each event balances by its own notes, and the next one begins where it ended.
+/// In every run, at each event every queue balances by the event's own notes, and the next event begins with the state after it.
 pub fn runs_balance_event_by_event()
     ensures { EveryRunStays }
 {}
 
-/// In every run no message in a queue has a greater number than that of publishes counted, if this was so at the beginning.
+/// In every run no message in a queue has a number above that of the publishes counted, if this is true at its beginning.
 pub fn runs_count_their_messages()
     ensures { EveryRunCounts }
 {}
 
-/// In every run the messages that were in a queue and those that entered it are as many, for each number, as those that left it and those that are in it.
+/// In every run, for each queue and publish number, as many messages were in the queue or entered it as left it or are in it at the end.
 pub fn runs_balance()
     ensures { EveryRunBalances }
 {}
@@ -113,8 +113,8 @@ pub fn messages_are_given_as_published()
     ensures { GivenAsPublished }
 {}
 
-/// In every run the events keep the promises of `KeepsEvents` at once: those above, except of acks, nacks and contents that are sent,
-/// and besides them the numbers of publishes, the marks of messages, the channels of other connections, and the balance of every queue.
+/// In every run the events keep all promises of `KeepsEvents`: those above, except the ones about acks, nacks and contents that are sent,
+/// and also those about publish numbers, redelivered marks, the channels of other connections, and the balance of every queue.
 pub fn runs_keep_events()
     ensures { RunsKeepEvents }
 {}
@@ -139,7 +139,7 @@ pub fn going_on_stays()
     ensures { GoingOnStays }
 {}
 
-/// A stream that awaits the first eight bytes yields them before all else, and then, as one that awaits none, commands of frames alone.
+/// A stream that awaits the first eight bytes yields them before all else. After them, and if it doesn't await them, all its commands are made of frames.
 pub fn first_bytes_come_first()
     ensures { FirstBytesComeFirst }
 {}
@@ -150,9 +150,9 @@ pub fn openings_read_by_phase()
     ensures { OpeningsReadByPhase }
 {}
 
-/// Whatever arrives, a world stays consistent. The broker has exactly the connections that run, has those as
-/// paused whose output has reached the bound, and has the channel-max that was agreed on for each. No message in
-/// a queue has a greater number than that of publishes counted; each can be given out, and may be in that queue.
+/// Whatever arrives, a world stays consistent. The broker has exactly the connections that run. Exactly those are paused whose
+/// output has reached the bound, and each has the channel-max that was agreed on. No message in a queue has a number
+/// above that of the publishes counted; each can be given out, and may be in that queue.
 pub fn worlds_stay_consistent()
     ensures worlds { WorldsStayConsistent }
     ensures plays { PlaysStayConsistent }
@@ -182,24 +182,24 @@ pub fn messages_stay_traced()
     ensures { MessagesStayTraced }
 {}
 
-/// Whatever happens, each message is in a queue of the topology. No guarantee in force forbids it a queue to which it
-/// may come from there by deaths, nor, unless it was in a queue when the last reload was done, the queue where it is.
+/// Whatever happens, each message is in a queue of the topology, and dead letters can bring it from there to no queue that a guarantee
+/// in force forbids it. Its own queue isn't forbidden either, unless it was in a queue when the last reload was done.
 pub fn messages_stay_kept()
     ensures { MessagesStayKept }
 {}
 
-/// The same is true after a reload without an obstacle, under what it put in force.
+/// After a reload without an obstacle, what [`messages_stay_kept`] says is still true, under the configuration that it put in force.
 pub fn reloads_keep()
     ensures { ReloadsKeep }
 {}
 
-/// Whatever is reloaded between them, events keep the promises, each by what was in force at it. No
-/// message enters a queue that this forbids it, also if the message came under what was in force before.
+/// Events keep the promises, each under the configuration in force at it, whatever is reloaded between them. No message
+/// enters a queue that the configuration in force forbids it, even if the message was published under an earlier one.
 pub fn histories_keep()
     ensures { HistoriesKeep }
 {}
 
-/// No message that is traced is in a queue that a guarantee forbids it, nor may it come to one by deaths.
+/// No message that is traced is in a queue where a guarantee forbids it, nor can dead letters bring it to one.
 pub fn traced_messages_are_safe()
     ensures { TracedAreSafe }
 {}
@@ -209,7 +209,7 @@ pub fn events_mark_no_message()
     ensures { NoEventMarks }
 {}
 
-/// If no message is marked so, none is in a queue that a guarantee forbids it, nor may it come to one by deaths.
+/// If no message in a queue was there when a reload was done, none is in a queue that a guarantee forbids it, nor can dead letters bring it to one.
 pub fn kept_messages_are_safe()
     ensures { KeptAreSafe }
 {}
@@ -219,12 +219,12 @@ pub fn sends_can_be_put_out()
     ensures { SendsAreOwn }
 {}
 
-/// Whatever happens, the consumers of each channel take from queues that are there, under tags and numbers of their own.
+/// Whatever happens, the consumers of each channel take from queues that exist, and no two have the same tag or number.
 pub fn consumers_stay_named()
     ensures { ConsumersStayNamed }
 {}
 
-/// The same is true of every world, whatever is done in it and whatever arrives.
+/// What [`consumers_stay_named`] says is true of every world, whatever is done in it and whatever arrives.
 pub fn worlds_stay_named()
     ensures worlds { WorldsStayNamed }
     ensures plays { PlaysStayNamed }
@@ -246,20 +246,20 @@ pub fn deliveries_are_addressed()
 {}
 
 /// In every run messages are first given out of a queue, to gets and to consumers, in the order in which they
-/// entered it, and each only when none ahead of it is ready. A message comes to be held in no other way.
+/// entered it, and each only when none ahead of it is ready. A message comes to be held only by being given out.
 pub fn messages_are_given_in_order()
     ensures in_order { GivenInOrder }
     ensures ahead { GivenAfterThoseAhead }
     ensures held { HeldAreGiven }
 {}
 
-/// What enters a queue is at its end, in the order of the notes, and not marked as redelivered. Only what was given out of its queue comes to be marked so.
+/// What enters a queue is at its end, in the order of the notes, and not marked as redelivered. Only a message given out of its queue gets that mark.
 pub fn marks_tell_of_deliveries()
     ensures fresh { EnteringIsFresh }
     ensures marked { MarksAreGiven }
 {}
 
-/// A message enters a queue, ready, as often as the queue is among those that it goes to, and not at all if the queue is full.
+/// A message enters a queue, ready, once for each time that the queue is among its targets, and not at all if the queue is full.
 pub fn messages_come_as_routed()
     ensures { MessagesCome }
 {}
@@ -269,7 +269,7 @@ pub fn bodies_are_cut()
     ensures { BodiesAreCut }
 {}
 
-/// The first connection.close or close-ok that was sent decides the phase of its connection; without one it runs.
+/// The first connection.close or close-ok that was sent decides the phase of its connection; without one the connection runs.
 pub fn first_close_tells()
     ensures { FirstTells }
 {}
@@ -285,7 +285,7 @@ pub fn unkept_contents_are_unseen()
     ensures { UnkeptIsUnseen }
 {}
 
-/// A turn keeps the promises of its own events.
+/// A turn, which performs a connection's next command or its fault, keeps the promises of its own events.
 pub fn turns_keep()
     ensures { TurnsKeep }
 {}
@@ -295,7 +295,7 @@ pub fn turns_confirm()
     ensures { TurnsConfirm }
 {}
 
-/// A pump keeps the promises of its own events.
+/// A pump, which makes one delivery if any can be made, keeps the promises of its own events.
 pub fn pumps_keep()
     ensures { PumpsKeep }
 {}

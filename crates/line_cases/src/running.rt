@@ -38,7 +38,7 @@ fn is_wanted(
     Ok(false)
 }
 
-/// Returns whether a line with these parts has the expected answer, and prints the line if it hasn't.
+/// Returns whether a line with the parts `parts` has the expected answer, and prints the line if it hasn't.
 fn is_answered(rt: &HostRuntime, file: &str, line: &str, parts: LineParts<'_>) -> io::Result<bool> {
     let mut answer = LineAnswer::new(rt.alloc());
     put_answer(&mut answer, rt, parts.kind, parts.asked);

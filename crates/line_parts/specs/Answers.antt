@@ -14,15 +14,15 @@ abbrev pub first_unanswered : Option Unanswered → Unanswered → Unanswered
 first_unanswered None why = why
 first_unanswered (Some first) why = first
 
--- there is no answer, for this reason unless there is one already
+-- there is no answer: for the reason that was there before, if any, otherwise for the reason `why`
 abbrev pub failed : Unanswered → Answering → Answering
 failed why a = record a { lack = Some (first_unanswered a.lack why) }
 
--- without a reason the piece was appended, or an allocation failed and is the reason; with one nothing changed
+-- if there was no reason, the piece was appended, or an allocation failed and is the reason now; otherwise nothing changed
 abbrev pub PutsAt : Option Unanswered → Text → Answering → Answering → Type 0
 PutsAt (Some why) piece old new = new ≡ old
 PutsAt None piece old new = (new ≡ record old { text = old.text ++ piece }) ⊎ (new ≡ record old { lack = Some Memory })
 
--- the piece was appended, unless there was a reason before, or an allocation failed
+-- the piece was appended, unless there was already a reason why there is no answer, or an allocation failed
 abbrev pub PutsPiece : Text → Answering → Answering → Type 0
 PutsPiece piece old new = PutsAt old.lack piece old new

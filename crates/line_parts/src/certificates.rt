@@ -21,7 +21,7 @@ const OF_ONE: [&str; 4] = ["check", "search", "certificate", "disprove"];
 /// The kinds of lines about certificates files.
 const OF_FILES: [&str; 3] = ["certificates", "certificates-hex", "rewritten"];
 
-/// Answers a line about certificates. Returns whether `kind` is one of these.
+/// Answers a line about certificates. Returns `false` if `kind` is no kind of such a line.
 pub fn answer(out: &mut LineAnswer, rt: &HostRuntime, kind: &str, asked: &str) -> bool {
     if OF_ONE.contains(&kind) {
         verdicts::answer(out, rt, kind, asked);

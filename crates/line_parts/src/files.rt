@@ -92,7 +92,7 @@ fn edited_once(out: &mut LineAnswer, text: &str, edit: &str) -> String {
     file.into_part_of(out)
 }
 
-/// Returns `text` with these edits, one after another.
+/// Returns `text` with each of `edits` made, one after another.
 fn edited(out: &mut LineAnswer, text: String, edits: &str) -> String {
     let mut text = text;
     for edit in edits.split(" | ") {

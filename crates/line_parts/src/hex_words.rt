@@ -12,7 +12,7 @@ fn put_times(out: &mut LineAnswer, bytes: &mut Vec<u8>, part: &[u8], count: u32)
     }
 }
 
-/// Appends the bytes of one word, as often as it says.
+/// Appends the bytes of one word, as often as the count after its `*` says, or once if it has none.
 fn put_word(out: &mut LineAnswer, bytes: &mut Vec<u8>, word: &str) {
     let (digits, count) = word.split_once('*').unwrap_or((word, "1"));
     let count = number_of(out, count);

@@ -35,7 +35,7 @@ const OF_DEFINITIONS: [&str; 9] = [
     "dead-route",
 ];
 
-/// Answers a line about routing. Returns whether `kind` is one of these.
+/// Answers a line about routing. Returns `false` if `kind` is no kind of such a line.
 pub fn answer(out: &mut LineAnswer, rt: &HostRuntime, kind: &str, asked: &str) -> bool {
     if OF_PATTERNS.contains(&kind) {
         keys::answer(out, kind, asked);

@@ -11,7 +11,7 @@ mod tags;
 
 use crate::LineAnswer;
 
-/// Answers a line about queues. Returns whether `kind` is one of these.
+/// Answers a line about queues. Returns `false` if `kind` is no kind of such a line.
 pub fn answer(out: &mut LineAnswer, kind: &str, asked: &str) -> bool {
     if kind == "store" {
         runs::answer(out, asked);

@@ -59,7 +59,7 @@ impl Places for Flat {
     }
 }
 
-/// A set whose words have a set `M` of the non-zero ones above them. Its next member is found without passing words that are zero.
+/// A set with a second set `M` of the indices of its non-zero words. A search for the next member skips words that are zero.
 #[derive(Drop)]
 pub struct Over<M: Places> {
     words: Vec<u64>,

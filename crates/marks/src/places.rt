@@ -1,4 +1,4 @@
-//! What each set of indices does.
+//! The trait of the sets of indices.
 
 ghost use Rattle.std.specs.Prelude.{◌≡◌, ◌<◌, ◌≤◌, ℕ, OnOk, OnErr, IfSome, IfNone};
 ghost use Rattle.marks.specs.Places.{Differs, IsNextMark};

@@ -18,7 +18,7 @@ struct Standing {
 }
 
 impl Outputs {
-    /// Returns a copy of no outputs. Never allocates.
+    /// Returns a copy of the outputs of no connections. Never allocates.
     pub fn new(alloc: Global) -> Outputs {
         Outputs {
             bytes: Vec::new(alloc),
@@ -41,7 +41,7 @@ impl Outputs {
         Ok(())
     }
 
-    /// Copies them as [`Outputs::read`] does, with one retry.
+    /// Copies the outputs of the connections 1 to `opened` ([`Outputs::read`]). Retries once if an allocation fails.
     pub fn look(&mut self, engine: &Engine, opened: u64) -> Result<(), AllocError> {
         match self.read(engine, opened) {
             Ok(()) => Ok(()),

@@ -44,7 +44,7 @@ fn notes_of(turn: Turn) -> Option<Notes> {
     }
 }
 
-/// Returns the files of these names.
+/// Returns those of `files` that `names` name.
 fn setting_of<'a>(names: &ReloadFiles, files: &[Section<'a>]) -> io::Result<Setting<'a>> {
     Ok(Setting {
         definitions: text_of(files, names.definitions())?,
@@ -164,7 +164,7 @@ impl Replay {
         }
     }
 
-    /// Loads what these files state, and notes whether it is in force.
+    /// Loads what the files of `setting` state, and notes whether it is in force.
     fn reload(
         &mut self,
         alloc: Global,

@@ -23,10 +23,10 @@ call_of (logged.Welcomed s) = Welcomed s
 call_of (logged.Parted s) = Parted s
 call_of logged.Rested = Rested
 
--- what a wire with these calls knows, if `come` sockets were accepted, named by their indices
+-- what a wire knows that logged `calls` and has accepted `come` sockets, which are named by their indices
 abbrev pub told_with : Option (List Call) → ℕ → Told
 told_with calls come = record { calls = calls; failures = 0; is_given = λ s. nat_lt s come; totals = λ s. None }
 
--- all calls, in order, if the log is whole
+-- all calls, in order; `None` if the log isn't whole
 abbrev pub told_by : Log → Option (List Call)
 told_by l = if l.is_whole then Some (map call_of l.calls.items) else None

@@ -47,14 +47,14 @@ impl<W: Wire> Failing<W> {
         self.has_failed
     }
 
-    /// Returns the socket whose read or write has failed.
+    /// Returns the socket whose read or write has failed, or `None` if no such call has failed.
     pub fn victim(&self) -> Option<u64>
         ensures { result ≡ self.now.victim }
     {
         self.victim
     }
 
-    /// Returns whether this call fails, and counts it.
+    /// Counts a call of kind `asked`, and returns whether it is the one that fails.
     fn is_due(&mut self, asked: Asked, socket: Option<u64>) -> bool
         ensures wire { self.new.wire ≡ self.old.wire }
         ensures due { result ≡ true → self.old.has_failed ≡ false }

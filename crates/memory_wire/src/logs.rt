@@ -16,7 +16,7 @@ pub enum Logged {
     Accepted(u64),
     NotAccepted,
     AcceptFailed,
-    /// The socket, the length that was offered, and the bytes that were read.
+    /// The socket, the length of the buffer, and the bytes that were read.
     Got(u64, usize, Vec<u8>),
     NothingGot(u64, usize),
     Ended(u64, usize),
@@ -49,7 +49,7 @@ pub(crate) fn logged_accept(answer: Accept) -> Logged
     }
 }
 
-/// Returns the log entry of a read; what it got is at the front of `buffer`. Fails only if an allocation fails.
+/// Returns the log entry of a read; the bytes that it got are at the front of `buffer`. Fails only if an allocation fails.
 pub(crate) fn logged_read(
     alloc: Global,
     socket: u64,

@@ -18,7 +18,7 @@ use runs::Machine;
 use serving::{Accept, Read, Server, Wire, Write, ghost_new_is_served, serve};
 use std::alloc::Global;
 
-/// Clients, each of which comes at one accept as the socket with its index, and a log of all calls.
+/// Clients, and a log of all calls. Each accept connects the next client, if one is left, and names its socket by the client's index.
 #[derive(Drop)]
 pub struct MemoryWire {
     pub alloc: Global,
@@ -28,7 +28,7 @@ pub struct MemoryWire {
 }
 
 impl MemoryWire {
-    /// Makes a wire with these clients, none of which has come.
+    /// Makes a wire with `clients`, none of which has connected yet, and an empty log.
     pub fn new(alloc: Global, clients: Vec<Client>) -> MemoryWire
         ensures { told_by result.log ≡ Some [] }
     {
@@ -130,8 +130,8 @@ impl Wire for MemoryWire {
 
 /// Does `turns` rounds over a wire in memory, and returns whether its log is whole.
 ///
-/// If it is, it has what each socket gave and took: that is what arrived for its connection, and a prefix of what was put out
-/// for it.
+/// If it is, and the server was new and the log empty before, the bytes that each socket gave are those that arrived for its
+/// connection, and the bytes that it took are a prefix of the connection's output.
 pub fn serve_in_memory<M: Machine>(
     alloc: Global,
     server: &mut Server<M>,

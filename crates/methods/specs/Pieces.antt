@@ -22,7 +22,7 @@ kind kinds.TwoBits = arguments.some_bits 2
 kind kinds.FourBits = arguments.some_bits 4
 kind kinds.FiveBits = arguments.some_bits 5
 
--- the argument that a piece is, if it is one
+-- the argument that the piece holds, or `None` for `Nothing`
 abbrev pub piece_seen : Piece → Option Argument
 piece_seen pieces.Nothing = None
 piece_seen (pieces.Octet n) = Some (Octet n)
@@ -47,7 +47,7 @@ abbrev pub given : Pieces → List Argument
 given p = onto_arguments (piece_seen p.first) (onto_arguments (piece_seen p.second)
     (onto_arguments (piece_seen p.third) (onto_arguments (piece_seen p.fourth) (onto_arguments (piece_seen p.fifth) []))))
 
--- the kind of the argument that a piece is, if it is one
+-- the kind of the argument that the piece holds, or `None` for `Nothing`
 abbrev pub kind_in : Piece → Option arguments.Kind
 kind_in pieces.Nothing = None
 kind_in (pieces.Octet n) = Some arguments.an_octet

@@ -25,7 +25,7 @@ abbrev pub TellsMethod : List ℕ → Result Method BadMethod → Type 0
 TellsMethod payload (Ok m) = SaysMethod payload (Ok m)
 TellsMethod payload (Err e) = MethodIsRefused payload e
 
--- the result is this method, or an allocation failed
+-- the result is the method `m`, or an allocation failed
 abbrev pub IsMethodOr : Method → Result Method BadMethod → Type 0
 IsMethodOr m (Ok n) = n ≡ m
 IsMethodOr m (Err Memory) = ⊤
@@ -43,15 +43,15 @@ pub record BeginsMethod (payload : List ℕ) (class method : ℕ) (rest : List �
   pub method_is : method_at payload ≡ method
   pub parts : payload ≡ to_be_bytes w16 class ++ to_be_bytes w16 method ++ rest
 
--- each table among the arguments is the pairs of a table
+-- the bytes of each table among the arguments are a table's pairs
 abbrev pub AreWhole : List Argument → Type 0
 AreWhole given = AllByRecursion IsArgumentWhole given
 
--- no arguments were read, or a table among them isn't one
+-- no arguments were read, or the bytes of a table among them are not a table's pairs
 abbrev pub LacksArguments : Option (List Argument) → Type 0
 LacksArguments read = (given : List Argument) → read ≡ Some given → AreWhole given → ⊥
 
--- the error is a syntax error and no arguments were read or a table among them isn't one, or an allocation failed
+-- the error is right: a syntax error only if no arguments were read or a table among them is not one; an allocation may always fail
 abbrev pub WantsArguments : Option (List Argument) → BadMethod → Type 0
 WantsArguments read FrameError = ⊥
 WantsArguments read SyntaxError = LacksArguments read
@@ -59,7 +59,7 @@ WantsArguments read CommandInvalid = ⊥
 WantsArguments read NotImplemented = ⊥
 WantsArguments read Memory = ⊤
 
--- the error is a syntax error and the pairs are no table, or an allocation failed
+-- the error is right: it is an allocation failure, or it is a syntax error and `pairs` are not a table's pairs
 abbrev pub NoTable : List ℕ → BadMethod → Type 0
 NoTable pairs FrameError = ⊥
 NoTable pairs SyntaxError = IsTable pairs → ⊥
@@ -67,7 +67,7 @@ NoTable pairs CommandInvalid = ⊥
 NoTable pairs NotImplemented = ⊥
 NoTable pairs Memory = ⊤
 
--- the result is these pairs, which are a table, or a correct error
+-- the result is the table of these pairs, or a correct error
 abbrev pub MakesTable : List ℕ → Result (List ℕ) BadMethod → Type 0
 MakesTable pairs (Ok t) = (t ≡ pairs) × IsTable pairs
 MakesTable pairs (Err e) = NoTable pairs e
@@ -77,18 +77,18 @@ abbrev pub IsTableOr : Option Argument → Result (List ℕ) BadMethod → Type 
 IsTableOr argument (Ok t) = (argument ≡ Some (Field_table t)) × IsTable t
 IsTableOr argument (Err e) = (pairs : List ℕ) × (argument ≡ Some (Field_table pairs)) × NoTable pairs e
 
--- the result has exactly the arguments that were read and its tables are tables, or the error is correct
+-- the result has exactly the arguments that were read, and each table among them is well-formed, or the error is correct
 abbrev pub GivesArguments : {X : Type 0} → (X → List Argument) → Result X BadMethod → Option (List Argument) → Type 0
 GivesArguments view (Ok x) read = (read ≡ Some (view x)) × AreWhole (view x)
 GivesArguments view (Err e) read = WantsArguments read e
 
--- `x` is a known method with these ids; its arguments are exactly what was read, unless they are not read
+-- `x` is a known method with these ids; its arguments are exactly what the bytes say, if the arguments of such a method are read
 pub record IsRead (c m : ℕ) (bytes : List ℕ) (x : Method) : Type 0 where
   pub known : is_known c m ≡ true
   pub ids_are : ids_of x ≡ ids c m
   pub given : is_unread c m ≡ false → (arguments_at (kinds_of c m) bytes ≡ Some (arguments x)) × AreWhole (arguments x)
 
--- the method is known and its arguments are read, but `bytes` are not its arguments
+-- the method is known and its arguments are not left unread, but `bytes` are not arguments of such a method
 pub record IsWithout (c m : ℕ) (bytes : List ℕ) : Type 0 where
   pub known : is_known c m ≡ true
   pub read : is_unread c m ≡ false

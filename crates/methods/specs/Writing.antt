@@ -10,7 +10,7 @@ abbrev pub MethodRefused : Method → UnwrittenMethod → Type 0
 MethodRefused m SyntaxError = IsMethod m → ⊥
 MethodRefused m Memory = ⊤
 
--- the result is the method's encoded length, or nothing if it can't be encoded
+-- the result is the method's encoded length, or `None` if the method can't be encoded
 abbrev pub CountsMethod : Method → Option ℕ → Type 0
 CountsMethod m (Some n) = IsMethod m × (n ≡ length (method_bytes m))
 CountsMethod m None = IsMethod m → ⊥

@@ -389,7 +389,7 @@ pub(crate) fn reject_in(bytes: &[u8]) -> Result<Reject, BadMethod>
     })
 }
 
-/// Reads a delivery tag and a bit that are all of `bytes`. Acks and rejects come once a message, so this doesn't go through a list of kinds.
+/// Reads a delivery tag and a bit that are all of `bytes`. Acks and rejects can come as often as messages, so this doesn't go through a list of kinds.
 fn tag_and_bit_in(bytes: &[u8]) -> Option<(u64, bool)>
     ensures { option_map (λ x. Long_long x.0 ∷ Bits (x.1 ∷ []) ∷ []) result ≡ arguments_at (tag_kinds 1) bytes.now }
 {

@@ -122,7 +122,7 @@ impl<'a> Piece<'a> {
         }
     }
 
-    /// Returns the bytes of a table's pairs. They may be no pairs: see [`field_table::is_table`].
+    /// Returns the bytes of a table's pairs, which are not checked: see [`field_table::is_table`].
     pub fn pairs(&self) -> &'a [u8]
         requires { IsOfKind a_field_table self.now }
         ensures { piece_seen self.now ≡ Some (said.Field_table result.now) }

@@ -43,7 +43,8 @@ pub fn pieces_at<'a>(kinds: &[Kind], bytes: &'a [u8]) -> Option<Pieces<'a>>
     })
 }
 
-/// Splits the first argument off: returns it, the other kinds, and the bytes after it.
+/// Splits an argument of the first of `kinds` off the front of `bytes`. Returns it, the other kinds and the rest, or `None` if it isn't
+/// there. Without a kind it returns [`Piece::Nothing`] and all of `bytes`.
 fn take<'k, 'a>(kinds: &'k [Kind], bytes: &'a [u8]) -> Option<(Piece<'a>, &'k [Kind], &'a [u8])>
     ensures { TakesArgument kinds.now bytes.now result }
 {
@@ -56,7 +57,7 @@ fn take<'k, 'a>(kinds: &'k [Kind], bytes: &'a [u8]) -> Option<(Piece<'a>, &'k [K
     }
 }
 
-/// Splits an argument of `kind` off the front of `bytes`, and returns it with the rest.
+/// Splits an argument of `kind` off the front of `bytes`, and returns it with the rest, or `None` if it isn't there.
 fn piece_at(kind: Kind, bytes: &[u8]) -> Option<(Piece<'_>, &[u8])>
     ensures read { option_map (λ x. (piece_seen x.0, x.1.now)) result ≡ found (argument_at (as_kind kind) bytes.now) }
     ensures kind { IfSome result (λ x. kind_in x.0 ≡ Some (as_kind kind)) }

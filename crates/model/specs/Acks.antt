@@ -61,7 +61,7 @@ ack_in f =
 abbrev pub acks_in : List Frame → List Ack
 acks_in fs = filter_map ack_in fs
 
--- A client reads the output as these frames, of at most 131,072 bytes each, or as no frames if it is the eight bytes of the protocol header alone.
+-- A client reads `output` as `frames`, of at most 131,072 bytes each. If `output` is the protocol header alone, eight bytes, it has no frame.
 abbrev pub IsReading : List ℕ → List Frame → Type 0
 IsReading output frames = AreFrames 131072 output frames ⊎ ((output ≡ eight_bytes) × (frames ≡ []))
 
@@ -82,7 +82,7 @@ abbrev pub is_ack_of : ℕ → Note → Bool
 is_ack_of n (Confirmed m answer.Ack) = m == n
 is_ack_of n note = false
 
--- The publish that the note tells of, if it is of connection `c`, has a confirm number, and is confirmed by ack in `notes`.
+-- The publish that the note records, if it came on connection `c`, has a confirm number, and is confirmed by ack in `notes`.
 abbrev pub acked_as : List Guarantee → ℕ → List Note → Note → Option Acked
 acked_as gs c notes (Published n d h x key (Some m)) =
     if d == c && list_any (is_ack_of n) notes then Some (record { number = n; channel = h; exchange = x; key = key; confirm = m; guarantees = gs }) else None
@@ -96,7 +96,7 @@ acked_at c h = filter_map (acked_as h.config.guarantees c h.notes) h.notes
 abbrev pub acked : ℕ → List Happening → List Acked
 acked c hs = flat_map (acked_at c) hs
 
--- The ack of this publish alone.
+-- The ack that confirms the publish `p` alone.
 abbrev pub ack_for : Acked → Ack
 ack_for p = record { channel = p.channel; number = p.confirm; multiple = false }
 
@@ -111,7 +111,7 @@ abbrev pub is_publish_into : ℕ → Text → Note → Bool
 is_publish_into n q (Entered m r way.Publish) = (m == n) && bytes_eq r q
 is_publish_into n q note = false
 
--- By these notes, the acked publish `p` entered every queue that a `Reaches` guarantee in force at it promises for its exchange and key, exactly once.
+-- By `notes`, the acked publish `p` entered every queue that a `Reaches` guarantee of `p.guarantees` promises for its exchange and key, exactly once.
 abbrev pub EnteredOnce : List Note → Acked → Type 0
 EnteredOnce notes p = (g : Guarantee) → Contains p.guarantees g → g.mode ≡ Reaches → Covers g p.exchange p.key
     → count_by (is_publish_into p.number g.queue) notes ≡ 1

@@ -12,7 +12,7 @@ use Rattle.model.specs.declared.messages.Entry.{Entry}
 use Rattle.model.specs.declared.messages.Holder.{Holder}
 use Rattle.model.specs.declared.messages.Mark.TheVariants.{Held}
 
--- A delivery from the queue `q` is unacknowledged on the channel of `holder`, under its tag and with its taker.
+-- The channel of `holder` has an unacknowledged delivery from the queue `q`, with the tag and the taker of `holder`.
 pub record IsOutstanding (b : Broker) (q : Text) (holder : Holder) : Type 0 where
   pub channel : Channel
   pub there : b.channel holder.connection holder.channel ≡ Some channel
@@ -28,13 +28,13 @@ pub record IsHeld (b : Broker) (c h : ℕ) (o : Outstanding) : Type 0 where
   pub there : IsIn entry (b.queue o.queue)
   pub mark : entry.mark ≡ Held (holder_of c h o)
 
--- What the broker keeps in every state.
+-- The two accounts agree: each held message has its unacknowledged delivery, and each unacknowledged delivery its held message.
 pub record IsAgreed (b : Broker) : Type 0 where
   -- Each message that is held in a queue is unacknowledged on the channel that holds it.
   pub held : (q : Text) (e : Entry) (holder : Holder) → IsIn e (b.queue q) → e.mark ≡ Held holder → IsOutstanding b q holder
   -- The message of each unacknowledged delivery of a channel is held in its queue by that channel.
   pub given : (c h : ℕ) (ch : Channel) (o : Outstanding) → b.channel c h ≡ Some ch → IsIn o ch.outstanding → IsHeld b c h o
-  -- At most one message of a queue is held under one tag of a channel, so both accounts speak of each message once.
+  -- At most one message of a queue is held under one tag of a channel.
   pub apart : (q : Text) (holder : Holder) → count_by (is_held_as holder) (b.queue q) ≤ 1
   -- On each channel the tags of unacknowledged deliveries rise, and each is less than the next tag.
   pub rising : (c h : ℕ) (ch : Channel) → b.channel c h ≡ Some ch → Rises tag_of ch.outstanding

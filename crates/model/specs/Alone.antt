@@ -7,7 +7,7 @@ use Rattle.model.specs.Run.{Happening}
 use Rattle.model.specs.declared.events.Event.{Event}
 use Rattle.model.specs.declared.events.Event.TheVariants.{Open, First, Running, Command, TooLarge, Fault, Lose, Pause, Resume, Deliver}
 
--- The connection that the event is of.
+-- The connection to which the event belongs.
 abbrev pub event_connection : Event → ℕ
 event_connection (Open c) = c
 event_connection (First c bytes) = c
@@ -24,7 +24,7 @@ event_connection (Deliver c) = c
 abbrev pub ChangesOwnAlone : Happening → Type 0
 ChangesOwnAlone h = (d : ℕ) → d ≢ event_connection h.event → (k : ℕ) → h.after.broker.channel d k ≡ h.before.broker.channel d k
 
--- The broker has a connection exactly while it runs, and a connection has channels only while the broker has it.
+-- The broker has a connection exactly while the connection runs, and a connection has channels only while the broker has it.
 pub record ArePresent (s : State) : Type 0 where
   pub connections : (c : ℕ) → is_some (s.broker.connection c) ≡ is_running (s.session c).phase
   pub channels : (c k : ℕ) (ch : Channel) → s.broker.channel c k ≡ Some ch → is_some (s.broker.connection c) ≡ true

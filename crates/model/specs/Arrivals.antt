@@ -56,20 +56,20 @@ use Rattle.model.specs.declared.notes.Note.{Note}
 pub record Wire : Type 0 where
   -- A command that was read and is still to be performed.
   pub kept : Option Command
-  -- What is still to be read of its bytes, after that command.
+  -- The rest of its bytes, after that command.
   pub stream : Stream
-  -- The bytes put out and not taken.
+  -- The bytes that were put out and are not taken yet.
   pub output : List ℕ
 
--- All that there is: the configuration in force, the broker's state and the phases, and each connection's bytes.
+-- The whole state of a run: the configuration in force, the broker's state and the phases, and each connection's bytes.
 pub record World : Type 0 where
   pub config : Config
   pub state : State
-  -- The number of connections that were opened, and so the number given last.
+  -- The number of connections opened so far, which is also the number given last.
   pub given : ℕ
   pub wire : ℕ → Wire
 
--- The wire of a connection from which nothing came and to which nothing was put out; also of one that is lost.
+-- An empty wire: nothing was read and nothing put out. A connection that is not opened yet has this wire, and so has a lost one.
 abbrev pub new_wire : Wire
 new_wire = record { kept = None; stream = running_stream; output = [] }
 
@@ -100,7 +100,7 @@ is_paused w c = is_past_bound (w.wire c).output
 abbrev pub is_awake : World → ℕ → Bool
 is_awake w c = not (is_over w c) && not (is_paused w c)
 
--- Whether output of connection `c` is not taken.
+-- Whether connection `c` has output that is not taken yet.
 abbrev pub has_output : World → ℕ → Bool
 has_output w c = nat_lt 0 (length (w.wire c).output)
 
@@ -122,13 +122,13 @@ event_of c (Plain h m) = event.Command c h m None
 event_of c (Full h p content) = event.Command c h (BasicPublish p) (Some content)
 event_of c (TooLarge h) = event.TooLarge c h
 
--- The next event of a connection, from the command that is kept, if one is, or from its stream; and the stream after it.
+-- The next event of connection `c` and the stream after it: the kept command if there is one, otherwise the stream's next command or its fault.
 pub data Reads : ℕ → Option Command → Stream → Event → Stream → Type 0 where
   again : {c : ℕ} {m : Command} {s : Stream} → Reads c (Some m) s (event_of c m) s
   fresh : {c : ℕ} {m : Command} {s next : Stream} → Yields s m next → Reads c None s (event_of c m) next
   fault : {c code : ℕ} {s : Stream} → Ends s (Some code) → Reads c None s (event.Fault c code) s
 
--- The same is still to come: frames that complete no command were put together, or the next command was read and is kept.
+-- Reading ahead changes nothing that is still to come: only frames that complete no command were read, or the next command was read and is kept.
 pub data SameToCome : Option Command → Stream → Option Command → Stream → Type 0 where
   still : {m : Command} {s : Stream} → SameToCome (Some m) s (Some m) s
   waits : {s new : Stream} → GoesOn s new → SameToCome None s None new
@@ -141,7 +141,7 @@ IsSaid e = Unit {0}
 
 -- ---- events
 
--- `h` is the event `e` under the configuration `f`, between the states `old` and `new`, and it is one step.
+-- `h` records the event `e` as one step under the configuration `f`, from the state `old` to the state `new`.
 pub record Happens (f : Config) (old : State) (e : Event) (h : Happening) (new : State) : Type 0 where
   pub under : h.config ≡ f
   pub event : h.event ≡ e
@@ -155,7 +155,7 @@ Pauses f mid c false true hs new = (h : Happening) × (hs ≡ h ∷ []) × Happe
 Pauses f mid c true false hs new = (h : Happening) × (hs ≡ h ∷ []) × Happens f mid (event.Resume c) h new
 Pauses f mid c was is hs new = (hs ≡ []) × (new ≡ mid)
 
--- An event whose sends all go to connection `c` and are put out, followed by the pause that it brings, if any.
+-- The event `e`: all of its sends go to connection `c` and are put out. If that pauses or resumes the connection, a Pause or Resume event follows.
 pub record Puts (old : World) (e : Event) (c : ℕ) (hs : List Happening) (new : World) : Type 0 where
   pub h : Happening
   pub rest : List Happening
@@ -172,11 +172,11 @@ pub record Puts (old : World) (e : Event) (c : ℕ) (hs : List Happening) (new :
   pub others : (d : ℕ) → d ≢ c → new.wire d ≡ old.wire d
   pub rests : (d : ℕ) → d ≢ c → new.state.session d ≡ old.state.session d
 
--- The stream under the session `s`: its frames are as large as this allows, and contents are kept if it runs.
+-- The stream with the limits of the session `s`: frames of at most its `frame_max` bytes, and contents that are kept only if the session is running.
 abbrev pub under_session : Session → Stream → Stream
 under_session s next = keeping (is_running s.phase) (with_max s.frame_max next)
 
--- The wire after a turn: nothing is kept, and the stream is under the session `s`; if that is over, nothing more is read.
+-- The wire after a turn: no command is kept, and the stream has the limits of the session `s`. If the session is over, nothing more is read.
 abbrev pub wire_after : Session → Stream → List ℕ → Wire
 wire_after s next output = if is_ended s.phase then record new_wire { output = output }
     else record { kept = None; stream = under_session s next; output = output }
@@ -222,7 +222,7 @@ pub data Works (c : ℕ) : World → List Happening → World → Type 0 where
   none_more : {w : World} → Works c w [] w
   one_more : {old mid new : World} {first rest hs : List Happening} → Turns old c first mid → Works c mid rest new → hs ≡ first ++ rest → Works c old hs new
 
--- All that the bytes of connection `c` say is performed, up to a pause or its end.
+-- The complete commands of connection `c`, and a fault after them, are performed, until the connection is paused or over.
 pub record WorksOff (old : World) (c : ℕ) (hs : List Happening) (new : World) : Type 0 where
   pub mid : World
   pub works : Works c old hs mid
@@ -235,14 +235,14 @@ pub record WorksOff (old : World) (c : ℕ) (hs : List Happening) (new : World) 
 abbrev pub with_heard : World → ℕ → List ℕ → World
 with_heard w c bytes = record w { wire = with_one w.wire c (record (w.wire c) { stream = heard (w.wire c).stream bytes }) }
 
--- The first `n` bytes of the output of connection `c` are taken, or all if there are fewer, which may resume it.
+-- The first `n` bytes of the output of connection `c` are taken, or all if there are fewer. This may resume the connection.
 pub record Takes_off (old : World) (c n : ℕ) (hs : List Happening) (new : World) : Type 0 where
   pub config : new.config ≡ old.config
   pub given : new.given ≡ old.given
   pub wires : (d : ℕ) → new.wire d ≡ with_one old.wire c (record (old.wire c) { output = drop n (old.wire c).output }) d
   pub pauses : Pauses old.config old.state c (is_paused old c) (is_paused new c) hs new.state
 
--- Whether a connection can be opened: fewer than 1,024 are not gone, and a number is left, as each is given once.
+-- Whether another connection can be opened: fewer than 1,024 are `standing`, and a number that was never given is left.
 abbrev pub can_open : World → Bool
 can_open w = nat_lt (standing w w.given) 1024 && nat_lt w.given 18446744073709551615
 
@@ -266,7 +266,7 @@ pub record Loses (old : World) (c : ℕ) (hs : List Happening) (new : World) : T
   pub given : new.given ≡ old.given
   pub wires : (d : ℕ) → new.wire d ≡ with_one old.wire c new_wire d
 
--- `n` bytes of output are taken, and then what waited is performed.
+-- Up to `n` bytes of the output of connection `c` are taken, and then its waiting commands are performed.
 pub record TakesAndWorks (old : World) (c n : ℕ) (hs : List Happening) (new : World) : Type 0 where
   pub first : List Happening
   pub rest : List Happening
@@ -307,12 +307,12 @@ pub record Reloads (old : World) (offered : Config) (os : List Occurrence) (new 
   pub given : new.given ≡ old.given
   pub wires : (c : ℕ) → new.wire c ≡ old.wire c
 
--- The occurrences are events alone, for which `Holds` is true.
+-- The occurrences are all events, none of them a reload, and `Holds` is true of these events.
 abbrev pub ByEvents : List Occurrence → (List Happening → Type 0) → Type 0
 ByEvents os Holds = (hs : List Happening) × (os ≡ map Of_event hs) × Holds hs
 
--- What one arrival brings about. One for a connection that is gone does nothing, nor do bytes for one
--- that is over, nor does an opening if no connection can be opened. A reload offers a configuration.
+-- What one arrival does. Bytes for a connection that is over do nothing. Neither does taking output of a connection that is gone, or
+-- losing it, or an opening if no connection can be opened. A reload offers a configuration.
 abbrev pub Answers : World → Arrival Config → List Occurrence → World → Type 0
 Answers old arrival.Open os new =
     ByEvents os (λ hs. MatchBool (can_open old) (Opens old (event.Open (old.given + 1)) opened_stream hs new) (Nothing_happens old hs new))
@@ -325,13 +325,13 @@ Answers old arrival.Pump os new = ByEvents os (λ hs. Pumps old hs new)
 Answers old (arrival.Lose c) os new = ByEvents os (λ hs. MatchBool (is_gone old c) (Nothing_happens old hs new) (Loses old c hs new))
 Answers old (arrival.Reload offered) os new = Reloads old offered os new
 
--- What a list of arrivals brings about, one after another.
+-- What a list of arrivals does, one after another.
 abbrev pub Plays : World → List (Arrival Config) → List Occurrence → World → Type 0
 Plays old [] os new = (os ≡ []) × Same old new
 Plays old (a ∷ as') os new = (mid : World) × (first : List Occurrence) × (rest : List Occurrence) × (os ≡ first ++ rest) × Answers old a first mid
     × Plays mid as' rest new
 
--- The arrival, with the setup of a reload replaced by what `f` makes of it.
+-- The arrival; if it is a reload, its setup `s` is replaced by `f s`.
 abbrev pub told : {S T : Type 0} → (S → T) → Arrival S → Arrival T
 told f arrival.Open = arrival.Open
 told f (arrival.Ready k) = arrival.Ready k
@@ -341,7 +341,7 @@ told f arrival.Pump = arrival.Pump
 told f (arrival.Lose c) = arrival.Lose c
 told f (arrival.Reload s) = arrival.Reload (f s)
 
--- ---- what a run is seen by
+-- ---- what a run shows
 
 -- What is seen of one connection: all bytes put out for it, and whether it is over or lost.
 pub record Shown : Type 0 where

@@ -40,7 +40,7 @@ pub record Consumer : Type 0 where
   -- The most unacknowledged messages that it may have; 0 is no limit.
   pub limit : ℕ
 
--- A delivery on a channel that is not settled: its message is unacknowledged.
+-- A delivery that is not settled yet: its message is unacknowledged on the channel.
 pub record Outstanding : Type 0 where
   pub tag : ℕ
   pub queue : Text
@@ -53,7 +53,7 @@ pub record Channel : Type 0 where
   pub next_tag : ℕ
   -- The number of the next consumer. No number is used twice.
   pub next_number : ℕ
-  -- The least number that the server may give the next consumer tag that it makes.
+  -- The least number that the next consumer tag made by the server may have.
   pub next_name : ℕ
   -- A close was sent, and close-ok is awaited.
   pub is_closing : Bool
@@ -95,7 +95,7 @@ new_channel = record {
 abbrev pub is_ready : Entry → Bool
 is_ready e = elim e.mark [ Ready ↦ true | Held h ↦ false ]
 
--- The entries of the queue `q`, if `names` are the names of queues and `lists` their entries in the same order; no entries if `q` is not among them.
+-- The entries of the queue `q`, from the queues' `names` and, in the same order, the `lists` of their entries. No entries if `q` is not in `names`.
 abbrev pub listed : List Text → List (List Entry) → Text → List Entry
 listed [] lists q = []
 listed (name ∷ names) [] q = []
@@ -117,12 +117,12 @@ is_past (Some limit) n = nat_lt limit n
 abbrev pub queue_named : List DeclaredQueue → Text → Option DeclaredQueue
 queue_named qs name = find (λ (q : DeclaredQueue). bytes_eq q.name name) qs
 
--- The most ready messages that the queue may have; `None` if it has no such limit.
+-- The most ready messages that the queue may have; `None` if it has no such limit, or if there is no queue.
 abbrev pub limit_of : Option DeclaredQueue → Option ℕ
 limit_of None = None
 limit_of (Some q) = q.limit
 
--- The most bytes that the bodies of its ready messages may have together; `None` if it has no such limit.
+-- The most bytes that the bodies of the queue's ready messages may have together; `None` if it has no such limit, or if there is no queue.
 abbrev pub byte_limit_of : Option DeclaredQueue → Option ℕ
 byte_limit_of None = None
 byte_limit_of (Some q) = q.byte_limit

@@ -24,8 +24,8 @@ use Rattle.model.specs.Allowed.{IsNoted}
 
 -- ---- causes
 
--- A message of number `n` in the queue `q` is held by an unacknowledged delivery of
--- channel `h` of connection `c` that `tag`, with or without `multiple`, settles.
+-- A message of number `n` in the queue `q` is held by an unacknowledged delivery on channel `h` of
+-- connection `c`, and an acknowledgement with this `tag` and `multiple` settles that delivery.
 pub record WasGiven (b : Broker) (c h tag : ℕ) (multiple : Bool) (n : ℕ) (q : Text) : Type 0 where
   pub channel : Channel
   pub there : b.channel c h ≡ Some channel
@@ -51,23 +51,23 @@ pub record IsFirstIn (b : Broker) (n : ℕ) (q : Text) : Type 0 where
   pub first : first_ready (b.queue q) ≡ Some entry
   pub number : entry.message.number ≡ n
 
--- The method is an acknowledgement, which takes out what it settles (AMQP 0-9-1, basic.ack).
+-- The method is an acknowledgement, which settles a message of number `n` in the queue `q` (AMQP 0-9-1, basic.ack).
 abbrev pub ByAck : Broker → ℕ → ℕ → Method → ℕ → Text → Type 0
 ByAck b c h (BasicAck m) n q = WasGiven b c h m.delivery_tag m.multiple n q
 ByAck b c h m n q = ⊥
 
--- The method is a rejection that does not requeue, which takes out what it settles (AMQP 0-9-1, basic.reject; RabbitMQ, basic.nack).
+-- The method is a rejection without requeue, which settles a message of number `n` in the queue `q` (AMQP 0-9-1, basic.reject; RabbitMQ, basic.nack).
 abbrev pub ByRejection : Broker → ℕ → ℕ → Method → ℕ → Text → Type 0
 ByRejection b c h (BasicReject m) n q = (m.requeue ≡ false) × WasGiven b c h m.delivery_tag false n q
 ByRejection b c h (BasicNack m) n q = (m.requeue ≡ false) × WasGiven b c h m.delivery_tag m.multiple n q
 ByRejection b c h m n q = ⊥
 
--- The method is a get without acknowledgement, which takes out the first ready message of its queue (AMQP 0-9-1, basic.get, no-ack).
+-- The method is a get without acknowledgement from the queue `q`, whose first ready message has number `n` (AMQP 0-9-1, basic.get, no-ack).
 abbrev pub ByGiving : Broker → Method → ℕ → Text → Type 0
 ByGiving b (BasicGet m) n q = (m.no_ack ≡ true) × (m.queue ≡ q) × IsFirstIn b n q
 ByGiving b m n q = ⊥
 
--- The method is a purge, which takes out the ready messages of its queue (AMQP 0-9-1, queue.purge).
+-- The method is a purge of the queue `q`, in which a message of number `n` is ready (AMQP 0-9-1, queue.purge).
 abbrev pub ByPurge : Broker → Method → ℕ → Text → Type 0
 ByPurge b (QueuePurge m) n q = (m.queue ≡ q) × IsReadyIn b n q
 ByPurge b m n q = ⊥
@@ -117,7 +117,7 @@ HaveCauses h = AllByRecursion (HasCause h) h.notes
 abbrev pub IsPublishedAt : Happening → ℕ → Type 0
 IsPublishedAt h n = (x : Text) × (key : Text) × IsNoted h.notes n x key
 
--- A message of number `n` was in a queue before the event, and the event notes that one of this number left this queue by a rejection.
+-- Before the event, a message of number `n` was in a queue. The event notes that a message of that number left that queue by a rejection.
 pub record DiesAt (h : Happening) (n : ℕ) : Type 0 where
   pub queue : Text
   pub entry : Entry

@@ -1,4 +1,4 @@
--- What the bytes of one connection say: frames, and contents put together per channel. Start with `Yields`
+-- The commands in the bytes of one connection: frames, and contents put together per channel. Start with `Yields`
 -- and `Ends`. Source: AMQP 0-9-1, section 4.2.6, "Content Framing", and section 2.3.5, "Frame Details".
 use Rattle.std.specs.Prelude.{
   ◌≡◌,
@@ -43,7 +43,7 @@ use Rattle.model.specs.declared.methods.Method.TheVariants.{BasicPublish}
 
 -- ---- one frame
 
--- What a channel has begun and not completed.
+-- The part of a command that a channel has read while the rest is awaited.
 pub data Pending : Type 0 where
   -- A method is awaited.
   Nothing : Pending
@@ -83,7 +83,7 @@ pub data Taken : Type 0 where
   Makes : (command : Command) → Taken
   Breaks : (code : ℕ) → Taken
 
--- A publish with empty texts, kept for one of which nothing is to be kept.
+-- A publish with empty texts, which is kept in place of a publish whose content is only counted.
 abbrev pub no_publish : Publish
 no_publish = record { reserved = 0; exchange = []; routing_key = []; mandatory = false; immediate = false }
 
@@ -98,15 +98,15 @@ taken_method keeps h (Ok (BasicPublish p)) = Goes_on (Wants_header (kept_publish
 taken_method keeps h (Ok m) = Makes (Plain h m)
 taken_method keeps h (Err code) = Breaks code
 
--- What a body does of which `body` was read: if it has more than the declared `size`
--- the frame is an error, 501, and if it has exactly that the publish is complete.
+-- What happens once `body` is all that was read of a body: if it has more than the declared `size`,
+-- the frame is an error, 501, and if it has exactly that size, the publish is complete.
 abbrev pub taken_body : ℕ → Publish → Properties → ℕ → Text → Taken
 taken_body h p properties size body =
     if nat_lt size (length body) then Breaks 501
     else if length body == size then Makes (Full h p (record { properties = properties; body = body }))
     else Goes_on (Wants_body p properties size body)
 
--- What a body does of which `count` bytes were dropped: the same, except that a complete publish counts as too large, and nothing of it is kept.
+-- The same as `taken_body` for a body that is not kept, of which `count` bytes were dropped: once complete, the publish counts as too large.
 abbrev pub taken_dropped : ℕ → ℕ → ℕ → Taken
 taken_dropped h size count =
     if nat_lt size count then Breaks 501
@@ -167,9 +167,9 @@ TakesOn keeps p f taken =
 
 -- ---- a whole stream
 
--- What is still to be read of one connection's bytes.
+-- The bytes of one connection that are still to be read, and how far its frames and commands were read.
 pub record Stream : Type 0 where
-  -- The first eight bytes are awaited, before which no frame can be.
+  -- Whether the first eight bytes are awaited, which come before all frames.
   pub is_new : Bool
   -- The largest frame, in bytes.
   pub max : ℕ
@@ -211,8 +211,8 @@ pub data Yields : Stream → Command → Stream → Type 0 where
   now : {s next : Stream} {c : Command} → Takes s (Makes c) next → Yields s c next
   later : {s mid next : Stream} {p : Pending} {c : Command} → Takes s (Goes_on p) mid → Yields mid c next → Yields s c next
 
--- After frames that complete no command, the stream has none: fewer than the first
--- eight bytes are there, or no whole frame is, or a fault with this reply code is next.
+-- No further command can be read from the stream. After frames that complete none, it has fewer than the first
+-- eight bytes, or no whole frame (`None`), or a fault with this reply code is next (`Some`).
 pub data Ends : Stream → Option ℕ → Type 0 where
   early : {s : Stream} → s.is_new ≡ true → length s.unread < 8 → Ends s None
   short : {s : Stream} → s.is_new ≡ false → ((f : Frame) (rest : List ℕ) → Begins s.max s.unread f rest → ⊥) → (IsBroken s.max s.unread → ⊥) → Ends s None

@@ -1,4 +1,4 @@
--- What every world keeps that a run reaches from a broker with no connection.
+-- What is true of every world that a run reaches from a broker with no connection.
 use Rattle.std.specs.Prelude.{◌≡◌, ℕ, Some, is_some}
 use Rattle.model.specs.Broker.{Connection}
 use Rattle.model.specs.Phases.{is_running}
@@ -10,11 +10,11 @@ use Rattle.model.specs.Headline.{IsSound}
 
 -- The broker, the phases and the wires of the world agree, and what is in a queue can be sent.
 pub record IsConsistent (w : World) : Type 0 where
-  -- No message in a queue has a greater number than that of publishes counted.
+  -- No message in a queue has a number above that of the publishes counted.
   pub counted : AreCounted w.state.broker
   -- Each message in a queue can be given out.
   pub carried : AreCarried w.state.broker
-  -- Each message may be in its queue, under what is in force.
+  -- Each message may be in its queue, under the configuration in force.
   pub kept : AreKept w.config w.state.broker
   -- The configuration in force is sound.
   pub sound : IsSound w.config

@@ -48,8 +48,8 @@ is_in_use tag consumers = list_any (is_tagged tag) consumers
 abbrev pub server_tag : ℕ → Text
 server_tag n = codes "amq.ctag-" ++ decimal n
 
--- The first number from `n` on whose tag no consumer has. As many numbers are tried
--- as the first argument says; if all of them are in use, the number after them.
+-- The first number from `n` on whose server tag no consumer has. The first argument is how many numbers
+-- are tried; if all of them are in use, this is the number after them.
 unfoldable pub first_free : ℕ → List Consumer → ℕ → ℕ
 first_free zero consumers n = n
 first_free (suc more) consumers n = if is_in_use (server_tag n) consumers then first_free more consumers (n + 1) else n
@@ -98,8 +98,8 @@ without_consumer ch tag = record ch { consumers = filter (λ k. not (is_tagged t
 abbrev pub taker_of : Outstanding → Taker
 taker_of o = o.by
 
--- Whether the consumer `k` may be given one more message on the channel: a delivery tag is
--- left, and it needs no acknowledgement or neither its prefetch nor the channel's is used up.
+-- Whether the consumer `k` may be given one more message on the channel: a delivery tag is left,
+-- and the consumer needs no acknowledgement, or neither its prefetch nor the channel's is used up.
 abbrev pub may_take : Channel → Consumer → Bool
 may_take ch k = has_tag_left ch.next_tag && may_hold taker_of ch.limit k.no_ack k.limit k.number ch.outstanding
 

@@ -18,8 +18,8 @@ use Rattle.model.specs.declared.events.Event.TheVariants.{Command}
 use Rattle.model.specs.Allowed.{IsNoted}
 use Rattle.model.specs.Order.{GivesOut}
 
--- The headers, as published, become the second ones by any number of deaths. Each death adds its fields unless an earlier one did (RabbitMQ, "Dead Letter
--- Exchanges").
+-- Any number of deaths turns the first headers, as they were published, into the second ones. Each death adds its fields unless an earlier
+-- death did (RabbitMQ, "Dead Letter Exchanges").
 pub data AreHeadersAfter : Option Text → Option Text → Type 0 where
   as_published : {headers : Option Text} → AreHeadersAfter headers headers
   after_death : {first before after : Option Text} (queue exchange : Text) → AreHeadersAfter first before → AreMarked queue exchange before after
@@ -57,11 +57,11 @@ content_in (send.Command c h m content) = content
 
 -- The source of a content that is sent at the event `h`.
 pub data HasSource (before : List Happening) (h : Happening) (content : Content) : Type 0 where
-  -- It is that of the message that the event gives out, to the get that asked for it or
-  -- to a consumer of its queue, and this is of a publish at one of the events `before`.
+  -- It is the content of the message that the event gives out, to a get or to a consumer of its queue;
+  -- the message is of a publish at one of the events `before`.
   given_out : (queue : Text) (entry : Entry) → GivesOut h queue entry → content ≡ entry.message.content → IsOfPublish before entry.message
       → HasSource before h content
-  -- It is that of the event's own publish.
+  -- The content is that of the event's own publish, which is sent back.
   sent_back : (c k : ℕ) (publish : Publish) (given : Option Content) → h.event ≡ Command c k (BasicPublish publish) given
       → content ≡ content_or_none given → HasSource before h content
 

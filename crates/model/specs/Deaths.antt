@@ -41,7 +41,7 @@ abbrev pub IsFieldOf : Pairs → Text → Type 0
 IsFieldOf no_pairs name = ⊥
 IsFieldOf (pair other v ps) name = (other ≡ name) ⊎ IsFieldOf ps name
 
--- The headers tell of a first death: they are the pairs of a table with the field of its queue.
+-- The headers tell of a first death: they are the pairs of a table, one of which is the field that names the queue of that death.
 pub record TellsOfDeath (headers : Text) : Type 0 where
   pub pairs : Pairs
   pub fits : HavePairsSpelling pairs
@@ -97,8 +97,8 @@ abbrev pub DiesIn : Topology → (Text → List Entry) → Message → List Note
 DiesIn t queues m notes new None = NothingComes queues notes new
 DiesIn t queues m notes new (Some p) = DiesBy t p queues m notes new p.dead_letter_exchange
 
--- What becomes of a message that is rejected in the queue `name`, if one was found; `queues` are without it. It is
--- noted that it left by a rejection, and then what is noted of its dead letter. Nothing happens if none was found.
+-- What becomes of a message that is rejected in the queue `name`, if one was found; `queues` are without it. The notes say first
+-- that it left by a rejection, and then what became of its dead letter. Nothing happens if none was found.
 abbrev pub MayDie : Topology → Text → (Text → List Entry) → List Note → (Text → List Entry) → Option Entry → Type 0
 MayDie t name queues notes new None = NothingComes queues notes new
 MayDie t name queues notes new (Some e) =

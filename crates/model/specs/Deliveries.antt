@@ -29,7 +29,7 @@ first_ready entries = find is_ready entries
 abbrev pub ready_in : List Entry → ℕ
 ready_in entries = length (filter is_ready entries)
 
--- The count `n` as it is written, at most the greatest number of four bytes (own).
+-- The count `n` as it is sent: at most 4,294,967,295, the greatest number of four bytes (own).
 abbrev pub written_count : ℕ → ℕ
 written_count n = if nat_le n 4294967295 then n else 4294967295
 
@@ -54,7 +54,7 @@ after_delivery b c h ch no_ack queue by = record b {
   channel = with_pair b.channel c h (Some (channel_after no_ack queue by ch));
 }
 
--- The note that a message left its queue as it was given out, if it needs no acknowledgement.
+-- The note that a message left its queue when it was given out; no note if it needs an acknowledgement.
 abbrev pub delivery_notes : Bool → ℕ → Text → List Note
 delivery_notes no_ack number queue = if no_ack then Left number queue Auto ∷ [] else []
 
@@ -72,7 +72,8 @@ given_in c h queues o = find (is_held_as (holder_of c h o)) (queues o.queue)
 abbrev pub without_given : ℕ → ℕ → (Text → List Entry) → Outstanding → Text → List Entry
 without_given c h queues o = with_queue queues o.queue (without_first (is_held_as (holder_of c h o)) (queues o.queue))
 
--- The queues with the entry that is held by the delivery `o` of channel `h` of connection `c` ready again, in its place and marked as redelivered.
+-- The queues after the return of the delivery `o` of channel `h` of connection `c`:
+-- the entry that it holds is ready again, in its place, and marked as redelivered.
 abbrev pub with_returned : ℕ → ℕ → (Text → List Entry) → Outstanding → Text → List Entry
 with_returned c h queues o = with_queue queues o.queue (map (freed (is_under (holder_of c h o))) (queues o.queue))
 

@@ -1,5 +1,5 @@
--- Marks of messages that were given out. What enters a queue is at its end, not marked as redelivered, and only what was
--- given out comes to be marked (AMQP 0-9-1, section 4.7, "Content Ordering Guarantee", and basic.deliver, redelivered).
+-- The redelivered mark: a message enters a queue at its end and without the mark, and gets it only after it was given
+-- out (AMQP 0-9-1, section 4.7, "Content Ordering Guarantee", and basic.deliver, redelivered).
 use Rattle.std.specs.Prelude.{◌≡◌, ℕ, List, ◌++◌, map, true, false}
 use Rattle.std.specs.List.{AllByRecursion}
 use Rattle.model.specs.Words.{Text}
@@ -28,7 +28,7 @@ pub record WasGivenOut (entries : List Entry) (number : ℕ) : Type 0 where
   pub numbered : number_of entry ≡ number
   pub given : is_fresh entry ≡ false
 
--- For each message that is marked as redelivered after the event, one of its number was in its queue before it, and had been given out.
+-- For each message marked as redelivered after the event, a message of its number was in the same queue before the event, and had been given out.
 abbrev pub MarksWhatWasGiven : Happening → Type 0
 MarksWhatWasGiven h = (q : Text) (e : Entry) → IsIn e (h.after.broker.queue q) → e.message.redelivered ≡ true
     → WasGivenOut (h.before.broker.queue q) (number_of e)

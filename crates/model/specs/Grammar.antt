@@ -95,7 +95,7 @@ pub data Argument : Type 0 where
   Field_table : (pairs : List ℕ) → Argument
   Bits : (bs : List Bool) → Argument
 
--- The byte of some bits: the first bit is the lowest, and unused bits are 0.
+-- The byte that holds these bits: the first bit is the lowest, and unused bits are 0.
 abbrev pub octet : List Bool → ℕ
 octet [] = 0
 octet (b ∷ bs) = cond b 1 0 + 2 * octet bs
@@ -263,7 +263,7 @@ is_known c m =
     else if c == 85 then list_any (λ n. m == n) (10 ∷ 11 ∷ [])
     else false
 
--- Whether a method with these ids is left out by name: the tx class, and basic.recover-async.
+-- Whether a method with these ids is refused as not implemented, 540: one of the tx class, or basic.recover-async.
 abbrev pub is_left_out : ℕ → ℕ → Bool
 is_left_out c m = (c == 90) || ((c == 60) && (m == 100))
 
@@ -280,7 +280,7 @@ pub data Spells (payload : List ℕ) (m : Method) : Type 0 where
   exact : payload ≡ method_bytes m → Spells payload m
   any_rest : (rest : List ℕ) → is_unread (ids_of m).class (ids_of m).method ≡ true → payload ≡ method_bytes m ++ rest → Spells payload m
 
--- The payload of a method frame is this method, or is refused with this reply code:
+-- The payload of a method frame spells the method, or is refused with the reply code:
 -- 501 frame-error, 503 command-invalid, 540 not-implemented, 502 syntax-error.
 pub data SaysMethod (payload : List ℕ) : Result Method ℕ → Type 0 where
   said : {m : Method} → IsMethod m → Spells payload m → SaysMethod payload (Ok m)

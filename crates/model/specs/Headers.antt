@@ -105,7 +105,7 @@ header_bytes size p = to_be_bytes w16 60 ++ to_be_bytes w16 0 ++ to_be_bytes w64
 
 -- ---- what a payload says
 
--- What a content header says.
+-- A content header: the size of the body and the properties.
 pub record Header : Type 0 where
   -- The size of the body, in bytes.
   pub size : ℕ
@@ -132,9 +132,9 @@ pub data SaysSize (payload : List ℕ) : Result ℕ ℕ → Type 0 where
   size : 14 ≤ length payload → class_at payload ≡ 60 → weight_at payload ≡ 0 → SaysSize payload (Ok (size_at payload))
   no_header : IsNoHeader payload → SaysSize payload (Err 501)
 
--- The payload of a header frame is this header, or is refused with this reply code: 501 frame-error; or 502
--- syntax-error if it has the fixed fields of a header and is not the spelling of any. That is so if flag bits
--- 1 or 0 are set, or if the properties end early, hold bytes that are no table, or leave bytes over (own).
+-- The payload of a header frame spells the header, or is refused: with 501 frame-error if its fixed fields are not those of a header;
+-- with 502 syntax-error if they are, but the payload spells no header: flag bit 1 or 0 is set, or the properties end early, hold bytes
+-- that are no table, or leave bytes over (own).
 pub data SaysHeader (payload : List ℕ) : Result Header ℕ → Type 0 where
   said : {h : Header} → h.size < 2 ^ 64 → AreProperties h.properties → payload ≡ header_bytes h.size h.properties → SaysHeader payload (Ok h)
   no_header : IsNoHeader payload → SaysHeader payload (Err 501)

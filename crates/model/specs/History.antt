@@ -20,7 +20,7 @@ pub record Reload : Type 0 where
   pub in_force : Config
 
 -- The reload was done, because there was no obstacle: what was offered is in force,
--- each entry is marked as one that was in a queue then, and all else is as it was.
+-- each entry is marked as one that was in a queue then, and all else is unchanged.
 pub record IsDone (r : Reload) : Type 0 where
   pub nothing : NothingStands r.config.topology r.offered r.before.broker
   pub noted : r.notes ≡ Reloaded ∷ []
@@ -89,7 +89,7 @@ abbrev pub notes_over : List Occurrence → List Note
 notes_over [] = []
 notes_over (o ∷ os) = noted_at o ++ notes_over os
 
--- The broker is as it was, or the only change is that each entry is marked as one that was in a queue when a reload was done.
+-- The broker is unchanged, or changed only in that each entry is marked as one that was in a queue when a reload was done.
 abbrev pub LeavesQueues : Broker → Broker → Type 0
 LeavesQueues old new = Is (with_all_stood old) new ⊎ (new ≡ old)
 

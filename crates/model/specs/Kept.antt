@@ -6,7 +6,7 @@ use Rattle.model.specs.declared.contents.Fields.{Fields}
 use Rattle.model.specs.declared.contents.Kept.{Kept}
 use Rattle.model.specs.declared.contents.Kept.TheVariants.{Empty, Small, Larger, Spelled, Apart}
 
--- The fourteen properties that are kept.
+-- The fourteen properties, from whichever form they are kept in.
 abbrev pub view_of : Kept → Fields
 view_of Empty = no_properties
 view_of (Small len block) = spelled_by (take len block.value)
@@ -14,7 +14,7 @@ view_of (Larger len block) = spelled_by (take len block.value)
 view_of (Spelled block) = spelled_by block.value.items
 view_of (Apart block) = block.value
 
--- Properties that are kept as bytes are kept as a spelling.
+-- If the properties are kept as bytes, the bytes are flags and values that spell properties.
 abbrev pub IsKeptText : Kept → Type 0
 IsKeptText Empty = Unit {0}
 IsKeptText (Small len block) = IsSpelling (take len block.value)

@@ -23,8 +23,8 @@ pub record DiesInto (t : Topology) (q key r : Text) : Type 0 where
   pub dies : Dies t q exchange last
   pub routes : Routes t exchange (key_after last.dead_letter_key key) r
 
--- A rejection, with the entries that the queues had before the event: the message was in its queue, and its dead
--- letter goes on to `targets`, in the order of the file. There are none if its queue has no dead-letter exchange.
+-- A rejection, with the entries that the queues had before the event: the message was in its queue, and its dead letter
+-- goes on to `targets`, in the order of the file. `targets` is empty if its queue has no dead-letter exchange.
 pub record Rejection (t : Topology) (queues : Text → List Entry) : Type 0 where
   pub queue : Text
   pub entry : Entry
@@ -32,13 +32,13 @@ pub record Rejection (t : Topology) (queues : Text → List Entry) : Type 0 wher
   pub targets : List Text
   pub routed : Picks (DiesInto t queue entry.message.key) (queue_names t.queues) targets
 
--- What is noted of a rejection: that the message left its queue, and then, of each target, that the dead letter entered it or that the queue was full.
+-- The notes of a rejection: the message left its queue, and then, for each of the targets, the dead letter entered it or that queue was full.
 abbrev pub rejection_notes : (t : Topology) (queues : Text → List Entry) → List Said → Rejection t queues → List Note
 rejection_notes t queues said r = Left r.entry.message.number r.queue Rejected
     ∷ map (note_at t queues said (body_bytes r.entry) r.entry.message.number way.Dead) r.targets
 
 -- After the first notes of an event, `said`, each with the size of its message, all other notes are
--- of rejections, one after another. A dead letter keeps the body of its message, and so the size.
+-- of rejections, one after another. A dead letter has the body of its message, and therefore its size.
 pub data AreRejections (t : Topology) (queues : Text → List Entry) : List Said → List Note → Type 0 where
   none : {said : List Said} → AreRejections t queues said []
   next : {said : List Said} {rest : List Note} (r : Rejection t queues)
@@ -51,7 +51,7 @@ IsOfNoRejection (Left n q Rejected) = ⊥
 IsOfNoRejection (Entered n q way.Dead) = ⊥
 IsOfNoRejection note = Unit {0}
 
--- All that the event notes is of rejections, each with its dead letter, or nothing that it notes is a rejection or a dead letter that entered a queue.
+-- Either all notes of the event are of rejections, each with its dead letter, or none says that a message was rejected or that a dead letter entered.
 abbrev pub DieAsRouted : Happening → Type 0
 DieAsRouted h = AreRejections h.config.topology h.before.broker.queue [] h.notes ⊎ AllByRecursion IsOfNoRejection h.notes
 

@@ -17,13 +17,13 @@ pub record IsPlain (response user password : Text) : Type 0 where
   pub user_whole : HasNoNul user
   pub password_whole : HasNoNul password
 
--- `hash` is one of this password: four bytes of salt, followed by the SHA-256 of salt and password.
+-- `hash` is a hash of `password`: four bytes of salt, followed by the SHA-256 of salt and password.
 pub record IsHashOf (hash password : Text) : Type 0 where
   pub salt : Text
   pub salted : length salt ≡ 4
   pub hashed : hash ≡ salt ++ sha256 (salt ++ password)
 
--- A login: by the mechanism PLAIN, of one of `users`, with a password of which that user has the hash.
+-- A login: by the mechanism PLAIN, as one of `users`, with that user's password.
 pub record IsLogin (users : List User) (mechanism response : Text) : Type 0 where
   pub plain : mechanism ≡ codes "PLAIN"
   pub user : User

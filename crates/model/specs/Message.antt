@@ -3,7 +3,7 @@ use Rattle.std.specs.Prelude.{ℕ, Bool}
 use Rattle.model.specs.Words.{Text}
 use Rattle.model.specs.declared.contents.Content.{Content}
 
--- A publish, in whichever queue it is. Dead-lettering changes its exchange and key, and keeps the first ones.
+-- A message of a publish, in whichever queue it is. Dead-lettering changes its exchange and key, and keeps the first ones.
 pub record Message : Type 0 where
   -- Its publish number: publishes are numbered from 1 over the whole broker.
   pub number : ℕ
@@ -13,5 +13,5 @@ pub record Message : Type 0 where
   pub key : Text
   pub content : Content
   pub redelivered : Bool
-  -- It was in a queue when the last reload was done.
+  -- Whether the message was in a queue when a reload was done.
   pub stood : Bool

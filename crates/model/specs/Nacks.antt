@@ -36,7 +36,7 @@ abbrev pub is_nack_of : ℕ → Note → Bool
 is_nack_of n (Confirmed m answer.Nack) = m == n
 is_nack_of n note = false
 
--- The nack for the publish that the note records, and for no other, if that is of connection `c`, has a confirm number, and is confirmed by nack in `notes`.
+-- The nack for exactly the publish that the note records, if it came on connection `c`, has a confirm number, and is confirmed by nack in `notes`.
 abbrev pub nack_as : ℕ → List Note → Note → Option Nack
 nack_as c notes (Published n d h x key (Some m)) =
     if d == c && list_any (is_nack_of n) notes then Some (record { channel = h; number = m; multiple = false }) else None
@@ -50,7 +50,7 @@ nacks_at c h = filter_map (nack_as c h.notes) h.notes
 abbrev pub nacks_of : ℕ → List Happening → List Nack
 nacks_of c hs = flat_map (nacks_at c) hs
 
--- The nacks that a client reads in `output` are those of `due`, in order.
+-- The nacks that a client reads in `output` are exactly those of `due`, in order.
 pub record HasNacks (due : List Nack) (output : List ℕ) : Type 0 where
   pub frames : List Frame
   pub reading : IsReading output frames

@@ -12,21 +12,21 @@ abbrev pub IsGivenBelow : ℕ → Taker → Type 0
 IsGivenBelow next taker.Get = Unit {0}
 IsGivenBelow next (taker.Consumer number) = number < next
 
--- What the consumers of a channel keep.
+-- The consumers of a channel: they take from queues of the topology `t`, have distinct tags and rising numbers, and are few.
 pub record AreNamedOn (t : Topology) (ch : Channel) : Type 0 where
   -- Each takes from a queue of the topology.
   pub queues : AllByRecursion (λ (k : Consumer). is_some (queue_named t.queues k.queue) ≡ true) ch.consumers
   -- The tag of each has a spelling, and no two have the same tag.
   pub spelled : AllByRecursion (λ (k : Consumer). length k.tag < 256) ch.consumers
   pub apart : AllPairs (λ (a b : Consumer). bytes_eq a.tag b.tag ≡ false) ch.consumers
-  -- Their numbers rise, and each is less than the next number.
+  -- Their numbers rise, and each is less than `next_number`, the number of the next consumer.
   pub rising : AllPairs (λ (a b : Consumer). a.number < b.number) ch.consumers
   pub before : AllByRecursion (λ (k : Consumer). k.number < ch.next_number) ch.consumers
-  -- Unacknowledged messages were given to gets and to consumers that were made before, so the next consumer begins with none.
+  -- Each unacknowledged message was given to a get or to a consumer whose number is already used, so the next consumer begins with none.
   pub given : AllByRecursion (λ (o : Outstanding). IsGivenBelow ch.next_number o.by) ch.outstanding
-  -- There are at most 256.
+  -- The channel has at most 256 consumers.
   pub few : length ch.consumers ≤ 256
 
--- The consumers of every channel of the broker are named so, under this topology.
+-- The consumers of every channel of the broker are named and numbered as `AreNamedOn` says, under the topology `t`.
 abbrev pub AreNamed : Topology → Broker → Type 0
 AreNamed t b = (c h : ℕ) (ch : Channel) → b.channel c h ≡ Some ch → AreNamedOn t ch

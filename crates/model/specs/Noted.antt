@@ -29,7 +29,7 @@ pub record TakesPublish (h : Happening) (c k : ℕ) (m : Publish) : Type 0 where
   pub noted : IsIn (Published (h.before.broker.published + 1) c k m.exchange m.routing_key (next_of channel.confirm)) h.notes
   -- It is confirmed under that confirm number.
   pub confirmed : IsConfirmedIf h (h.before.broker.published + 1) c k (next_of channel.confirm)
-  -- Both numbers are used by it, and nothing else on its channel changes.
+  -- It uses both numbers, and changes nothing else of its channel.
   pub counted : h.after.broker.published ≡ h.before.broker.published + 1
   pub used : h.after.broker.channel c k ≡ Some (record channel { confirm = next_of channel.confirm })
 

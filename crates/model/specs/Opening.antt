@@ -28,7 +28,7 @@ use Rattle.model.specs.declared.methods.Method.TheVariants.{
 
 -- ---- what the server says
 
--- The capabilities that the server has beside AMQP, as clients look for them.
+-- The capabilities that the server announces: what it has beyond AMQP 0-9-1.
 abbrev pub capabilities : Pairs
 capabilities =
     pair (codes "publisher_confirms") (Truth true)
@@ -59,8 +59,8 @@ open_ok = ConnectionOpenOk []
 abbrev pub new_session : Session
 new_session = record { phase = phase.Header; channel_max = 255; frame_max = 4096 }
 
--- Whether a tune-ok is accepted: no limit is above the server's, a frame may have
--- 4,096 bytes, and there are no heartbeats; 0 means no limit of the client's own.
+-- Whether a tune-ok is accepted: no limit is above the server's, frames of 4,096 bytes
+-- are allowed, and there are no heartbeats. 0 means no limit of the client's own.
 abbrev pub is_taken : Tuning → Bool
 is_taken t = (nat_le t.channel_max 255 && ((t.frame_max == 0) || (nat_le 4096 t.frame_max && nat_le t.frame_max 131072))) && (t.heartbeat == 0)
 
@@ -102,7 +102,7 @@ abbrev pub or_closed : ℕ → Session → Method → Move → Move
 or_closed c s (ConnectionClose m) move = answers_with c s ConnectionCloseOk phase.Over
 or_closed c s m move = move
 
--- Answers a method on channel 0: a client's close as such, and any other by `move`. A method on another channel is answered with close 503.
+-- Answers a method on channel 0: a client's close with close-ok, and any other by `move`. A method on another channel is answered with close 503.
 abbrev pub on_zero : ℕ → Session → ℕ → Method → Move → Move
 on_zero c s h m move = if h == 0 then or_closed c s m move else closes_with c s 503 m
 
@@ -125,7 +125,7 @@ abbrev pub LogsIn : List User → Phase → Method → Type 0
 LogsIn users phase.Start (ConnectionStartOk m) = IsLogin users m.mechanism m.response
 LogsIn users p m = ⊥
 
--- The method, before Running, is answered by `move`; `users` may log in.
+-- In a phase before Running, `move` answers the method; `users` may log in.
 pub record MovesInOpening (users : List User) (c : ℕ) (s : Session) (h : ℕ) (m : Method) (move : Move) : Type 0 where
   pub is_user : Bool
   pub login : MatchBool is_user (LogsIn users s.phase m) (LogsIn users s.phase m → ⊥)

@@ -24,8 +24,8 @@ use Rattle.model.specs.declared.notes.Note.TheVariants.{Entered}
 
 -- ---- what is given out
 
--- Between these states, the event gives the entry's message out of this queue, and sends nothing else: to the get
--- that asked for it, or to a consumer of the queue that may take it, under the next delivery tag of its channel.
+-- From the state `old` to `new`, the event gives the entry's message out of the queue, and sends nothing else. The message goes to the
+-- get that asked for it, or to a consumer of the queue that may take it, under the next delivery tag of its channel.
 pub data Gives (old : Broker) (event : Event) (sends : List Send) (notes : List Note) (new : Broker) : Text → Entry → Type 0 where
   to_get : {c k : ℕ} {m : Get} {content : Option Content} {e : Entry} (ch : Channel) → event ≡ Command c k (BasicGet m) content
       → old.channel c k ≡ Some ch → first_ready (old.queue m.queue) ≡ Some e
@@ -36,7 +36,8 @@ pub data Gives (old : Broker) (event : Event) (sends : List Send) (notes : List 
 abbrev pub GivesOut : Happening → Text → Entry → Type 0
 GivesOut h q e = Gives h.before.broker h.event h.sends h.notes h.after.broker q e
 
--- The events gave messages of these numbers out of the queue `q`, in this order, among others, and none of these had been given out since it entered.
+-- The events gave messages of these numbers out of the queue `q`, in this order, each for the first time since it entered.
+-- They may have given out others, too.
 pub data FirstGiven (q : Text) : List Happening → List ℕ → Type 0 where
   ended : FirstGiven q [] []
   given : {h : Happening} {hs : List Happening} {e : Entry} {ns : List ℕ} → GivesOut h q e → e.message.redelivered ≡ false → FirstGiven q hs ns
@@ -60,7 +61,7 @@ abbrev pub waiting : List Entry → List ℕ
 waiting [] = []
 waiting (e ∷ es) = if is_fresh e then e.message.number ∷ waiting es else waiting es
 
--- The number of the message that the note says entered the queue `q`, if it says so.
+-- A list of one number, that of the message which entered the queue `q` by the note; an empty list if the note says nothing of the kind.
 abbrev pub entered_by : Text → Note → List ℕ
 entered_by q (Entered n r w) = if bytes_eq r q then n ∷ [] else []
 entered_by q note = []
@@ -77,18 +78,18 @@ pub record IsNext (es : List Entry) (e : Entry) : Type 0 where
   pub all : es ≡ ahead ++ e ∷ behind
   pub given : AllByRecursion (λ (x : Entry). is_ready x ≡ false) ahead
 
--- Whatever the event gives out of a queue, no entry ahead of it there is ready before the event.
+-- If the event gives an entry out of a queue, no entry ahead of it there is ready before the event.
 abbrev pub IsAfterThoseAhead : Happening → Type 0
 IsAfterThoseAhead h = (q : Text) (e : Entry) → GivesOut h q e → IsNext (h.before.broker.queue q) e
 
 -- ---- how messages come to be held
 
--- Before the event an entry of the queue `q` was held by `holder`, or the event gave the entry `x` out to it.
+-- Before the event an entry of the queue `q` was held by `holder`, or the event gave the entry `x` out to `holder`.
 pub data IsHeldSince (h : Happening) (q : Text) (x : Entry) (holder : Holder) : Type 0 where
   before : (y : Entry) → IsIn y (h.before.broker.queue q) → y.mark ≡ Held holder → IsHeldSince h q x holder
   by_it : {e : Entry} → GivesOut h q e → x ≡ held_as holder e → IsHeldSince h q x holder
 
--- What is held after the event was held by the same holder before it, or was given out by it.
+-- For each entry that is held after the event: before it an entry of the same queue was held by the same holder, or the event gave the entry out.
 abbrev pub HoldsWhatWasGiven : Happening → Type 0
 HoldsWhatWasGiven h = (q : Text) (x : Entry) (holder : Holder) → IsIn x (h.after.broker.queue q) → x.mark ≡ Held holder → IsHeldSince h q x holder
 
@@ -98,5 +99,5 @@ pub record GivesInOrder (hs : List Happening) : Type 0 where
   pub in_order : (q : Text) (ns : List ℕ) → FirstGiven q hs ns → IsPart ns (entered q (notes_of hs))
   -- Each message was given out only when no message ahead of it was ready.
   pub ahead : AllByRecursion IsAfterThoseAhead hs
-  -- A message comes to be held in no other way.
+  -- A message becomes held only by being given out.
   pub held : AllByRecursion HoldsWhatWasGiven hs

@@ -1,4 +1,4 @@
--- The phases of a connection, and what each awaits. Source: AMQP 0-9-1, section 2.2.4, "The Connection Class"; PLAIN login by RFC 4616.
+-- The phase and the limits of a connection, and how a close or a fault changes the phase. Source: AMQP 0-9-1, section 2.2.4, "The Connection Class".
 use Rattle.std.specs.Prelude.{ℕ, List, [], ◌∷◌, Bool, true, false, ◌==◌, if◌then◌else◌}
 use Rattle.model.specs.Grammar.{ids}
 use Rattle.model.specs.Step.{reply, connection_close}
@@ -45,8 +45,8 @@ pub record Move : Type 0 where
 abbrev pub stays_in : Session → Move
 stays_in s = record { sends = []; next = s }
 
--- What is done while close-ok is awaited: a close is answered and the phase stays,
--- close-ok ends it, and all else is ignored, also these two on another channel than 0.
+-- What a method does while close-ok is awaited: on channel 0 a close is answered and the phase
+-- stays, and close-ok ends the connection. All else is ignored, these two on other channels, too.
 abbrev pub while_closing : ℕ → Session → ℕ → Method → Move
 while_closing c s h (ConnectionClose m) = if h == 0 then record { sends = reply c 0 ConnectionCloseOk ∷ []; next = s } else stays_in s
 while_closing c s h ConnectionCloseOk = if h == 0 then record { sends = []; next = to_phase s phase.Over } else stays_in s
@@ -58,9 +58,9 @@ faulted c s phase.Closing code = record { sends = []; next = to_phase s phase.Ov
 faulted c s phase.Over code = stays_in s
 faulted c s p code = record { sends = connection_close c code (ids 0 0) ∷ []; next = to_phase s phase.Over }
 
--- ---- the phase after an event in Running, by what was sent: after a close close-ok is awaited, a close-ok ends the connection
+-- ---- the phase after an event in Running, by what was sent: after a close, close-ok is awaited; a close-ok ends the connection
 
--- The phase after this method was sent, if `p` is the phase to which the sends after it lead.
+-- The phase after this method was sent; `p` is the phase to which the sends after it lead.
 abbrev pub after_method : Method → Phase → Phase
 after_method (ConnectionClose m) p = phase.Closing
 after_method ConnectionCloseOk p = phase.Over

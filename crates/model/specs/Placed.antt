@@ -11,7 +11,7 @@ use Rattle.model.specs.declared.messages.Holder.{Holder}
 abbrev pub is_waiting : Delivery → Bool
 is_waiting d = not (d.tag == 0)
 
--- The unacknowledged ones of these deliveries.
+-- The deliveries that are unacknowledged, in order.
 abbrev pub waiting : List Delivery → List Delivery
 waiting ds = filter is_waiting ds
 
@@ -19,7 +19,7 @@ waiting ds = filter is_waiting ds
 abbrev pub holder_of_delivery : ℕ → ℕ → Delivery → Holder
 holder_of_delivery c h d = record { connection = c; channel = h; tag = d.tag; by = d.by }
 
--- The same delivery with the name of its queue; `names` are the names of the queues in the order of the file.
+-- The delivery `d` with its queue's name in place of its queue's index; `names` are the names of the queues in the order of the file.
 abbrev pub outstanding_in : List Text → Delivery → Outstanding
 outstanding_in names d = record { tag = d.tag; queue = slice_index_or names d.queue []; by = d.by }
 

@@ -1,5 +1,5 @@
 -- How many messages may be unacknowledged at once (RabbitMQ, "Consumer Prefetch";
--- AMQP 0-9-1, basic.qos). `taker_of` is the taker of each unacknowledged message.
+-- AMQP 0-9-1, basic.qos). `taker_of` returns the taker of an unacknowledged message.
 use Rattle.std.specs.Prelude.{ℕ, List, Bool, true, false, nat_lt, ◌==◌, ◌&&◌, ◌||◌, count_by}
 use Rattle.model.specs.declared.messages.Taker.{Taker}
 use Rattle.model.specs.declared.messages.Taker.TheVariants.{Get, Consumer}

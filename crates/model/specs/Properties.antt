@@ -33,9 +33,9 @@ use Rattle.model.specs.declared.contents.Fields.{Fields as Properties}
 abbrev pub properties_bytes : Properties → List ℕ
 properties_bytes p = to_be_bytes w16 (flags (properties_of p)) ++ flat_map value_of (properties_of p)
 
--- ---- what bytes tell
+-- ---- what the bytes spell
 
--- Reads the value with which bytes begin, by its type.
+-- A function that reads the value at the front of the bytes. There is one for each type of value.
 abbrev pub First : Type 0
 First = List ℕ → Argument
 
@@ -65,7 +65,7 @@ sorts =
 abbrev pub is_flagged : ℕ → ℕ → Bool
 is_flagged flags bit = flags / 2 ^ bit % 2 == 1
 
--- The values of the properties that are flagged: the first property has the highest bit, the last has bit 2.
+-- The value of each property, read from `bytes` in order, or `None` if its flag is not set: the first property has the highest bit, the last has bit 2.
 unfoldable pub values_told : ℕ → List First → List ℕ → List (Option Argument)
 values_told flags [] bytes = []
 values_told flags (first ∷ others) bytes =
@@ -92,7 +92,7 @@ abbrev pub table_told : Option Argument → Option (List ℕ)
 table_told (Some (Field_table t)) = Some t
 table_told _ = None
 
--- The properties of fourteen values.
+-- The properties with these fourteen values, in the order of their flags.
 unfoldable pub properties_told : List (Option Argument) → Properties
 properties_told (a ∷ b ∷ c ∷ d ∷ e ∷ f ∷ g ∷ h ∷ i ∷ j ∷ k ∷ l ∷ m ∷ n ∷ []) = record {
   content_type = text_told a;

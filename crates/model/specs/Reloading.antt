@@ -12,7 +12,7 @@ use Rattle.model.specs.declared.messages.Entry.{Entry}
 use Rattle.model.specs.declared.obstacles.Obstacle.{Obstacle}
 use Rattle.model.specs.declared.obstacles.Obstacle.TheVariants.{InUse, Breaks}
 
--- ---- queues in use that are gone
+-- ---- queues in use that the new topology lacks
 
 -- The queue `q` is in use: it has a message, ready or held, or a consumer takes from it.
 pub data IsInUse (b : Broker) (q : Text) : Type 0 where
@@ -25,28 +25,28 @@ pub record IsOrphaned (old new : Topology) (b : Broker) (q : Text) : Type 0 wher
   pub gone : IsIn q (queue_names new.queues) → ⊥
   pub in_use : IsInUse b q
 
--- The queue `q` is the first such queue, in the order of the old file.
+-- The queue `q` is the first, in the order of the old file, that is in use and that the new topology lacks.
 pub record IsFirstOrphaned (old new : Topology) (b : Broker) (q : Text) : Type 0 where
   pub place : ℕ
   pub named : slice_get (queue_names old.queues) place ≡ Some q
   pub orphaned : IsOrphaned old new b q
   pub none_before : (i : ℕ) (r : Text) → i < place → slice_get (queue_names old.queues) i ≡ Some r → IsOrphaned old new b r → ⊥
 
--- ---- messages that could come to a queue that is forbidden to them
+-- ---- messages that could reach a queue that is forbidden to them
 
--- From the queue `q` the message may come by deaths to a queue that the guarantee forbids to its publish. That it is in that queue already is no obstacle.
+-- Dead letters can bring the message from the queue `q` to a queue that `g` forbids for its publish. Being in that queue already is no obstacle.
 pub record Endangers (t : Topology) (g : Guarantee) (q : Text) (m : Message) : Type 0 where
   pub never : g.mode ≡ Never
   pub covers : Covers g m.first_exchange m.first_key
   pub later : Later t q m.key g.queue
 
--- An entry by indices: of a guarantee, of a queue of the old topology, and of the entry in the queue.
+-- An entry, by three indices: of a guarantee, of a queue of the old topology, and of the entry in that queue.
 pub record Spot : Type 0 where
   pub guarantee : ℕ
   pub queue : ℕ
   pub entry : ℕ
 
--- The order in which entries are looked at: by guarantee, then by queue, then as they arrived.
+-- The order in which spots are looked at: by guarantee, then by queue, then by arrival.
 abbrev pub IsBefore : Spot → Spot → Type 0
 IsBefore r s = (r.guarantee < s.guarantee) ⊎ ((r.guarantee ≡ s.guarantee) × ((r.queue < s.queue) ⊎ ((r.queue ≡ s.queue) × (r.entry < s.entry))))
 
@@ -58,7 +58,7 @@ pub record IsDanger (old : Topology) (new : Config) (b : Broker) (s : Spot) (g :
   pub entry : slice_get (b.queue q) s.entry ≡ Some e
   pub endangers : Endangers new.topology g q e.message
 
--- The first such spot: there is a message in the queue `q` that was first sent under `key`, and `number`, counted from 1, is that of the guarantee.
+-- The first spot in danger: its message is in the queue `q` and was first sent under `key`, and `number` is that of its guarantee, counted from 1.
 pub record IsFirstDanger (old : Topology) (new : Config) (b : Broker) (q key : Text) (number : ℕ) : Type 0 where
   pub spot : Spot
   pub guarantee : Guarantee
@@ -70,7 +70,7 @@ pub record IsFirstDanger (old : Topology) (new : Config) (b : Broker) (q key : T
 
 -- ---- obstacles to a reload
 
--- No queue in use is gone.
+-- The new topology has each queue of the old one that is in use.
 abbrev pub NoneIsOrphaned : Topology → Topology → Broker → Type 0
 NoneIsOrphaned old new b = (q : Text) → IsOrphaned old new b q → ⊥
 
@@ -91,6 +91,6 @@ pub record NothingStands (old : Topology) (new : Config) (b : Broker) : Type 0 w
 abbrev pub stood_now : Entry → Entry
 stood_now e = record e { message = record e.message { stood = true } }
 
--- The broker after a reload: each entry is marked as one that was in a queue then, and all else is as it was.
+-- The broker after a reload: each entry is marked as one that was in a queue then, and all else is unchanged.
 abbrev pub with_all_stood : Broker → Broker
 with_all_stood b = record b { queue = λ q. map stood_now (b.queue q) }

@@ -39,11 +39,11 @@ with_size size note = record { note = note; size = size }
 abbrev pub with_sizes : ℕ → List Note → List Said
 with_sizes size notes = map (with_size size) notes
 
--- Whether it is said that a message entered the queue `q`.
+-- Whether the note of `s` says that a message entered the queue `q`.
 abbrev pub is_said_into : Text → Said → Bool
 is_said_into q s = is_entry_into q s.note
 
--- The bytes that the bodies have together of the messages that entered the queue `q`.
+-- The total size in bytes of the bodies of the messages that entered the queue `q` by the notes `said`.
 abbrev pub bytes_into : Text → List Said → ℕ
 bytes_into q said = sum_by (λ (s : Said). s.size) (filter (is_said_into q) said)
 
@@ -53,14 +53,13 @@ abbrev pub is_full_after : Topology → (Text → List Entry) → List Said → 
 is_full_after t queues said q size = refuses (queue_named t.queues q) (ready_in (queues q) + count_by (is_said_into q) said)
     (ready_bytes (queues q) + bytes_into q said) size
 
--- What is noted of a message with a body of `size` bytes and of a queue `q` to which it
--- goes: that it entered `q` in the way `w`, or that the queue was full and refused it.
+-- The note of a message with a body of `size` bytes that goes to the queue `q`: it entered `q` in the way `w`, or the queue was full and refused it.
 abbrev pub note_at : Topology → (Text → List Entry) → List Said → ℕ → ℕ → Way → Text → Note
 note_at t queues said size n w q = if is_full_after t queues said q size then Refused n q else Entered n q w
 
--- What the event notes of publish `n`, which it is: the publish; then, of each queue to which it is routed, in the
--- order of the file, that it entered it or that the queue was full; then that it went back, if it is mandatory and
--- routed nowhere; and then, if it has a confirm number, one answer: ack if no queue was full, and nack otherwise.
+-- The event is publish `n`, and notes in this order: the publish; for each queue to which it is routed, in the order of
+-- the file, that it entered or that the queue was full; that it went back, if it is mandatory and routed nowhere;
+-- and, if it has a confirm number, one answer: ack if no queue was full, and nack otherwise.
 pub record EntersAsRouted (h : Happening) (n c k : ℕ) (x key : Text) (confirm : Option ℕ) : Type 0 where
   pub publish : Publish
   pub given : Option Content
@@ -84,7 +83,7 @@ pub record EntersAsRouted (h : Happening) (n c k : ℕ) (x key : Text) (confirm 
 abbrev pub EnterAsRouted : Happening → Type 0
 EnterAsRouted h = (n c k : ℕ) (x key : Text) (confirm : Option ℕ) → IsIn (Published n c k x key confirm) h.notes → EntersAsRouted h n c k x key confirm
 
--- The number of the publish that the note says came, if it says so.
+-- The number of the publish that the note records, if it records one.
 abbrev pub number_in : Note → Option ℕ
 number_in (Published n c k x key confirm) = Some n
 number_in note = None

@@ -22,7 +22,7 @@ pub record Reading : Type 1 where
   pub shuts : ExchangeKind → Text → Type 0
   pub names : Text → Type 0
 
--- The reading of a key that is known: each binding key lets it pass or doesn't, and it names the queue that is called like it.
+-- The reading of a key that is known: each binding key lets it pass or doesn't, and it names the queue of the same name.
 abbrev pub of_key : Text → Reading
 of_key key = record {
   opens = λ kind binding. Passes kind binding key;
@@ -41,8 +41,8 @@ pub data Edge (t : Topology) (r : Reading) : Text → Place → Type 0 where
   -- By a binding that lets the key pass.
   bound : {name : Text} {to : Place} (x : Exchange) (b : Binding) → Contains t.exchanges x → x.name ≡ name → Binds t x to b → r.opens x.kind b.key
       → Edge t r name to
-  -- No binding of the exchange lets the key pass: to its alternate exchange (RabbitMQ,
-  -- "Alternate Exchanges"; at whatever point of the route the exchange is, own).
+  -- To the alternate exchange, if no binding of the exchange lets the key pass (RabbitMQ,
+  -- "Alternate Exchanges"; that it is so at every point of a route is own).
   alternate : {name other : Text} (x : Exchange) → Contains t.exchanges x → x.name ≡ name → x.alternate ≡ Some other
       → ((to : Place) (b : Binding) → Binds t x to b → r.shuts x.kind b.key) → Edge t r name (place.Exchange other)
   -- From the default exchange to the queue that the key names (AMQP 0-9-1, section 3.1.3.1).
@@ -76,7 +76,7 @@ pub record Dies (t : Topology) (name exchange : Text) (q : DeclaredQueue) : Type
   pub is_named : q.name ≡ name
   pub dead : q.dead_letter_exchange ≡ Some exchange
 
--- The key that was fixed last: the first argument's, if it is one, and otherwise `fixed`.
+-- The key that was fixed last: that of the first argument if it has one, and otherwise `fixed`.
 abbrev pub fixed_after : Option Text → Option Text → Option Text
 fixed_after None fixed = fixed
 fixed_after (Some key) fixed = Some key
@@ -88,7 +88,7 @@ pub data Comes (t : Topology) (r : Reading) : Option Text → Text → Text → 
   dead : {fixed : Option Text} {x p exchange q : Text} (last : DeclaredQueue) → RoutesBy t (reading_after fixed r) x p → Dies t p exchange last
       → Comes t r (fixed_after last.dead_letter_key fixed) exchange q → Comes t r fixed x q
 
--- A message with this `key` in the queue `q` may come to the queue `r` by one or more deaths.
+-- A message with this `key` in the queue `q` may reach the queue `r` by one or more deaths.
 pub record Later (t : Topology) (q key r : Text) : Type 0 where
   pub last : DeclaredQueue
   pub exchange : Text

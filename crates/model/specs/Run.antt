@@ -64,8 +64,8 @@ is_left n q _ = false
 abbrev pub has_number : ℕ → Entry → Bool
 has_number n e = e.message.number == n
 
--- Every queue balances, for each publish number: the messages before the event and those that the notes say entered are as many as those that the notes say
--- left and those after the event.
+-- Every queue balances, for each publish number: as many messages were in it before the event, or entered it by the notes, as left it by the
+-- notes or are in it after the event.
 abbrev pub Balances : Broker → List Note → Broker → Type 0
 Balances old notes new = (n : ℕ) (q : Text) →
     count_by (has_number n) (old.queue q) + count_by (is_entered n q) notes ≡ count_by (is_left n q) notes + count_by (has_number n) (new.queue q)
@@ -75,6 +75,6 @@ abbrev pub Stays : Broker → List Happening → Broker → Type 0
 Stays old [] new = new ≡ old
 Stays old (h ∷ hs) new = (h.before.broker ≡ old) × Balances h.before.broker h.notes h.after.broker × Stays h.after.broker hs new
 
--- No message in a queue has a greater number than that of publishes counted.
+-- No message in a queue has a number above that of the publishes counted.
 abbrev pub AreCounted : Broker → Type 0
 AreCounted b = (n : ℕ) (q : Text) → b.published < n → count_by (has_number n) (b.queue q) ≡ 0

@@ -46,7 +46,7 @@ AreCarried b = (q : Text) → AllByRecursion (λ (e : Entry). IsCarried e.messag
 
 -- ---- sends
 
--- The most bytes that the sends of one event are spelled by (own).
+-- The most bytes that the sends of one event have together (own).
 abbrev pub most_sent : ℕ
 most_sent = 1060000
 

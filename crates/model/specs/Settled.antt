@@ -27,7 +27,7 @@ pub record HasLeft (old : Broker) (notes : List Note) (c k : ℕ) (o : Outstandi
   pub held : is_held_as (holder_of c k o) entry ≡ true
   pub left : IsIn (Left entry.message.number o.queue cause) notes
 
--- The message of the delivery `o` was held in its queue, and is ready at the same index of it, marked as redelivered.
+-- The message of the delivery `o` was held in its queue, and is ready there again, at the same index and marked as redelivered.
 pub record IsReadyAgain (old new : Broker) (c k : ℕ) (o : Outstanding) : Type 0 where
   pub entry : Entry
   pub place : ℕ
@@ -49,7 +49,7 @@ pub record Settling : Type 0 where
   pub multiple : Bool
   pub how : Settlement
 
--- What an acknowledgement, a rejection and a recovery settle; no other method settles any.
+-- The deliveries that an acknowledgement, a rejection or a recovery settles; no other method settles any.
 abbrev pub settling_of : Method → Option Settling
 settling_of (BasicAck m) = Some (record { tag = m.delivery_tag; multiple = m.multiple; how = Leaves Acked })
 settling_of (BasicReject m) = Some (record { tag = m.delivery_tag; multiple = false; how = of_rejected m.requeue })
@@ -63,13 +63,13 @@ IsSettledSo old notes new c k (Leaves cause) o = HasLeft old notes c k o cause
 IsSettledSo old notes new c k Rejects o = HasLeft old notes c k o Rejected
 IsSettledSo old notes new c k Returns o = IsReadyAgain old new c k o
 
--- Each delivery of the channel that the tag takes is settled so and no longer unacknowledged; each other is still unacknowledged.
+-- Each delivery of the channel that the tag takes is settled as `s.how` says and no longer unacknowledged; every other is still unacknowledged.
 pub record AreSettledSo (old : Broker) (notes : List Note) (new : Broker) (c k : ℕ) (channel : Channel) (s : Settling) : Type 0 where
   pub taken : (o : Outstanding) → IsIn o channel.outstanding → takes tag_of s.tag s.multiple o ≡ true
       → IsSettledSo old notes new c k s.how o × (IsOutstandingOn new c k o → ⊥)
   pub others : (o : Outstanding) → IsIn o channel.outstanding → takes tag_of s.tag s.multiple o ≡ false → IsOutstandingOn new c k o
 
--- If the event is a command that settles and is not refused, all that it settles is settled as it asks.
+-- If the event is a command that settles deliveries and is not refused, the deliveries that its tag takes are settled as it asks, and no others are.
 abbrev pub SettlesAsAsked : Happening → Type 0
 SettlesAsAsked h = (c k : ℕ) (m : Method) (s : Settling) (ch : Channel) → IsUnrefused h c k m → settling_of m ≡ Some s
     → h.before.broker.channel c k ≡ Some ch → AreSettledSo h.before.broker h.notes h.after.broker c k ch s

@@ -1,5 +1,5 @@
 -- What an acknowledgement or a rejection settles (AMQP 0-9-1, basic.ack and basic.reject; RabbitMQ, basic.nack).
--- The unacknowledged deliveries of a channel are in the order of their delivery tags; `tag_of` is the tag of each.
+-- The unacknowledged deliveries of a channel are in the order of their delivery tags; `tag_of` returns the tag of a delivery.
 use Rattle.std.specs.Prelude.{◌<◌, ℕ, List, Bool, true, false, nat_le, ◌==◌, ◌&&◌, not, if◌then◌else◌, Option, Some, None, filter}
 use Rattle.std.specs.List.{list_any, AllPairs}
 
@@ -7,8 +7,8 @@ use Rattle.std.specs.List.{list_any, AllPairs}
 abbrev pub has_tag : {X : Type 0} → (X → ℕ) → ℕ → X → Bool
 has_tag tag_of tag x = tag_of x == tag
 
--- Whether the tag settles the delivery `x`: without `multiple` the one with this tag;
--- with it all up to the tag, and all if the tag is 0 (AMQP 0-9-1, basic.ack, "multiple").
+-- Whether the tag settles the delivery `x`. Without `multiple` it settles the delivery with this tag; with
+-- `multiple` it settles all up to the tag, or all deliveries if the tag is 0 (AMQP 0-9-1, basic.ack, "multiple").
 abbrev pub takes : {X : Type 0} → (X → ℕ) → ℕ → Bool → X → Bool
 takes tag_of tag multiple x = if multiple then (if tag == 0 then true else nat_le (tag_of x) tag) else tag_of x == tag
 

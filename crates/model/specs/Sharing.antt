@@ -1,4 +1,4 @@
--- The message that a copy is, by the block that all of its copies share (own).
+-- A message, from the block that all of its copies share and the two marks of one copy (own).
 use Rattle.std.specs.Prelude.{Bool}
 use Rattle.model.specs.Message.{Message}
 use Rattle.model.specs.declared.messages.Sent.{Sent}
@@ -6,7 +6,7 @@ use Rattle.model.specs.declared.messages.Sending.{Sending}
 use Rattle.model.specs.declared.messages.Sending.TheVariants.{Once, Again}
 use Rattle.model.specs.declared.messages.Shared.{Shared}
 
--- The exchange and the key of its publish, which a dead letter keeps.
+-- The exchange and the key of the message's publish, which a dead letter keeps.
 abbrev pub first_sent : Sending → Sent
 first_sent (Once sent) = sent
 first_sent (Again resent) = resent.value.first
@@ -16,7 +16,7 @@ abbrev pub last_sent : Sending → Sent
 last_sent (Once sent) = sent
 last_sent (Again resent) = resent.value.last
 
--- The message of one copy, with the copy's own marks.
+-- The message of one copy: `s` is shared, and the two marks are the copy's own.
 abbrev pub message_of : Shared → Bool → Bool → Message
 message_of s redelivered stood =
     let first : Sent = first_sent s.sending in

@@ -17,7 +17,7 @@ eight_bytes = 65 ∷ 77 ∷ 81 ∷ 80 ∷ 0 ∷ 0 ∷ 9 ∷ 1 ∷ []
 abbrev pub method_frame : ℕ → Method → Frame
 method_frame h m = record { kind = 1; channel = h; payload = method_bytes m }
 
--- The bytes in pieces of `size` bytes, of which the last may be shorter, and none is empty; at most as many pieces as the second argument says.
+-- `bytes` cut into pieces of `size` bytes, of which the last may be shorter, and none is empty. The second argument is the most pieces that are cut.
 abbrev pub pieces_of : ℕ → ℕ → List ℕ → List (List ℕ)
 pieces_of size zero bytes = []
 pieces_of size (suc steps) [] = []

@@ -187,7 +187,7 @@ abbrev pub refusal_of_tags : Channel → Option Entry → Option Refusal
 refusal_of_tags ch None = None
 refusal_of_tags ch (Some e) = if has_tag_left ch.next_tag then None else Some (Of_connection 541)
 
--- Refuses a get: its queue has to be there, and a delivery tag left for its message.
+-- Refuses a get unless its queue exists, and a delivery tag is left for the message.
 abbrev pub refusal_of_get : Topology → Broker → Channel → Get → Option Refusal
 refusal_of_get t b ch m = or_else (refusal_in t m.queue) (refusal_of_tags ch (first_ready (b.queue m.queue)))
 
@@ -203,7 +203,7 @@ refusal_of_asking m = if m.exclusive || m.no_local || not (bytes_eq m.arguments 
 abbrev pub refusal_of_tag : Channel → Text → Option Refusal
 refusal_of_tag ch tag = if is_tag_taken ch tag then Some (Of_connection 530) else None
 
--- Refuses a consumer on a channel that has 256, 506 (own).
+-- Refuses a consumer with 506 if its channel has 256 already (own).
 abbrev pub refusal_of_many : Channel → Option Refusal
 refusal_of_many ch = if nat_le 256 (length ch.consumers) then Some (Of_connection 506) else None
 
@@ -215,7 +215,7 @@ refusal_of_numbers ch tag = if (ch.next_number == greatest) || is_tag_wanting ch
 abbrev pub refusal_of_consumer : Channel → Consume → Option Refusal
 refusal_of_consumer ch m = or_else (refusal_of_tag ch m.consumer_tag) (or_else (refusal_of_many ch) (refusal_of_numbers ch m.consumer_tag))
 
--- Refuses a consume: first for its queue, then for what it asks for, and then for one more consumer.
+-- Refuses a consume: for its queue; otherwise for what it asks for; otherwise because its channel can't have this consumer.
 abbrev pub refusal_of_consume : Topology → Channel → Consume → Option Refusal
 refusal_of_consume t ch m = or_else (refusal_in t m.queue) (or_else (refusal_of_asking m) (refusal_of_consumer ch m))
 
@@ -227,7 +227,7 @@ refusal_of_qos m = if m.prefetch_size == 0 then None else Some (Of_connection 54
 abbrev pub refusal_of_recover : Bool → Option Refusal
 refusal_of_recover requeue = if requeue then None else Some (Of_connection 540)
 
--- Refuses a flow that stops, which is not implemented, 540.
+-- Refuses channel.flow with `active` not set, which is not implemented, 540.
 abbrev pub refusal_of_flow : Bool → Option Refusal
 refusal_of_flow active = if active then None else Some (Of_connection 540)
 
@@ -332,11 +332,11 @@ with_channel b c h ch = record b { channel = with_pair b.channel c h ch }
 abbrev pub without_connection : Broker → ℕ → Broker
 without_connection b c = record b { connection = with_one b.connection c None; channel = with_row b.channel c (λ h. None) }
 
--- The broker with every entry that a holder in `mine` held ready again, in its place in its queue and marked as redelivered.
+-- The broker in which every entry that a holder in `mine` held is ready again, in its place in its queue and marked as redelivered.
 abbrev pub with_freed : Broker → (Holder → Bool) → Broker
 with_freed b mine = record b { queue = λ q. map (freed mine) (b.queue q) }
 
--- The broker after it closed channel `h` of connection `c`: what the channel held is requeued, and all that is left of it is that close-ok is awaited.
+-- The broker after it closed channel `h` of connection `c`: what the channel held is requeued, and the channel only awaits close-ok.
 abbrev pub with_closing : Broker → ℕ → ℕ → Broker
 with_closing b c h = with_freed (with_channel b c h (Some (record new_channel { is_closing = true }))) (by_channel c h)
 
@@ -396,7 +396,7 @@ abbrev pub return_of : ℕ → ℕ → Publish → Content → Send
 return_of c h p content =
     send.Command c h (BasicReturn (record { reply_code = 312; reply_text = code_text 312; exchange = p.exchange; routing_key = p.routing_key })) (Some content)
 
--- What is sent of a publish that is sent back, or nothing if it isn't.
+-- Sends the publish back if `is_returned` is set, and otherwise sends nothing.
 abbrev pub returned_sends : ℕ → ℕ → Publish → Content → Bool → List Send
 returned_sends c h p content is_returned = if is_returned then return_of c h p content ∷ [] else []
 
@@ -432,7 +432,7 @@ after_publish t b c h ch p content targets = record b {
   channel = with_pair b.channel c h (Some (record ch { confirm = next_of ch.confirm }));
 }
 
--- Whether a body of this content makes one of the `targets` refuse it as full.
+-- Whether one of the `targets` is too full for a message with this content.
 abbrev pub is_some_full : Topology → (Text → List Entry) → Content → List Text → Bool
 is_some_full t entries content targets = list_any (λ q. is_full t entries q (length content.body)) targets
 
@@ -458,7 +458,7 @@ pub record Does (sends : List Send) (notes : List Note) (new : Broker) (wanted_s
   pub noted : notes ≡ []
   pub left : Is made new
 
--- The last confirm number after confirm.select: 0, before the first publish, or as it was if the channel was in confirm mode.
+-- The last confirm number after confirm.select: 0, before the first publish, or unchanged if the channel was in confirm mode already.
 abbrev pub started : Option ℕ → Option ℕ
 started None = Some 0
 started (Some n) = Some n
@@ -467,7 +467,7 @@ started (Some n) = Some n
 abbrev pub select_sends : ℕ → ℕ → Bool → List Send
 select_sends c h no_wait = if no_wait then [] else reply c h ConfirmSelectOk ∷ []
 
--- The broker after a client's channel.close: what the channel held is requeued, and it is no longer open. One that awaits close-ok is unchanged.
+-- The broker after a client's channel.close: what the channel held is requeued, and it is no longer open. If it awaits close-ok, nothing changes.
 abbrev pub after_close : Broker → ℕ → ℕ → Channel → Broker
 after_close b c h ch = if ch.is_closing then b else with_freed (with_channel b c h None) (by_channel c h)
 
@@ -532,7 +532,7 @@ limited ch m = if m.global then record ch { limit = m.prefetch_count } else reco
 abbrev pub declare_sends : ℕ → ℕ → Bool → Method → List Send
 declare_sends c h no_wait answer = if no_wait then [] else reply c h answer ∷ []
 
--- The answer to a declare of a queue that is there: the numbers of its ready messages and of its consumers (AMQP 0-9-1, queue.declare-ok).
+-- The answer to a declare of a queue that exists: the numbers of its ready messages and of its consumers (AMQP 0-9-1, queue.declare-ok).
 abbrev pub queue_declared : Text → ℕ → ℕ → Method
 queue_declared queue ready consumers = QueueDeclareOk (record { queue = queue; message_count = written_count ready; consumer_count = written_count consumers })
 
@@ -575,7 +575,7 @@ deliver c h tag consumer_tag e =
       routing_key = e.message.key;
     })) (Some e.message.content)
 
--- What a delivery to connection `c` does: one of those that can be made is made.
+-- What a delivery to connection `c` does: it makes one of the deliveries that can be made.
 pub record IsDelivery (old : Broker) (c : ℕ) (sends : List Send) (notes : List Note) (new : Broker) : Type 0 where
   pub made : CanDeliver old c
   pub makes : Makes sends notes new
@@ -588,7 +588,7 @@ abbrev pub content_or_none : Option Content → Content
 content_or_none (Some content) = content
 content_or_none None = record { properties = no_properties; body = [] }
 
--- What a command does that is not refused.
+-- What a command does if it is not refused.
 abbrev pub Performs : Topology → Broker → ℕ → ℕ → Channel → Method → Option Content → List Send → List Note → Broker → Type 0
 Performs t old c h ch (ConfirmSelect no_wait) content sends notes new =
     Does sends notes new (select_sends c h no_wait) (with_channel old c h (Some (record ch { confirm = started ch.confirm })))
@@ -669,7 +669,7 @@ refusal_of_large conn h ch =
     else if nat_lt conn.channel_max h then Of_connection 504
     else refusal_of_large_on ch
 
--- What a publish does whose content is too large: it is refused, and the close names basic.publish. If its connection doesn't run, it does nothing.
+-- What a publish with too large a content does: it is refused, and the close names basic.publish. If its connection doesn't run, it does nothing.
 abbrev pub OnLarge : Broker → ℕ → ℕ → List Send → List Note → Broker → Option Connection → Type 0
 OnLarge old c h sends notes new None = Does sends notes new [] old
 OnLarge old c h sends notes new (Some conn) = Refuses old c h (ids_of empty_publish) (refusal_of_large conn h (old.channel c h)) sends notes new
@@ -694,7 +694,7 @@ abbrev pub paused : Bool → Option Connection → Option Connection
 paused is None = None
 paused is (Some conn) = Some (record conn { is_paused = is })
 
--- The broker with connection `c` paused or not as `is` says; unchanged if it has no such connection.
+-- The broker in which connection `c` is paused (`true`) or not (`false`); unchanged if the broker has no such connection.
 abbrev pub with_paused : Broker → ℕ → Bool → Broker
 with_paused b c is = record b { connection = with_one b.connection c (paused is (b.connection c)) }
 

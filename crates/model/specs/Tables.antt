@@ -5,7 +5,7 @@ use Rattle.std.specs.Int.{w16, w32, w64, to_be_bytes}
 use Rattle.model.specs.Words.{Text}
 
 mutual
-  -- A value in a table or an array. Numbers are as their bytes say, whether a client means them as signed or not, and floats are not interpreted.
+  -- A value in a table or an array. Each number is the unsigned one that its bytes spell, also if a client means a signed number or a float.
   pub data Value : Type 0 where
     Truth : (b : Bool) → Value
     Byte : (n : ℕ) → Value

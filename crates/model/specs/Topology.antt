@@ -21,7 +21,7 @@ queue_names queues = map (λ (q : DeclaredQueue). q.name) queues
 abbrev pub exchange_names : List Exchange → List Text
 exchange_names exchanges = map (λ (x : Exchange). x.name) exchanges
 
--- ---- what a topology keeps
+-- ---- what is true of a topology
 
 -- `x` is one of the list.
 abbrev pub IsIn : {A : Type 0} → A → List A → Type 0
@@ -38,8 +38,8 @@ abbrev pub IsThere : Topology → Place → Type 0
 IsThere t (place.Exchange name) = IsIn name (exchange_names t.exchanges)
 IsThere t (place.Queue name) = IsIn name (queue_names t.queues)
 
--- What every topology keeps: queue names are apart, exchange names are apart and the default exchange `""` is not among
--- them, whatever is named is there, and queue names, dead-letter exchanges and dead-letter keys have at most 255 bytes.
+-- The topology is well-formed: the names of its queues are distinct; those of its exchanges are, too, and none is `""`, the default exchange's;
+-- each exchange and queue that it refers to exists; and queue names, dead-letter exchanges and dead-letter keys have at most 255 bytes.
 pub record IsWellFormed (t : Topology) : Type 0 where
   pub queues_apart : AreApart (queue_names t.queues)
   pub exchanges_apart : AreApart (exchange_names t.exchanges)
@@ -50,7 +50,7 @@ pub record IsWellFormed (t : Topology) : Type 0 where
   -- A queue may also dead-letter to the default exchange.
   pub dead_letters : (q : DeclaredQueue) (exchange : Text) → Contains t.queues q → q.dead_letter_exchange ≡ Some exchange
       → (exchange ≡ []) ⊎ IsIn exchange (exchange_names t.exchanges)
-  -- So the names that a dead letter is sent with and those in its headers can be spelled.
+  -- Bounds of 255 bytes, so that the names that a dead letter is sent with, and those in its headers, fit short strings.
   pub short_queues : (q : DeclaredQueue) → Contains t.queues q → length q.name ≤ 255
   pub short_exchanges : (q : DeclaredQueue) (exchange : Text) → Contains t.queues q → q.dead_letter_exchange ≡ Some exchange → length exchange ≤ 255
   pub short_keys : (q : DeclaredQueue) (key : Text) → Contains t.queues q → q.dead_letter_key ≡ Some key → length key ≤ 255

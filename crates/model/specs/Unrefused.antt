@@ -28,7 +28,7 @@ abbrev pub GivesOrTells : Happening → ℕ → ℕ → Get → Option Entry →
 GivesOrTells h c k m (Some e) = GivesOut h m.queue e
 GivesOrTells h c k m None = h.sends ≡ reply c k (BasicGetEmpty []) ∷ []
 
--- Each get that is not refused is answered so.
+-- Each get that is not refused is answered by the first ready message of its queue, or by get-empty if there is none.
 abbrev pub GetsAreAnswered : Happening → Type 0
 GetsAreAnswered h = (c k : ℕ) (m : Get) → IsUnrefused h c k (BasicGet m) → GivesOrTells h c k m (first_ready (h.before.broker.queue m.queue))
 

@@ -8,12 +8,12 @@ use Rattle.model.specs.declared.texts.Token.TheVariants.{Word, One, Any}
 abbrev pub Text : Type 0
 Text = List ℕ
 
--- The pieces with the byte `b` before the first of them; a piece of this byte alone if there are none.
+-- The pieces with the byte `b` put before the first of them; without pieces, the one piece that is `b` alone.
 abbrev pub onto_first : ℕ → List Text → List Text
 onto_first b [] = (b ∷ []) ∷ []
 onto_first b (w ∷ ws) = (b ∷ w) ∷ ws
 
--- The parts of a text between its bytes `separator`; empty parts are kept (own).
+-- The parts of a text between its separator bytes; empty parts are kept (own).
 abbrev pub parted : ℕ → Text → List Text
 parted separator [] = [] ∷ []
 parted separator (b ∷ bs) = if b == separator then [] ∷ parted separator bs else onto_first b (parted separator bs)

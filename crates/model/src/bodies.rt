@@ -13,7 +13,7 @@ const MOST_SHORT: usize = 46;
 /// Where the bytes of a body are kept.
 #[derive(Drop)]
 enum Stored {
-    /// In the body itself: the length, and an array whose first bytes these are.
+    /// In the body itself: the length, and an array that begins with the bytes.
     Short(u8, [u8; 46]),
     /// In a block that all clones share.
     Long(Bytes),
@@ -34,7 +34,7 @@ pub struct Body {
     kept: Stored,
 }
 
-/// Written out, so that a drop is one call.
+/// Not derived: a derived drop is expanded, and proved again, in each function that drops the value.
 impl Drop for Body {
     fn drop(self) {
         let Body { kept: _ } = self;

@@ -33,7 +33,7 @@ pub struct Fields {
     pub reserved: Option<Text>,
 }
 
-/// Written out, so that a drop is one call.
+/// Not derived: a derived drop is expanded, and proved again, in each function that drops the value.
 impl Drop for Fields {
     fn drop(self) {
         let Fields {
@@ -121,7 +121,7 @@ fn shared_table(table: &Option<Table>) -> Result<Option<Table>, AllocError>
     }
 }
 
-/// Flags and values if no property is set.
+/// The bytes of flags and values if no property is set.
 const NONE: &[u8] = &[0, 0];
 
 /// The most bytes of flags and values that a small block holds.
@@ -130,14 +130,14 @@ const MOST_SMALL: usize = 48;
 /// The most bytes of flags and values that a larger block holds.
 const MOST_LARGER: usize = 80;
 
-/// How properties are kept. Flags and values are as a header has them after the size of the body.
+/// How properties are kept. "Flags and values" are the bytes that follow the size of the body in a content header.
 #[derive(Drop)]
 enum Kept {
     /// No property is set.
     Empty,
-    /// Flags and values: their length, and a block whose first bytes they are.
+    /// Flags and values: their length, and a block that begins with them.
     Small(u8, Arc<[u8; 48]>),
-    /// The same in a larger block.
+    /// Flags and values in a larger block.
     Larger(u8, Arc<[u8; 80]>),
     /// Flags and values that are longer than a larger block.
     Spelled(Arc<Vec<u8>>),
@@ -173,7 +173,7 @@ fn keep(alloc: Global, bytes: &[u8]) -> Result<Kept, AllocError>
 /// Properties, in the form in which they are kept.
 #[derive(Clone, Copy, Drop)]
 pub enum Form<'a> {
-    /// Flags and values, as a header has them after the size of the body.
+    /// Flags and values: the bytes that follow the size of the body in a content header.
     Spelled(&'a [u8]),
     /// Separate fields.
     Apart(&'a Fields),
@@ -181,12 +181,12 @@ pub enum Form<'a> {
 
 /// The properties of a content, in a value of 16 bytes. Clones share them, and there is no block if none is set.
 ///
-/// Properties that were read are kept as they were spelled, so they take no memory for those that are not set.
+/// Properties that were read are kept as the bytes of their header, so an unset one takes no memory.
 pub struct Properties {
     kept: Kept,
 }
 
-/// Written out, so that a drop is one call.
+/// Not derived: a derived drop is expanded, and proved again, in each function that drops the value.
 impl Drop for Properties {
     fn drop(self) {
         let Properties { kept: _ } = self;
@@ -230,7 +230,7 @@ impl Properties {
         }
     }
 
-    /// Returns the properties that `bytes`, flags and values, spell, and copies these. Fails only if an allocation fails.
+    /// Copies `bytes`, the flags and values of a header, and returns the properties that they spell. Fails only if an allocation fails.
     pub fn spelled(alloc: Global, bytes: &[u8]) -> Result<Properties, AllocError>
         requires { IsSpelling bytes.now }
         ensures { IfOk result (λ p. AreProperties p × (bytes.now ≡ properties_bytes p)) }
@@ -275,13 +275,13 @@ impl Properties {
     }
 }
 
-/// Properties and a body.
+/// The content of a message: its properties and its body.
 pub struct Content {
     pub properties: Properties,
     pub body: Body,
 }
 
-/// Written out, so that a drop is one call.
+/// Not derived: a derived drop is expanded, and proved again, in each function that drops the value.
 impl Drop for Content {
     fn drop(self) {
         let Content {

@@ -12,7 +12,7 @@ pub struct ChannelId {
     pub number: u16,
 }
 
-/// A delivery on a channel: unacknowledged, or settled before others that are not.
+/// A delivery on a channel. A settled one may stay in the channel's list for a while, with tag 0.
 ///
 /// Source: AMQP 0-9-1, section 3.1.8, "Acknowledgements".
 #[derive(Clone, Copy, PartialEq, Eq, Debug, Drop)]

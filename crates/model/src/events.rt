@@ -1,4 +1,4 @@
-//! What comes to the broker, and what it sends. Start with [`Event`] and [`Send`].
+//! The events that reach the broker, and what it sends. Start with [`Event`] and [`Send`].
 
 use crate::contents::Content;
 use crate::methods::{Method, Publish};
@@ -30,7 +30,7 @@ pub enum Command {
 
 /// What is sent to one connection.
 pub enum Send {
-    /// The eight bytes of the protocol header, which answer any other first eight bytes.
+    /// The eight bytes of the protocol header: the reply if the client's first eight bytes are not these.
     Greeting {
         connection: u64,
     },
@@ -43,7 +43,7 @@ pub enum Send {
     },
 }
 
-/// Written out, so that a drop is one call.
+/// Not derived: a derived drop is expanded, and proved again, in each function that drops the value.
 impl Drop for Send {
     fn drop(self) {
         match self {
@@ -110,7 +110,7 @@ pub enum Event {
     },
 }
 
-/// Written out, so that a drop is one call.
+/// Not derived: a derived drop is expanded, and proved again, in each function that drops the value.
 impl Drop for Event {
     fn drop(self) {
         match self {
@@ -156,7 +156,7 @@ pub enum Arrival<S> {
     Ready(u8),
     /// Bytes arrive from this connection.
     In(u64, Text),
-    /// This many bytes of this connection's output are taken, or all if there are fewer.
+    /// Of this connection's output this many bytes are taken, or all if there are fewer.
     Sent(u64, u64),
     /// One delivery is made, if any can be.
     Pump,

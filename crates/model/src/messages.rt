@@ -10,7 +10,7 @@ use std::alloc::{AllocError, Global};
 use std::marker::Model;
 use std::sync::Arc;
 
-/// The exchange and the key that a message was sent with.
+/// An exchange and a key with which a message was sent.
 #[derive(Drop)]
 struct Sent {
     exchange: Text,
@@ -18,7 +18,7 @@ struct Sent {
 }
 
 impl Sent {
-    /// Returns the same names, sharing their bytes.
+    /// Returns the same exchange and key, sharing their bytes.
     fn clone(&self) -> Result<Sent, AllocError>
         ensures { IfOk result (λ sent. sent ≡ self.now) }
     {
@@ -29,23 +29,23 @@ impl Sent {
     }
 }
 
-/// What a dead letter was sent with last, and its publish first.
+/// The exchanges and keys of a dead letter: those of its publish, and those with which it was sent last.
 #[derive(Drop)]
 struct Resent {
     first: Sent,
     last: Sent,
 }
 
-/// What the copies of a message were sent with.
+/// The exchanges and keys of a message, which all of its copies share.
 #[derive(Drop)]
 enum Sending {
     /// A publish, or a copy of it.
     Once(Sent),
-    /// A dead letter. Its names have a block of their own, so that a publish takes less memory.
+    /// A dead letter. Its exchanges and keys are in a separate block, so that a publish takes less memory.
     Again(Arc<Resent>),
 }
 
-/// Returns what the publish was sent with, also for a dead letter.
+/// Returns the exchange and key of the publish, also for a dead letter.
 fn first_sent(sending: &Sending) -> &Sent
     ensures { result.now ≡ Sharing.first_sent sending.now }
 {
@@ -55,7 +55,7 @@ fn first_sent(sending: &Sending) -> &Sent
     }
 }
 
-/// Returns what the message was sent with last.
+/// Returns the exchange and key with which the message was sent last.
 fn last_sent(sending: &Sending) -> &Sent
     ensures { result.now ≡ Sharing.last_sent sending.now }
 {
@@ -65,14 +65,14 @@ fn last_sent(sending: &Sending) -> &Sent
     }
 }
 
-/// What all copies of a publish share, or all copies of a dead letter.
+/// The part of a message that all copies of a publish share, or all copies of a dead letter.
 struct Shared {
     number: u64,
     sending: Sending,
     content: Content,
 }
 
-/// Written out, so that a drop is one call.
+/// Not derived: a derived drop is expanded, and proved again, in each function that drops the value.
 impl Drop for Shared {
     fn drop(self) {
         let Shared {
@@ -83,15 +83,15 @@ impl Drop for Shared {
     }
 }
 
-/// A publish in a queue, in a value of 16 bytes. All of its copies share its number, names, properties and body.
+/// A message, of a publish or a dead letter, in a value of 16 bytes. Its copies share its number, exchanges, keys, properties and body.
 pub struct Message {
     shared: Arc<Shared>,
     redelivered: bool,
-    /// It was in a queue when the last reload was done.
+    /// Whether the message was in a queue when a reload was done.
     stood: bool,
 }
 
-/// Written out, so that a drop is one call.
+/// Not derived: a derived drop is expanded, and proved again, in each function that drops the value.
 impl Drop for Message {
     fn drop(self) {
         let Message {
@@ -169,7 +169,7 @@ impl Message {
         }
     }
 
-    /// Returns what its dead letter is sent with, last and first.
+    /// Returns the exchanges and keys of the message's dead letter: the first are those of its publish, the last are `exchange` and `key`.
     fn resent(&self, alloc: Global, exchange: &Text, key: &Text) -> Result<Sending, AllocError>
         ensures first { IfOk result (λ sending. Sharing.first_sent sending ≡ record { exchange = self.now.first_exchange; key = self.now.first_key }) }
         ensures last { IfOk result (λ sending. Sharing.last_sent sending ≡ record { exchange = exchange.now; key = key.now }) }
@@ -226,7 +226,7 @@ impl Message {
         &first_sent(&self.shared.sending).exchange
     }
 
-    /// Returns the key of its publish.
+    /// Returns the key under which its publish was sent.
     pub fn first_key(&self) -> &Text
         ensures { result.now ≡ self.now.first_key }
     {
@@ -247,14 +247,14 @@ impl Message {
         self.redelivered
     }
 
-    /// Marks it as redelivered.
+    /// Marks the message as redelivered.
     pub fn redeliver(&mut self)
         ensures { self.new ≡ record self.old { redelivered = true } }
     {
         self.redelivered = true;
     }
 
-    /// Marks it as one that was in a queue when a reload was done.
+    /// Marks it as a message that was in a queue when a reload was done.
     pub fn stand(&mut self)
         ensures { self.new ≡ record self.old { stood = true } }
     {
@@ -294,7 +294,7 @@ pub struct Entry {
     pub mark: Mark,
 }
 
-/// Written out, so that a drop is one call.
+/// Not derived: a derived drop is expanded, and proved again, in each function that drops the value.
 impl Drop for Entry {
     fn drop(self) {
         let Entry {

@@ -239,7 +239,7 @@ pub enum Method {
     ConfirmSelectOk,
 }
 
-/// Written out, so that a drop is one call.
+/// Not derived: a derived drop is expanded, and proved again, in each function that drops the value.
 impl Drop for Method {
     fn drop(self) {
         match self {

@@ -75,7 +75,7 @@ pub enum Note {
     ReloadRefused(Obstacle),
 }
 
-/// Written out, so that a drop is one call.
+/// Not derived: a derived drop is expanded, and proved again, in each function that drops the value.
 impl Drop for Note {
     fn drop(self) {
         match self {

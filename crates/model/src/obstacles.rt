@@ -6,8 +6,8 @@ use crate::texts::Text;
 pub enum Obstacle {
     /// This queue has a message, or a consumer takes from it, and the new topology lacks it.
     InUse(Text),
-    /// In `queue` is a message that was first sent under `key`, and it could come by
-    /// deaths to a queue that the guarantee with this number, counted from 1, forbids it.
+    /// `queue` holds a message that was first sent under `key`, and dead letters could bring it
+    /// to a queue that guarantee number `guarantee`, counted from 1, forbids it.
     Breaks {
         queue: Text,
         key: Text,
@@ -15,7 +15,7 @@ pub enum Obstacle {
     },
 }
 
-/// Written out, so that a drop is one call.
+/// Not derived: a derived drop is expanded, and proved again, in each function that drops the value.
 impl Drop for Obstacle {
     fn drop(self) {
         match self {

@@ -1,6 +1,6 @@
 //! The sizes in bytes of values that are passed about or kept in great numbers, proved.
 //!
-//! Whatever is large is kept once, behind a shared pointer: what is passed by value is copied at each call.
+//! A large value is kept once, behind a shared pointer, since a value that is passed is copied at each call.
 
 use crate::bodies::Body;
 use crate::contents::{Content, Properties};

@@ -6,7 +6,7 @@ use crate::texts::Text;
 use std::alloc::AllocError;
 use std::marker::Model;
 
-/// A field table, as contracts see it the bytes of its pairs: name, type letter and value of each, without the length before them.
+/// A field table. Contracts see it as the bytes of its pairs: the name, type letter and value of each, without the table's length.
 ///
 /// Source: AMQP 0-9-1, section 4.2.5.5, "Field Tables".
 #[derive(Drop)]
@@ -32,7 +32,7 @@ impl Table {
         }
     }
 
-    /// Returns the table with these pairs. They may be any bytes; what spells no pairs is no table on the wire.
+    /// Returns the table whose pairs are the bytes `pairs`, which are not checked: bytes that encode no pairs make no table on the wire.
     pub fn from_pairs(pairs: Text) -> Table
         ensures { result ≡ pairs }
     {

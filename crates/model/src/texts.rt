@@ -1,4 +1,4 @@
-//! Names and keys as byte strings that are shared, or so short that a copy costs less; and the words of topic patterns.
+//! Names and keys as byte strings, of which long ones are shared and short ones copied; and the words of topic patterns.
 
 ghost use Rattle.std.specs.Prelude.{◌≡◌, ◌≤◌, [], length, take, IfOk, IfErr};
 
@@ -15,7 +15,7 @@ const MOST_SHORT: usize = 22;
 enum Kept {
     /// In a block that all clones share.
     Shared(Arc<Vec<u8>>),
-    /// In the text itself: the length, and an array whose first bytes these are.
+    /// In the text itself: the length, and an array that begins with the bytes.
     Short(u8, [u8; 22]),
 }
 
@@ -24,7 +24,7 @@ pub struct Text {
     kept: Kept,
 }
 
-/// Written out, so that a drop is one call.
+/// Not derived: a derived drop is expanded, and proved again, in each function that drops the value.
 impl Drop for Text {
     fn drop(self) {
         let Text { kept: _ } = self;

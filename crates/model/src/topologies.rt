@@ -27,7 +27,7 @@ pub struct Exchange {
     pub kind: ExchangeKind,
     /// Clients may not publish to it.
     pub internal: bool,
-    /// The exchange to which a message goes that no binding lets pass. Source: RabbitMQ, "Alternate Exchanges".
+    /// The exchange to which a message goes if no binding lets it pass. Source: RabbitMQ, "Alternate Exchanges".
     pub alternate: Option<Text>,
 }
 
@@ -53,11 +53,11 @@ pub struct Binding {
     pub key: Text,
 }
 
-/// What a guarantee promises of its queue.
+/// The kind of a guarantee: what it promises about its queue.
 #[derive(Clone, Copy, PartialEq, Eq, Debug, Drop)]
 pub enum Mode {
     /// Every covered key is routed to it.
     Reaches,
-    /// No covered key ever comes to it, dead letters included.
+    /// No message with a covered key ever reaches the queue, not even as a dead letter.
     Never,
 }

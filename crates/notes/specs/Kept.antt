@@ -2,7 +2,7 @@
 use Rattle.std.specs.Prelude.{Bool, Vec}
 use Rattle.model.specs.declared.notes.Note.{Note}
 
--- a vector of notes; in the place of an allocator it says whether they are kept
+-- a vector of notes, whose `alloc` says whether the notes are kept
 abbrev pub Noted : Type 0
 Noted = Vec Note Bool
 

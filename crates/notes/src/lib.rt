@@ -1,4 +1,4 @@
-//! The notes of a step, kept for a reader or only told to the contracts. Start with [`Notes`].
+//! The notes of a step, kept for a reader or visible only to contracts. Start with [`Notes`].
 #![tactic(auto)]
 
 mod notes;

@@ -10,7 +10,7 @@ use model::Note;
 use std::alloc::{AllocError, Global};
 use std::marker::Model;
 
-/// The notes in their order, kept for a reader or only told to the contracts.
+/// The notes in their order, kept for a reader or visible only to contracts.
 #[derive(Drop)]
 pub enum Held {
     Kept(Vec<Note>),
@@ -33,7 +33,7 @@ impl Model for Notes {
     ghost view = { λ n. elim n.held [ Kept v ↦ noted v true | Told v ↦ noted v false ] };
 }
 
-/// Sets the number of a note that a message left its queue. Any other note stays as it is.
+/// Sets the message number of `note` if it is [`Note::Left`]. Any other note stays as it is.
 fn set_number(note: &mut Note, number: u64)
     ensures { note.new ≡ numbered number note.old }
 {
@@ -53,7 +53,7 @@ impl Notes {
         }
     }
 
-    /// Returns an empty list that keeps no note. Never allocates.
+    /// Returns an empty list that drops each note appended to it. Never allocates.
     pub fn untold(alloc: Global) -> Notes
         ensures items { result.items ≡ [] }
         ensures kept { are_kept result ≡ false }
@@ -76,6 +76,22 @@ impl Notes {
         match &mut self.held {
             Held::Kept(notes) => notes.reserve_exact(additional),
             Held::Told(notes) => notes.reserve_exact(additional),
+        }
+    }
+
+    /// Reserves capacity for `additional` more notes, and for some beyond, so that many calls copy each note only a few times. Fails only if
+    /// the allocation fails. If nobody keeps the notes, it allocates one block of no bytes.
+    pub fn reserve(&mut self, additional: usize) -> Result<(), AllocError>
+        ensures items { self.new.items ≡ self.old.items }
+        ensures len { vec_len self.new ≡ vec_len self.old }
+        ensures ok { OnOk result (vec_len self.new + additional ≤ vec_capacity self.new) }
+        ensures capacity { vec_capacity self.old ≤ vec_capacity self.new }
+        ensures full { OnErr result (vec_capacity self.old < vec_len self.old + additional) }
+        ensures kept { are_kept self.new ≡ are_kept self.old }
+    {
+        match &mut self.held {
+            Held::Kept(notes) => notes.reserve(additional),
+            Held::Told(notes) => notes.reserve(additional),
         }
     }
 
@@ -121,7 +137,7 @@ impl Notes {
         }
     }
 
-    /// Sets the number of the note at `index`, and that of `note`. The note there equals `note` with number 0.
+    /// Sets the message number of `note`, and of its copy in the list at `index`. The copy has number 0 before, and is otherwise equal to `note`.
     pub fn set_number(&mut self, index: usize, note: &mut Note, number: u64)
         requires { slice_get self.old.items index ≡ Some (numbered 0 note.old) }
         ensures items { self.new.items ≡ set self.old.items index (numbered number note.old) }

@@ -21,7 +21,7 @@ impl Model for Untold {
 }
 
 impl Untold {
-    /// Returns `note` as one that nobody keeps.
+    /// Returns an `Untold` in place of `note`: contracts still see the note, and nothing of it is stored.
     pub(crate) fn of(note: &Note) -> Untold
         ensures { result ≡ note.now }
     {

@@ -1,4 +1,4 @@
--- The frames of a content, as they are put out.
+-- The frames that a content is sent in: its header and its body.
 use Rattle.std.specs.Prelude.{◌-◌, ℕ, List, length, map, flat_map}
 use Rattle.model.specs.Frames.{Frame, frame_bytes}
 use Rattle.model.specs.Headers.{header_bytes}

@@ -11,7 +11,7 @@ use model::{Content, Method};
 use std::alloc::{AllocError, Global};
 use std::marker::Model;
 
-/// A buffer for the payload of a method or of a header that fits the least frame. It is reused for each.
+/// A reusable buffer for the payload of one method or one content header, which fits a frame of the least size, 4,096 bytes.
 #[derive(Drop)]
 pub struct Scratch {
     bytes: Vec<u8>,
@@ -37,7 +37,7 @@ impl Scratch {
         })
     }
 
-    /// Encodes `method` in place of the contents.
+    /// Replaces the bytes in the buffer by the encoding of `method`.
     pub(crate) fn spell(&mut self, method: &Method)
         requires fits { IsMethod method.now }
         requires size { length (method_bytes method.now) ≤ 4088 }
@@ -46,7 +46,7 @@ impl Scratch {
         spell_into(&mut self.bytes, method);
     }
 
-    /// Encodes the header of `content` in place of the contents.
+    /// Replaces the bytes in the buffer by the encoding of the header of `content`.
     pub(crate) fn spell_header(&mut self, content: &Content)
         requires { IsStored content.now }
         ensures { self.new ≡ header_bytes (length content.now.body) content.now.properties }
@@ -54,7 +54,7 @@ impl Scratch {
         header_into(&mut self.bytes, content);
     }
 
-    /// Returns what was encoded last.
+    /// Returns the method or header that was encoded last.
     pub(crate) fn bytes(&self) -> &[u8]
         ensures { result.now ≡ self.now }
     {

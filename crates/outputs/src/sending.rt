@@ -5,7 +5,7 @@ ghost use Rattle.std.specs.List.{AllByRecursion};
 ghost use Rattle.model.specs.Frames.{frame_bytes};
 ghost use Rattle.model.specs.Grammar.{IsMethod, method_bytes};
 ghost use Rattle.model.specs.Spelling.{method_frame, content_frames, send_bytes, spelling, receiver, IsSpelled};
-ghost use Rattle.model.specs.Sending.{IsStored, HasStored, IsOwn, AreOwn, most_sent};
+ghost use Rattle.model.specs.Sending.{IsStored, HasStored, IsOwn, AreOwn};
 ghost use Rattle.outputs.specs.Waiting.{PutsBytes};
 ghost use Rattle.outputs.specs.Sending.{header_frame, body_bytes};
 
@@ -131,13 +131,13 @@ fn put_each(c: u64, output: &mut Output, scratch: &mut Scratch, max: u32, sends:
     }
 }
 
-/// Appends all that is sent to connection `c` at one event to `output`, in frames of at most `max` bytes. There is capacity for it. Never
-/// allocates.
+/// Appends `sends`, all that one event sends to connection `c`, to `output`, in frames of at most `max` bytes. Never allocates: the
+/// capacity was reserved before ([`crate::Spares::make_room`]).
 pub fn put_sends(c: u64, output: &mut Output, scratch: &mut Scratch, max: u32, sends: &[Send])
     // What the caller knows: the sends are this connection's, and there is capacity for them.
     requires own { AreOwn c sends.now }
     requires max { 4096 ≤ max }
-    requires room { most_sent ≤ output.old.room }
+    requires room { length (spelling max sends.now) ≤ output.old.room }
     // The promise: their frames are appended.
     ensures bytes { output.new.bytes ≡ output.old.bytes ++ spelling max sends.now }
     ensures spelled { AllByRecursion (IsSpelled max) sends.now }

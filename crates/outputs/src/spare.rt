@@ -1,11 +1,10 @@
 //! A storage that no output holds.
 
-ghost use Rattle.std.specs.Prelude.{◌≡◌, ◌≤◌, vec_capacity};
-ghost use Rattle.model.specs.Sending.{most_sent};
+ghost use Rattle.std.specs.Prelude.{◌≡◌, vec_capacity};
 
 use std::marker::Model;
 
-/// A storage that no output holds. It has capacity for what one event sends. Contracts see how many had come back when it did.
+/// A storage that no output holds. Contracts see its size, and how many had come back when it did.
 #[derive(Drop)]
 pub(crate) struct Spare {
     storage: Vec<u8>,
@@ -13,35 +12,32 @@ pub(crate) struct Spare {
 }
 
 impl Model for Spare {
-    ghost use Rattle.std.specs.Prelude.{◌≤◌, ℕ, vec_capacity};
-    ghost use Rattle.model.specs.Sending.{most_sent};
+    ghost use Rattle.std.specs.Prelude.{vec_capacity};
+    ghost use Rattle.outputs.specs.Storages.{Storage};
 
-    ghost Value = { ℕ };
+    ghost Value = { Storage };
 
-    ghost view = { λ s. s.since };
-
-    ghost invariant = { λ s. most_sent ≤ vec_capacity s.storage };
+    ghost view = { λ s. record { since = s.since; bytes = vec_capacity s.storage } };
 }
 
 impl Spare {
-    /// Returns `storage` as one that came back when `since` had.
+    /// Makes a spare storage of `storage`, which became spare when `since` storages had come back.
     pub(crate) fn new(storage: Vec<u8>, since: u64) -> Spare
-        requires { most_sent ≤ vec_capacity storage }
-        ensures { result ≡ since }
+        ensures { result ≡ record { since = since; bytes = vec_capacity storage } }
     {
         Spare { storage, since }
     }
 
-    /// Returns how many had come back when it did.
+    /// Returns how many storages had come back when this one became spare.
     pub(crate) fn since(&self) -> u64
-        ensures { result ≡ self.now }
+        ensures { result ≡ self.now.since }
     {
         self.since
     }
 
     /// Returns the storage.
     pub(crate) fn into_storage(self) -> Vec<u8>
-        ensures { most_sent ≤ vec_capacity result }
+        ensures { vec_capacity result ≡ self.bytes }
     {
         let Spare { storage, since: _ } = self;
         storage

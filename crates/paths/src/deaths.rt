@@ -53,7 +53,7 @@ fn all_fronts(alloc: Global, topology: &Topology) -> Result<Vec<Option<Explored>
     Ok(fronts)
 }
 
-/// Returns the front at this index.
+/// Returns the entry of `fronts` at index `at`.
 fn front_at(fronts: &[Option<Explored>], at: usize) -> Option<&Explored>
     requires { at < length fronts.now }
     ensures some { IfSome result (λ explored. slice_get fronts.now at ≡ Some (Some explored.now)) }

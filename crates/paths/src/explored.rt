@@ -9,7 +9,7 @@ use exchange_graph::Topology;
 use std::alloc::{AllocError, Global};
 use std::marker::Model;
 
-/// What a message reaches under one key. [`Leading::leads`](crate::Leading::leads) tells from it whether the message ever reaches a queue.
+/// What a message reaches under one key. [`Leading::leads`](crate::Leading::leads) finds from it whether the message ever reaches a queue.
 #[derive(Drop)]
 pub struct Explored {
     visits: Vec<Visit>,

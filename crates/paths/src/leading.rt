@@ -34,7 +34,7 @@ impl Model for Leading {
     ghost view = { λ l. l.marks.items };
 }
 
-/// Returns the index of the queue that set the key of `stand`; or, if `stand` is in `queue`, the number of all queues.
+/// Returns the index of the queue that set the key of `stand`. If none did, returns the number of all queues for a stand in `queue`, otherwise `None`.
 fn source_of(topology: &Topology, queue: &[u8], stand: Stand) -> Option<usize>
     requires { IsStandThere topology.now stand }
     ensures { IsSource topology.now queue.now stand result }
@@ -100,8 +100,8 @@ fn link_queue(
     }
 }
 
-/// Returns the links between queues with keys of their own, each from one to another whose dead letters reach it. The number of all queues
-/// is the index of `queue`, which is asked for.
+/// Returns the links between queues with a dead-letter key of their own. A link from one queue to another says that dead letters of the second
+/// reach the first, die there and get its key. The index of `queue` itself is the number of all queues here.
 fn all_links(
     alloc: Global,
     topology: &Topology,
@@ -153,7 +153,7 @@ impl Leading {
         Leading::by(alloc, topology, &deaths, queue)
     }
 
-    /// Finds what leads to `queue` from what dead letters reach. Fails only if an allocation fails.
+    /// Finds what leads to `queue`, using `deaths`, which has what dead letters reach. Fails only if an allocation fails.
     pub fn by(
         alloc: Global,
         topology: &Topology,
@@ -169,7 +169,7 @@ impl Leading {
         Ok(Leading { marks })
     }
 
-    /// Returns whether dead letters of the queue at `index`, which has a key of its own, ever reach the queue.
+    /// Returns whether dead letters of the queue at `index`, which has a key of its own, ever reach the queue for which `self` was found.
     pub fn has(&self, index: usize) -> bool
         ensures { (t : Seen) (q x k : Text) → AreLeading t q self.now → Refixes t index x k → Decides result (Comes t (of_key k) None x q) }
     {
@@ -179,7 +179,7 @@ impl Leading {
         }
     }
 
-    /// Returns whether a message that reaches what was explored ever reaches `queue`, for which this was found.
+    /// Returns whether the message whose way was explored ever reaches `queue`, the queue for which `self` was found.
     pub fn leads(&self, topology: &Topology, explored: &Explored, queue: &[u8]) -> bool
         requires leading { AreLeading topology.now queue.now self.now }
         requires explored { IsExploration topology.now explored.now }
@@ -188,7 +188,7 @@ impl Leading {
         some_leads(topology, queue, explored.visits(), self.marks.as_slice())
     }
 
-    /// Returns whether what is sent to `exchange` under `key` ever reaches `queue`, for which this was found. Fails only if an allocation fails.
+    /// Returns whether what is sent to `exchange` under `key` ever reaches `queue`, the queue for which `self` was found. Fails only if an allocation fails.
     pub fn comes(
         &self,
         alloc: Global,

@@ -1,7 +1,7 @@
 //! Paths of names by which a message reaches a queue, its dead letters included, and what leads to a queue. Start with [`find_path`] and [`Leading`].
 //!
 //! A message is at an exchange or in a queue, under the key that it was sent with or one that a queue set. A path is searched breadth first
-//! from the exchange up to the queue that is asked for. For what leads to a queue each key that a queue sets is explored once ([`Deaths`]).
+//! from the exchange up to the queue. To find what leads to a queue, each key that a queue sets is explored once ([`Deaths`]).
 #![tactic(auto)]
 
 mod deaths;

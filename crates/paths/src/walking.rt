@@ -11,7 +11,7 @@ use exchange_graph::Topology;
 use model::{DeclaredQueue, Text};
 use std::alloc::{AllocError, Global};
 
-/// Adds where a message is one edge after exchange `name`, if that is at `next`.
+/// Adds the places of a message at `next` that are one edge after the exchange `name`.
 fn go_on(
     topology: &Topology,
     alloc: Global,
@@ -48,7 +48,7 @@ fn dead_key(queue: &DeclaredQueue, key: &Text) -> Result<Text, AllocError>
     }
 }
 
-/// Adds where a message is once it dies in queue `name`, if that is at `next`.
+/// Adds the place of a message at `next` after it died in the queue `name`, if `next` is that queue's dead-letter exchange.
 fn die(
     topology: &Topology,
     name: &[u8],
@@ -70,7 +70,7 @@ fn die(
     )
 }
 
-/// Adds where a message is one step after `stand`, if that is at `next`.
+/// Adds the places of a message at `next` that are one step after `stand`.
 fn step(
     topology: &Topology,
     alloc: Global,
@@ -87,7 +87,7 @@ fn step(
     }
 }
 
-/// Returns where a message may be at name `next`, one step after one of `stands`.
+/// Returns the places of a message at the name `next` that are one step after one of `stands`.
 fn advance(
     topology: &Topology,
     alloc: Global,

@@ -56,7 +56,7 @@ impl Files for OpenDisk {
     }
 }
 
-/// Checks that these words print `printed` and no complaint, with status 0.
+/// Checks that the program, run with `words`, prints `printed` and no complaint, with status 0.
 fn expect_printed(
     alloc: Global,
     disk: &mut OpenDisk,
@@ -101,7 +101,7 @@ pub(crate) fn certificates_that_are_written_are_accepted(alloc: Global) -> Resul
 /// The number of states of the large certificate.
 const STATES: u32 = 8_192;
 
-/// Its length in a file, in bytes: 82 before its states, 2 after them, and in between 321 for each, with a comma between two.
+/// The length of the large certificate in a file, in bytes: 82 before its states, 2 after them, and in between 321 for each, with a comma between two.
 const LARGE: u64 = 2_637_907;
 
 /// Returns a certificate of 8,192 states with 64 numbers of four digits.

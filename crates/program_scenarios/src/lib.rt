@@ -40,7 +40,7 @@ fn tell_streams(sums: &mut Sums, rt: &HostRuntime) -> io::Result<()> {
     )
 }
 
-/// Runs the scenarios of `serve` as the program does it.
+/// Runs the scenarios of the command `serve`, over sockets of the system.
 fn tell_services(sums: &mut Sums, rt: &HostRuntime) -> io::Result<()> {
     let alloc = rt.alloc();
     sums.tell(

@@ -9,10 +9,10 @@ use std::fs;
 /// The name of the file that is written.
 const WRITTEN: &str = "a_long_file_that_was_written";
 
-/// Its length in bytes.
+/// The length of the file in bytes.
 const LENGTH: usize = 100_000;
 
-/// Returns its bytes, which repeat after 251, a prime: so no two parts that begin at powers of two are equal.
+/// Returns the bytes of the file. They repeat after 251, a prime, so no two parts that begin at powers of two are equal.
 fn long_text(alloc: Global) -> Result<Vec<u8>, AllocError> {
     let mut bytes = vec![in alloc; 0u8; LENGTH]?;
     for (place, byte) in bytes.iter_mut().enumerate() {

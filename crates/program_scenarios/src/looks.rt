@@ -33,7 +33,7 @@ const TO_AUDIT: &[u8] =
 const TO_STOCK: &[u8] =
     b"],\"bindings\":[{\"source\":\"orders\",\"vhost\":\"/\",\"destination\":\"stock\",\"destination_type\":\"queue\",\"routing_key\":\"new\",\"arguments\":{}}]}";
 
-/// The queue `audit`, with another after it. Messages rejected in it are dead-lettered to `stock`.
+/// The queue `audit`, followed by a comma, for one more queue. Messages rejected in `audit` are dead-lettered to `stock`.
 const DYING_AUDIT: &[u8] =
     b"{\"name\":\"audit\",\"vhost\":\"/\",\"durable\":true,\"auto_delete\":false,\"arguments\":{\"x-dead-letter-exchange\":\"\",\"x-dead-letter-routing-key\":\"stock\"}},";
 
@@ -95,14 +95,14 @@ const UNCERTIFIED: Version = Version {
     certificates: NO_CERTIFICATES,
 };
 
-/// The same with its certificate, and without the queue `audit`.
+/// `orders` routes to `stock`, as is guaranteed and certified, and there is no queue `audit`.
 const WITHOUT_AUDIT: Version = Version {
     definitions: &[FRONT, STOCK, TO_STOCK],
     guarantees: GUARANTEES,
     certificates: CERTIFICATES,
 };
 
-/// The same with the queue `audit`.
+/// `orders` routes to `stock`, as is guaranteed and certified, and there is a queue `audit`.
 const REPLACED: Version = Version {
     definitions: &[FRONT, AUDIT, STOCK, TO_STOCK],
     guarantees: GUARANTEES,
@@ -165,7 +165,7 @@ impl Files for Replaced {
     }
 }
 
-/// Joins these pieces.
+/// Joins `pieces`.
 fn all_of(alloc: Global, pieces: &[&[u8]]) -> Result<Vec<u8>, AllocError> {
     let mut bytes = Vec::new(alloc);
     for piece in pieces {
@@ -284,8 +284,8 @@ fn answer(alloc: Global, old: u64) -> Result<Vec<u8>, AllocError> {
     Ok(answer)
 }
 
-/// Serves the client over these files, with this stream as standard error, and returns the status.
-/// Checks the number of reads of the definitions, and that the first `old` publishes reached `audit`, and those after them `stock`.
+/// Serves the client over the files `versions`, with `err` as standard error, and returns the status. Checks that the definitions were read `reads` times,
+/// and that the first `old` publishes reached `audit`, and those after them `stock`.
 fn serve_over<E: Write>(
     alloc: Global,
     versions: &'static [Version],
@@ -334,7 +334,7 @@ const FITTING_IN_THE_END: &[Version] = &[
     BROKEN_OFF,
     // the second finds what was refused
     BROKEN_OFF,
-    // the third and the fourth compare them twice, and read them
+    // the third and the fourth look compare the definitions twice, and read them
     UNCERTIFIED,
     UNCERTIFIED,
     UNCERTIFIED,
@@ -345,7 +345,8 @@ const FITTING_IN_THE_END: &[Version] = &[
     WITHOUT_AUDIT,
 ];
 
-/// The number of reads of the definitions then: as above, and three at the sixth look, which also compares them with what was admitted.
+/// The number of reads of the definitions over [`FITTING_IN_THE_END`]: those listed there, and three at the sixth look, which also compares
+/// them with what was admitted.
 const READS_IN_THE_END: u64 = 14;
 
 /// The number of publishes before the sixth look, which is after the twelfth round.
@@ -369,7 +370,7 @@ pub(crate) fn files_that_do_not_fit_are_told_at_each_look(alloc: Global) -> Resu
     )
 }
 
-/// Checks that the client is served also if these lines can't be written, and that the status is 4 then.
+/// Checks that the client is served also if the lines about the looks can't be written, and that the status is 4 then.
 pub(crate) fn looks_whose_lines_are_not_taken_have_status_four(alloc: Global) -> Result<(), Unmet> {
     let status = serve_over(
         alloc,
@@ -384,8 +385,8 @@ pub(crate) fn looks_whose_lines_are_not_taken_have_status_four(alloc: Global) ->
 /// Files that are put in force at the second look. The first compares them once, and reads them.
 const FITTING_AT_THE_SECOND: &[Version] = &[STARTED, FORBIDDING, FORBIDDING];
 
-/// The number of reads of the definitions then: as above; three at the second look, which also compares them with what was admitted at the
-/// first; and one at each of the four after it.
+/// The number of reads of the definitions over [`FITTING_AT_THE_SECOND`]: those listed there; three at the second look, which also compares
+/// them with what was admitted at the first; and one at each of the four looks after it.
 const READS_FROM_THE_SECOND: u64 = 10;
 
 /// The number of publishes before the second look, which is after the fourth round.

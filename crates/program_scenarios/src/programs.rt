@@ -15,7 +15,7 @@ struct Outcome {
     err: Vec<u8>,
 }
 
-/// Runs the program with these words, over the files and the sockets of the machine.
+/// Runs the program with `words`, over the files and the sockets of the machine.
 fn run(rt: &HostRuntime, words: &[&str]) -> Outcome {
     let alloc = rt.alloc();
     let mut out: Vec<u8> = Vec::new(alloc);
@@ -30,7 +30,7 @@ fn run(rt: &HostRuntime, words: &[&str]) -> Outcome {
     }
 }
 
-/// Checks that these words lead to this status, output and complaint.
+/// Checks that the program, run with `words`, ends with `status` and writes `out` and the complaint `err`.
 fn expect_run(
     rt: &HostRuntime,
     words: &[&str],
@@ -47,7 +47,7 @@ fn expect_run(
 /// Definitions with a topic exchange, which routes `orders` and `orders.*.#` to the queue `audit`.
 const TWO_KEYS: &str = "definitions/two_keys.json";
 
-/// The same without the binding key `orders`.
+/// [`TWO_KEYS`] without the binding key `orders`.
 const ONE_KEY: &str = "definitions/one_key.json";
 
 /// The guarantee that each key that `orders.#` matches reaches `audit`.
@@ -59,7 +59,7 @@ const NO_FILE: &str = "definitions/nowhere.json";
 /// The name of the file that is written.
 const WRITTEN: &str = "certificates_that_were_written.json";
 
-/// The bytes that are written to it: the certificate with the five states that docs/FORMATS.md derives.
+/// The bytes that are written to [`WRITTEN`]: the certificate with the five states that docs/FORMATS.md derives.
 const CERTIFICATES: &[u8] =
     b"[{\"exchange\":\"X\",\"form\":1,\"mode\":\"reaches\",\"pattern\":\"orders.#\",\"queue\":\"audit\",\"states\":[[0,0,0],[1,1,1],[4,0,8],[4,0,12],[6,2,2]]}]";
 
@@ -144,7 +144,7 @@ pub(crate) fn each_status_comes_of_files_of_the_machine(rt: &HostRuntime) -> Res
     expect_run(rt, unread.as_slice(), 4, b"", told)
 }
 
-/// Returns the words that ask to serve these files at this address for three rounds, with a look at them after each but the last.
+/// Returns the words that ask to serve at `address` for three rounds, with a look at the files after each but the last.
 fn words_to_serve(address: &str) -> [&str; 11] {
     [
         "warren", "serve", TWO_KEYS, ORDERS, WRITTEN, "--listen", address, "--turns", "3",

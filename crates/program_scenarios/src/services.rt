@@ -15,7 +15,7 @@ use std::io;
 use std::io::{Read as _, Write, Write as _};
 use std::net::{Net, SocketAddr, TcpStream};
 
-/// Opens sockets of the system, to which a client connects at once that writes an opening and a publish.
+/// Opens sockets of the system. A client connects to them at once, and writes an opening and a publish.
 #[derive(Drop)]
 struct Visited<N: Net> {
     net: N,
@@ -24,7 +24,7 @@ struct Visited<N: Net> {
     asked: u64,
 }
 
-/// Connects a client to these sockets, which writes everything at once.
+/// Connects a client to `sockets`. It writes everything at once.
 fn visit<N: Net>(net: &N, alloc: Global, sockets: &Sockets) -> Result<N::Stream, Unmet> {
     let address = value_of("Sockets::local_addr", sockets.local_addr())?;
     let mut client = value_of("TcpStream::connect", TcpStream::connect(net, address))?;
@@ -51,7 +51,7 @@ impl<N: Net> Listener for Visited<N> {
     }
 }
 
-/// Returns the words that ask to serve this definitions file at this address, for 16 rounds.
+/// Returns the words that ask to serve the file `definitions` at `address`, for 16 rounds.
 fn words(alloc: Global, definitions: &str, address: &str) -> Result<Vec<String>, Unmet> {
     let mut words = Vec::new(alloc);
     for word in [
@@ -82,7 +82,7 @@ struct ServeOutcome<N: Net> {
     err: Vec<u8>,
 }
 
-/// Calls the program to serve this definitions file at this address.
+/// Calls the program to serve the file `definitions` at `address`.
 fn serve<'a, N: Net, O: Write>(
     net: &'a N,
     alloc: Global,
@@ -113,7 +113,7 @@ fn serve<'a, N: Net, O: Write>(
     })
 }
 
-/// Checks that no client was served, with this status, and that sockets were requested `asked` times.
+/// Checks that no client was served, that the program ended with `status`, and that sockets were requested `asked` times.
 fn expect_unserved<N: Net>(served: &ServeOutcome<N>, status: u64, asked: u64) -> Result<(), Unmet> {
     expect_number("the status", u64::from(served.ended.status), status)?;
     expect("no client was served", served.ended.service.is_none())?;

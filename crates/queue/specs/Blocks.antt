@@ -10,7 +10,7 @@ use Rattle.model.specs.declared.messages.Holder.{Holder}
 use Rattle.marks.specs.Places.{bit_of}
 use Rattle.queue.specs.Slots.{num, tally, SlotBits, HavePlaces}
 
--- a block: its entries, how many pushes into it need no memory, and how many slots it keeps
+-- a block: its entries, the number of pushes into it that need no allocation, and its number of slots
 pub record Stretch : Type 0 where
   pub entries : List Entry
   pub room : ℕ
@@ -45,7 +45,7 @@ is_in_use b = nat_lt 0 (length b.entries) || nat_lt 0 b.room
 abbrev pub stood_block : Stretch → Stretch
 stood_block b = record { entries = map stood_now b.entries; room = b.room; slots = b.slots }
 
--- a block with nothing
+-- a block without entries and slots
 abbrev pub no_stretch : Stretch
 no_stretch = record { entries = []; room = 0; slots = 0 }
 
@@ -57,7 +57,7 @@ block_at blocks place = get_or blocks place no_stretch
 abbrev pub IsHeld : Stretch → Type 0
 IsHeld b = 0 < length b.entries
 
--- the block holds a message if it keeps slots
+-- the block has a message if it has slots
 abbrev pub IsFilled : Stretch → Type 0
 IsFilled b = 0 < b.slots → IsHeld b
 
@@ -71,18 +71,18 @@ pub record FitInOne (a b : Stretch) : Type 0 where
   pub some : IsHeld a
   pub wide : length a.entries + length b.entries ≤ a.slots
 
--- the same for the block at index `i` and the next
+-- the messages of the block at index `i` and of the next one need both blocks (`NeedBoth`)
 abbrev pub NeedBothAt : List Stretch → ℕ → Type 0
 NeedBothAt blocks i = NeedBoth (block_at blocks i) (block_at blocks (i + 1))
 
--- No block keeps more slots than so many, and each but the last holds a message if it keeps any. No two neighbours with
--- messages fit into the first of them, unless the second is the last.
+-- No block has more than `most` slots, and each but the last has a message if it has slots. If a block has messages and the next one is
+-- not the last, the messages of the two need both blocks (`NeedBoth`).
 pub record AreFilled (most : ℕ) (blocks : List Stretch) : Type 0 where
   pub narrow : (i : ℕ) → (block_at blocks i).slots ≤ most
   pub filled : (i : ℕ) → i + 1 < length blocks → IsFilled (block_at blocks i)
   pub needed : (i : ℕ) → i + 2 < length blocks → IsHeld (block_at blocks i) → NeedBothAt blocks i
 
--- The same, except for the block at index `place` and its neighbours, for which it would be true with one more message in that block.
+-- As `AreFilled`, except that what it says of the block at index `place` and its neighbours would only hold with one more message in that block.
 pub record AreFilledBut (place most : ℕ) (blocks : List Stretch) : Type 0 where
   pub narrow : (i : ℕ) → (block_at blocks i).slots ≤ most
   pub filled : (i : ℕ) → i + 1 < length blocks → (i ≡ place → ⊥) → IsFilled (block_at blocks i)
@@ -112,13 +112,13 @@ pub record IsPair (place first : ℕ) (blocks : List Stretch) : Type 0 where
   pub near : ((first ≡ place) × (place + 2 < length blocks)) ⊎ (first + 1 ≡ place)
   pub fit : FitInOne (block_at blocks first) (block_at blocks (first + 1))
 
--- Unless it ends with the last block, each pair of the block at index `place` and a neighbour needs both blocks (`NeedBoth`), if the first of the pair has
--- messages.
+-- The messages of the block at index `place` and of each of its neighbours need both blocks (`NeedBoth`), if the first of the two has
+-- messages and the second is not the last block.
 pub record AreNeeded (place : ℕ) (blocks : List Stretch) : Type 0 where
   pub before : (i : ℕ) → i + 1 ≡ place → IsHeld (block_at blocks i) → NeedBothAt blocks i
   pub here : place + 2 < length blocks → IsHeld (block_at blocks place) → NeedBothAt blocks place
 
--- The block at index `place` has the entries of the next one, too, which is removed.
+-- `new` is `old` with the entries of the block after index `place` moved to the block at `place`, and the emptied block removed.
 pub record AreJoined (place : ℕ) (old new : List Stretch) : Type 0 where
   pub len : length new + 1 ≡ length old
   pub before : (i : ℕ) → i < place → block_at new i ≡ block_at old i
@@ -147,7 +147,7 @@ pub record IsTooMuch (more : ℕ) (b : Stretch) : Type 0 where
   pub past : 1024 < length b.entries * 2 + more
   pub wide : b.slots < length b.entries * 2 + more
 
--- the block has slots for `more` messages and for twice as many as it has
+-- the block has slots for twice the messages that it holds, and for `more` besides
 abbrev pub HasSlots : ℕ → Stretch → Type 0
 HasSlots more b = length b.entries * 2 + more ≤ b.slots
 
@@ -161,7 +161,7 @@ pub record LastFits (more : ℕ) (blocks : List Stretch) : Type 0 where
 abbrev pub LastHasTooMuch : ℕ → List Stretch → Type 0
 LastHasTooMuch more blocks = (i : ℕ) → i + 1 ≡ length blocks → IsTooMuch more (block_at blocks i)
 
--- There is a last block, and it has slots for `more` messages.
+-- There is a last block, and it has slots for twice the messages that it holds, and for `more` besides (`HasSlots`).
 pub record LastHasSlots (more : ℕ) (blocks : List Stretch) : Type 0 where
   pub place : ℕ
   pub last : place + 1 ≡ length blocks
@@ -185,7 +185,7 @@ room_after room (b ∷ bs) = room_after b.room bs
 abbrev pub last_room : List Stretch → ℕ
 last_room blocks = room_after 0 blocks
 
--- The last block and the spare ones have the promised room, and none of the spare ones is superfluous. `room` and `live` together can be counted in 64 bits.
+-- The last block, with room `last`, and the spare blocks have the promised `room`, which needs all of them. `room` plus `live` fits in 64 bits.
 pub record HasRoom (room last spares live : ℕ) : Type 0 where
   pub there : room ≤ last + spares * 1024
   pub needed : 0 < spares → last + spares * 1024 < room + 1024
@@ -201,11 +201,11 @@ pub record IsWhole (b : Stretch) : Type 0 where
 abbrev pub AreWhole : List Stretch → Type 0
 AreWhole blocks = All IsWhole blocks
 
--- if there were bits for `n` further blocks, there still are
+-- if there were bits for `n` further blocks, there still are, for each `n`
 abbrev pub HoldAsMany : Vec Stretch → SlotBits → Vec Stretch → SlotBits → Type 0
 HoldAsMany blocks bits blocks' bits' = (n : ℕ) → vec_len blocks + n ≤ bits.places → vec_len blocks' + n ≤ bits'.places
 
--- The spare blocks are whole and empty, and each has a bit for when it is appended.
+-- The `count` spare blocks are whole and empty, and `places` bits are enough for them and for the `used` blocks.
 pub record AreSpare (spares : List Stretch) (count used places : ℕ) : Type 0 where
   pub whole : AreWhole spares
   pub held : used + count ≤ places
@@ -236,8 +236,8 @@ ready_size e = cond (is_ready e) (body_bytes e) 0
 abbrev pub is_long : Entry → Bool
 is_long e = nat_lt 18446744073709551615 (body_bytes e)
 
--- The counts kept beside the entries are right. No two messages are held by the same holder, and no body is so long that the sum of the ready ones could leave
--- 128 bits.
+-- The counts kept beside the entries are right. No two messages are held by the same holder, and no body is so long that the bodies
+-- of the ready messages together could have more bytes than 128 bits count.
 pub record IsCounted (entries : List Entry) (ready live bytes : ℕ) : Type 0 where
   pub ready_count : ready ≡ tally is_ready entries
   pub live_count : live ≡ length entries
@@ -245,13 +245,14 @@ pub record IsCounted (entries : List Entry) (ready live bytes : ℕ) : Type 0 wh
   pub apart : (holder : Holder) → tally (is_held_as holder) entries ≤ 1
   pub short : tally is_long entries ≡ 0
 
--- The slots are at most twice the messages, plus the promised room, plus 3,072. If no room is promised the last block has a message or fewer than 1,024 slots.
+-- The slots are at most twice the messages, plus the promised room, plus 3,072. If no room is promised the last block has a message,
+-- or has fewer than 1,024 slots.
 pub record IsBounded (room : ℕ) (blocks spares : List Stretch) : Type 0 where
   pub filled : AreFilled 1024 blocks
   pub short : room ≡ 0 → LastIsShort blocks
   pub few : slots_of blocks + slots_of spares ≤ length (joined (parts blocks)) * 2 + room + 3072
 
--- What a queue in blocks keeps beside its blocks is true of them.
+-- The marks, counts, promised room and spare blocks that an `Indexed` keeps are right for its blocks.
 abbrev pub IsIndexed : Vec Stretch → Vec Stretch → SlotBits → (ready live bytes room : ℕ) → Type 0
 IsIndexed blocks spares bits ready live bytes room =
     AreBlocksSigned (parts blocks.items) bits × HavePlaces blocks bits

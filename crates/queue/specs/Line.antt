@@ -5,7 +5,7 @@ use Rattle.model.specs.Entries.{freed}
 use Rattle.model.specs.declared.messages.Entry.{Entry}
 use Rattle.model.specs.declared.messages.Holder.{Holder}
 
--- the entries in arrival order, and how many pushes need no memory
+-- the entries in arrival order, and the number of pushes that need no allocation
 pub record Line : Type 0 where
   pub entries : List Entry
   pub room : ℕ
@@ -14,6 +14,6 @@ pub record Line : Type 0 where
 abbrev pub ready_count : List Entry → ℕ
 ready_count entries = length (filter is_ready entries)
 
--- the entries, with each that a holder in `mine` held ready again in its place (AMQP 0-9-1, channel.close; own: exactly its place)
+-- the entries, with each one held by a holder in `mine` made ready again in its place (AMQP 0-9-1, channel.close; own: exactly its place)
 abbrev pub requeued : (Holder → Bool) → List Entry → List Entry
 requeued mine entries = map (freed mine) entries

@@ -78,7 +78,7 @@ pub record HasPlaces (slots capacity places : ℕ) : Type 0 where
   pub used : slots ≤ places
   pub kept : places ≤ capacity
 
--- the same for the elements of this vector
+-- each element of the vector has a bit, and there are at most as many bits as the vector's capacity (`HasPlaces`)
 abbrev pub HavePlaces : {X : Type 0} → Vec X → SlotBits → Type 0
 HavePlaces slots bits = HasPlaces (vec_len slots) (vec_capacity slots) bits.places
 

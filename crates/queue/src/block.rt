@@ -15,10 +15,10 @@ use std::marker::Model;
 /// The most slots of a block.
 pub(crate) const BLOCK_SLOTS: usize = 1024;
 
-/// The slots that the first block of a queue begins with.
+/// The fewest slots that a block grows to.
 const FIRST_SLOTS: usize = 4;
 
-/// Returns twice `slots`, at most 1,024.
+/// Returns twice `slots`, at most 1,024; or 4 if `slots` is less than 4.
 fn twice(slots: usize) -> usize
     ensures { result ≤ 1024 }
 {
@@ -31,8 +31,8 @@ fn twice(slots: usize) -> usize
     }
 }
 
-/// Returns how many slots to add for `more` messages after `slots` slots: `more`, or as many as double them. Returns `None` if
-/// they fit neither into the capacity nor into 1,024 slots.
+/// Returns how many slots to add to `slots` for `more` messages: `more` if `capacity` suffices, otherwise at least `more`, and as many as
+/// double the capacity, up to 1,024. Returns `None` if `slots + more` exceeds both the capacity and 1,024.
 fn growth(slots: usize, capacity: usize, more: usize) -> Option<usize>
     requires { slots ≤ capacity }
     ensures enough { IfSome result (λ grown. more ≤ grown) }
@@ -75,7 +75,7 @@ fn grow(slots: &mut Vec<Slot>, signs: &mut Signs, more: usize) -> Result<(), All
 /// A run of messages in the order of arrival, ready or held.
 ///
 /// Each is in a slot, which stays empty after the message is removed; `reserve` closes such gaps. A mark for each slot says
-/// whether it is ready, so that the first ready message is found without a scan.
+/// whether its message is ready, so that the first ready message is found without a scan.
 #[derive(Drop)]
 pub(crate) struct Block {
     slots: Vec<Slot>,
@@ -162,7 +162,7 @@ impl Block {
     }
 
     /// Makes room for `more` messages if they fit into the slots that the block has or may have, and returns whether they do.
-    /// Closes gaps if more than half of the slots are empty, and grows if that is not enough. Fails only if an allocation fails.
+    /// Closes gaps if at least half of the used slots are empty, and grows if that is not enough. Fails only if an allocation fails.
     pub(crate) fn reserve(&mut self, more: usize) -> Result<bool, AllocError>
         ensures entries { self.new.entries ≡ self.old.entries }
         ensures kept { self.old.room ≤ self.new.room }
@@ -185,7 +185,7 @@ impl Block {
         }
     }
 
-    /// Appends `message`, the arrival number `arrival`, as ready. There is room for it.
+    /// Appends `message` as ready, with the arrival number `arrival`. There is room for it.
     pub(crate) fn push(&mut self, arrival: u64, message: Message)
         requires { 0 < self.old.room }
         ensures entries { self.new.entries ≡ self.old.entries ++ record { message = message; mark = Ready } ∷ [] }
@@ -235,7 +235,8 @@ impl Block {
         self.slots.capacity() >= BLOCK_SLOTS
     }
 
-    /// Frees the slots if the block has no message. The slots go last: the system takes memory back when a large piece is freed.
+    /// Frees the slots and their bits if the block has no message. The slots are freed last: the system takes memory back when a large
+    /// piece is freed.
     pub(crate) fn give_back(&mut self, alloc: Global)
         ensures entries { self.new.entries ≡ self.old.entries }
         ensures slots { self.new.slots ≤ self.old.slots }
@@ -257,7 +258,7 @@ impl Block {
         }
     }
 
-    /// Returns the first ready message.
+    /// Returns the first ready message, if any.
     pub(crate) fn first_ready(&self) -> Option<&Entry>
         ensures { option_map (λ e. e.now) result ≡ find is_ready self.now.entries }
     {
@@ -301,14 +302,14 @@ impl Block {
         }
     }
 
-    /// Returns the slot of the message held by `holder`. Takes constant time if `arrival` is the number of its arrival.
+    /// Returns the index of the slot whose message is held by `holder`. Searches all slots only if `arrival` is not its arrival number.
     pub(crate) fn slot_held(&self, holder: &Holder, arrival: u64) -> Option<usize>
         ensures { is_some result ≡ is_some (find (is_held_as holder.now) self.now.entries) }
     {
         index_held(&self.slots, holder, index_of_arrival(&self.slots, arrival))
     }
 
-    /// Returns the message held by `holder`. Takes constant time if it is in the slot `near`, here and below.
+    /// Returns the message held by `holder`. Takes constant time if it is in the slot `near`; so do `release` and `remove`.
     pub(crate) fn held(&self, holder: &Holder, near: usize) -> Option<&Entry>
         ensures { option_map (λ e. e.now) result ≡ find (is_held_as holder.now) self.now.entries }
     {

@@ -27,7 +27,7 @@ pub(crate) fn first_ready_at(blocks: &[Block], index: usize) -> Option<&Entry>
     blocks[index].first_ready()
 }
 
-/// Returns the bytes of the body of that message, or 0 if there is none.
+/// Returns the length in bytes of the body of the first ready message of the block at `index`, or 0 if none is ready.
 pub(crate) fn ready_bytes_at(blocks: &[Block], index: usize) -> usize
     ensures { result ≡ size_of body_bytes (find is_ready (part_at blocks.now index)) }
 {
@@ -37,8 +37,8 @@ pub(crate) fn ready_bytes_at(blocks: &[Block], index: usize) -> usize
     }
 }
 
-/// Returns the message of the block at `index` that is held by `holder`. Takes constant time if it is in the slot `near`,
-/// here and below.
+/// Returns the message of the block at `index` that is held by `holder`. Takes constant time if it is in the slot `near`; so do the other
+/// functions with a `near`.
 pub(crate) fn held_at<'a>(
     blocks: &'a [Block],
     index: usize,
@@ -53,7 +53,7 @@ pub(crate) fn held_at<'a>(
     blocks[index].held(holder, near)
 }
 
-/// Returns the bytes of the body of that message, or 0 if there is none.
+/// Returns the length in bytes of the body of the message of the block at `index` that is held by `holder`, or 0 if there is none.
 pub(crate) fn held_bytes_at(blocks: &[Block], index: usize, holder: &Holder, near: usize) -> usize
     ensures { result ≡ size_of body_bytes (find (is_held_as holder.now) (part_at blocks.now index)) }
 {
@@ -63,7 +63,7 @@ pub(crate) fn held_bytes_at(blocks: &[Block], index: usize, holder: &Holder, nea
     }
 }
 
-/// Returns the slot, in the block at index `place`, of the message held by `holder`.
+/// Returns the index of the slot, in the block at index `place`, whose message is held by `holder`, if there is one.
 fn slot_held_at(blocks: &[Block], place: usize, holder: &Holder, arrival: u64) -> Option<usize>
     ensures { is_some result ≡ some_pass (is_held_as holder.now) (part_at blocks.now place) }
 {
@@ -102,7 +102,7 @@ fn search(blocks: &[Block], holder: &Holder, arrival: u64) -> Option<Spot>
     None
 }
 
-/// Returns the place of the message held by `holder`. Found without a search if `arrival` is the number of its arrival.
+/// Returns the place of the message held by `holder`. Searches all blocks only if `arrival` is not the number of its arrival.
 pub(crate) fn spot_held(blocks: &[Block], holder: &Holder, arrival: u64) -> Option<Spot>
     ensures some { IfSome result (λ s. some_pass (is_held_as holder.now) (part_at blocks.now s.block) ≡ true) }
     ensures none { IfNone result ((k : ℕ) → find (is_held_as holder.now) (part_at blocks.now k) ≡ None) }
@@ -234,7 +234,7 @@ fn reserve_last(blocks: &mut Vec<Block>, more: usize) -> Result<bool, AllocError
     blocks[last].reserve(more)
 }
 
-/// Appends `message`, the arrival number `arrival`, to the last block as ready. Returns the index of the block.
+/// Appends `message` to the last block as ready, with the arrival number `arrival`. Returns the index of the block.
 pub(crate) fn push_last(blocks: &mut Vec<Block>, arrival: u64, message: Message) -> usize
     requires { 0 < last_room blocks.old.items }
     ensures place { result + 1 ≡ vec_len blocks.old }
@@ -316,8 +316,8 @@ fn fits_at(blocks: &[Block], place: usize) -> bool
     blocks[place].live() > 0 && blocks[place].fits(&blocks[place + 1])
 }
 
-/// Returns the index of the first of two neighbours that fit into it: the block at index `place` with the one before it, or with
-/// the next unless that is the last.
+/// Returns the index of a block whose slots suffice for its own messages and the next block's: the block before index `place`, or the
+/// block at `place` unless the next is the last.
 fn pair_at(blocks: &[Block], place: usize) -> Option<usize>
     requires { place + 1 < length blocks.now }
     ensures some { IfSome result (λ first. IsPair place first blocks.now) }
@@ -347,8 +347,8 @@ fn join_at(blocks: &mut Vec<Block>, place: usize)
     blocks[place].take_in(next.into_slots());
 }
 
-/// Joins the block at index `place`, from which a message was removed, with a neighbour if the first of the two has slots for
-/// both.
+/// Joins the block at index `place` with a neighbour if the first of the two has slots for the messages of both. A message was removed
+/// from the block before.
 fn join_near(blocks: &mut Vec<Block>, signs: &mut Signs, place: usize)
     requires within { place + 1 < vec_len blocks.old }
     requires left { IsNotSpent place blocks.old.items }
@@ -373,8 +373,8 @@ fn join_near(blocks: &mut Vec<Block>, signs: &mut Signs, place: usize)
     }
 }
 
-/// Keeps the number of slots low after a message was removed from the block at `index`: frees the block if it is empty and
-/// the one before it, too, or joins it with a neighbour if the two fit into one. The last block stays as it is.
+/// Keeps the number of slots low after a message was removed from the block at `index`: frees the block if neither it nor the one
+/// before it has a message, otherwise joins it with a neighbour if the two fit into one. The last block stays as it is.
 pub(crate) fn settle(blocks: &mut Vec<Block>, signs: &mut Signs, index: usize, alloc: Global)
     requires within { index < vec_len blocks.old }
     requires signed { AreBlocksSigned (parts blocks.old.items) signs.old }
@@ -398,7 +398,7 @@ pub(crate) fn settle(blocks: &mut Vec<Block>, signs: &mut Signs, index: usize, a
     }
 }
 
-/// Removes the blocks that were freed.
+/// Removes the blocks that have neither messages nor room, such as freed ones.
 fn drop_given_back(blocks: &mut Vec<Block>)
     ensures entries { joined (parts blocks.new.items) ≡ joined (parts blocks.old.items) }
     ensures room { last_room blocks.old.items ≤ last_room blocks.new.items }
@@ -409,8 +409,8 @@ fn drop_given_back(blocks: &mut Vec<Block>)
     blocks.retain(|block| block.is_in_use());
 }
 
-/// Makes room for further blocks in the list. Freed blocks are removed before the list grows, and it at least doubles then. Fails
-/// only if an allocation fails.
+/// Makes room in the list for `more` blocks, with a bit for each. If the list has to grow, freed blocks are removed first, and the list
+/// at least doubles. Fails only if an allocation fails.
 fn make_places(blocks: &mut Vec<Block>, signs: &mut Signs, more: usize) -> Result<(), AllocError>
     requires signed { AreBlocksSigned (parts blocks.old.items) signs.old }
     requires places { HavePlaces blocks.old signs.old }
@@ -432,7 +432,7 @@ fn make_places(blocks: &mut Vec<Block>, signs: &mut Signs, more: usize) -> Resul
     signs.grow(blocks.capacity())
 }
 
-/// Appends an empty block. The block that was the last is joined with the one before it if the two fit into one.
+/// Appends `block`, which is empty. The block that was the last is then freed, or joined with the one before it, as [`settle`] does.
 fn append_block(blocks: &mut Vec<Block>, signs: &mut Signs, block: Block, alloc: Global)
     requires signed { AreBlocksSigned (parts blocks.old.items) signs.old }
     requires places { HavePlaces blocks.old signs.old }
@@ -452,7 +452,8 @@ fn append_block(blocks: &mut Vec<Block>, signs: &mut Signs, block: Block, alloc:
     settle(blocks, signs, before, alloc);
 }
 
-/// Starts the first block, without slots, if there is none, for arrivals with the number `first` or later ones.
+/// If there is no block, appends one without slots, for arrivals with the number `first` or later ones, and makes room in the list for
+/// `spares` blocks beside it. Fails only if an allocation fails.
 fn start_first(
     blocks: &mut Vec<Block>,
     signs: &mut Signs,
@@ -480,7 +481,7 @@ fn start_first(
     Ok(())
 }
 
-/// Returns how many spare blocks `room` messages need beside the room `last` of the last block.
+/// Returns how many spare blocks it takes to have room for `room` messages, of which the last block has room for `last`.
 fn spares_for(room: usize, last: usize) -> usize
     ensures enough { room ≤ last + result * 1024 }
     ensures few { 0 < result → last + result * 1024 < room + 1024 }
@@ -494,7 +495,7 @@ fn spares_for(room: usize, last: usize) -> usize
     }
 }
 
-/// Starts spare blocks of 1,024 slots until there are as many as asked for. If an allocation fails, those that were started stay.
+/// Starts spare blocks of 1,024 slots until there are `count`. If an allocation fails, those that were started stay.
 fn fill_spares(spares: &mut Vec<Block>, count: usize, alloc: Global) -> Result<(), AllocError>
     requires whole { AreWhole spares.old.items }
     ensures whole { AreWhole spares.new.items }
@@ -558,7 +559,7 @@ fn grow_last(
     ensures kept { last_room blocks.old.items ≤ last_room blocks.new.items }
     ensures least { vec_len spares.old ≤ vec_len spares.new }
     ensures room { OnOk result (more ≤ last_room blocks.new.items + vec_len spares.new * 1024) }
-    // messages share blocks, and a block its slots
+    // No spare block is started if the last block can have the messages, and no block gets more slots if it has enough; filled blocks stay filled.
     ensures few { LastFits more blocks.old.items → vec_len spares.new ≡ vec_len spares.old }
     ensures same { LastHasSlots more blocks.old.items → KeepSlots blocks.old.items blocks.new.items }
     ensures filled { AreFilled 1024 blocks.old.items → AreFilled 1024 blocks.new.items }
@@ -569,7 +570,8 @@ fn grow_last(
     add_spares(blocks, signs, spares, alloc, more)
 }
 
-/// Makes room for `more` messages unless there is enough, for arrivals with the number `first` or later ones.
+/// Makes room for `more` messages unless there is enough. If there is no block, the first is started for arrivals with the number
+/// `first` or later ones. Fails only if an allocation fails.
 fn grow_room(
     blocks: &mut Vec<Block>,
     signs: &mut Signs,
@@ -635,8 +637,8 @@ pub(crate) fn keep_room(
     give_back_spare(blocks, room, alloc);
 }
 
-/// Raises the promised room from `room` to `more`, and frees spare blocks that this doesn't need, for arrivals with the number
-/// `first` or later ones. Fails only if an allocation fails; there is as much room as before then.
+/// Raises the promised room from `room` to `more`, and frees spare blocks that this doesn't need. A first block is started for arrivals
+/// with the number `first` or later ones. Fails only if an allocation fails; there is still room for `room` messages then.
 pub(crate) fn make_room(
     blocks: &mut Vec<Block>,
     signs: &mut Signs,
@@ -677,7 +679,7 @@ pub(crate) fn make_room(
     }
 }
 
-/// Appends a spare block if the last one has no room, for arrivals with the number `first` or later ones.
+/// Appends a spare block if the last block has no room. The new block is for arrivals with the number `first` or later ones.
 pub(crate) fn open_spare(
     blocks: &mut Vec<Block>,
     signs: &mut Signs,

@@ -7,7 +7,7 @@ ghost use Rattle.model.specs.Reloading.{stood_now};
 
 use model::{Entry, Holder, Mark};
 
-/// Returns whether both are the same delivery tag of the same channel.
+/// Returns whether `holder` and `other` are the same delivery tag of the same channel of the same connection.
 fn is_same(holder: &Holder, other: &Holder) -> bool
     ensures { result ≡ is_under holder.now other.now }
 {

@@ -22,8 +22,8 @@ use std::marker::Model;
 /// A queue that finds messages by marks and arrival numbers.
 ///
 /// Messages are in blocks. `push` appends to the last block, or, if that is full, to a spare one that `reserve` has started, so
-/// no call moves more messages than one block has. A block is freed once its last message is gone, and two neighbours are joined
-/// if their messages fit into the first. The number of ready messages and the bytes of their bodies are kept.
+/// no call moves more messages than one block has. Two neighbours are joined if their messages fit into the first, and an empty block at
+/// the front is freed. The number of ready messages and the bytes of their bodies are counted along.
 #[derive(Drop)]
 pub struct Indexed {
     alloc: Global,
@@ -135,7 +135,7 @@ impl Store for Indexed {
         }
     }
 
-    /// Returns the number of the message's arrival, by which it is found again in constant time.
+    /// Returns the number of the held message's arrival, by which binary search finds it again.
     fn hold(&mut self, holder: Holder) -> Option<u64> {
         match self.signs.first_ready() {
             None => None,

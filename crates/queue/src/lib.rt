@@ -1,8 +1,8 @@
-//! A queue: the messages that wait for a consumer, in the order in which they came.
+//! A queue: the messages that wait for a consumer, in the order of arrival. Start with [`Store`], which says what each call does.
 //!
-//! A caller sees a queue as a list of entries and a number of pushes that need no memory (`specs/Line.antt`). Room is
-//! made by `reserve` and spent by `push`, so a publish to many queues grows each of them first, and changes none until
-//! all of them could. `Store` says what each call does; `Listed` does so over a plain vector, and `Indexed` without a scan.
+//! A caller sees a queue as a list of entries and its room, the number of pushes that need no allocation (`specs/Line.antt`).
+//! `reserve` makes room and `push` spends it, so a publish to many queues reserves in each of them first, and pushes only after all
+//! reservations have succeeded. `Listed` implements `Store` over a plain vector, `Indexed` without scanning the messages.
 #![tactic(auto)]
 
 mod block;

@@ -7,7 +7,7 @@ use model::{Entry, Holder, Mark, Message};
 use std::alloc::{AllocError, Global};
 use std::marker::Model;
 
-/// A queue that keeps its messages in one vector, to be read first: each call goes over all of it.
+/// A queue that keeps its messages in one vector. Each call goes over all of it, which makes it the one to read first.
 #[derive(Drop)]
 pub struct Listed {
     entries: Vec<Entry>,
@@ -73,7 +73,7 @@ impl Store for Listed {
         lists::first_ready(&self.entries)
     }
 
-    /// Returns 0 for a message: arrivals have no numbers here.
+    /// Returns 0 if a message is held now: arrivals have no numbers here.
     fn hold(&mut self, holder: Holder) -> Option<u64> {
         lists::hold_first(&mut self.entries, holder).then_some(0)
     }

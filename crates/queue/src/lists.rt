@@ -13,14 +13,14 @@ ghost use Rattle.queue.specs.Line.{requeued};
 use crate::entries::{free_under, hold, is_free, is_held_under, stand};
 use model::{Entry, Holder};
 
-/// How many of the entries are ready.
+/// Returns the number of ready entries.
 pub(crate) fn ready_count(entries: &[Entry]) -> usize
     ensures { result ≡ seen_line.ready_count entries.now }
 {
     entries.iter().filter(|entry| is_free(entry)).count()
 }
 
-/// How many bytes the body of the entry has if it is ready, else none.
+/// Returns the length in bytes of the body of `entry` if it is ready, otherwise 0.
 fn ready_size(entry: &Entry) -> usize
     ensures { result ≡ blocks.ready_size entry.now }
 {
@@ -31,7 +31,7 @@ fn ready_size(entry: &Entry) -> usize
     }
 }
 
-/// How many bytes the bodies of the ready entries have.
+/// Returns the number of bytes of the ready entries' bodies.
 pub(crate) fn ready_bytes(entries: &[Entry]) -> u128
     ensures { result ≡ seen.ready_bytes entries.now }
 {
@@ -42,21 +42,21 @@ pub(crate) fn ready_bytes(entries: &[Entry]) -> u128
     bytes
 }
 
-/// The first entry that can be given out.
+/// Returns the first ready entry, if any.
 pub(crate) fn first_ready(entries: &[Entry]) -> Option<&Entry>
     ensures { option_map (λ e. e.now) result ≡ find is_ready entries.now }
 {
     entries.iter().find(|entry| is_free(entry))
 }
 
-/// The place of the first entry that can be given out.
+/// Returns the index of the first ready entry.
 fn place_ready(entries: &[Entry]) -> Option<usize>
     ensures { result ≡ position_from is_ready 0 entries.now }
 {
     entries.iter().position(|entry| is_free(entry))
 }
 
-/// Gives the first entry out that can be. Tells whether there is one.
+/// Marks the first ready entry, if any, as held by `holder`. Returns whether there is one.
 pub(crate) fn hold_first(entries: &mut Vec<Entry>, holder: Holder) -> bool
     ensures told { result ≡ is_some (find is_ready entries.old.items) }
     ensures entries { entries.new.items ≡ change_first is_ready (held_as holder) entries.old.items }
@@ -72,7 +72,7 @@ pub(crate) fn hold_first(entries: &mut Vec<Entry>, holder: Holder) -> bool
     }
 }
 
-/// Takes the entry at this place out.
+/// Removes and returns the entry at index `place`.
 fn take_at(entries: &mut Vec<Entry>, place: usize) -> Entry
     requires { place < vec_len entries.old }
     ensures entry { result ≡ get_or entries.old.items place result }
@@ -83,7 +83,7 @@ fn take_at(entries: &mut Vec<Entry>, place: usize) -> Entry
     entries.remove(place)
 }
 
-/// Takes the first entry out that can be given out.
+/// Removes and returns the first ready entry, if any.
 pub(crate) fn take_first(entries: &mut Vec<Entry>) -> Option<Entry>
     ensures taken { result ≡ find is_ready entries.old.items }
     ensures entries { entries.new.items ≡ without_first is_ready entries.old.items }
@@ -96,14 +96,14 @@ pub(crate) fn take_first(entries: &mut Vec<Entry>) -> Option<Entry>
     }
 }
 
-/// The first entry that is held under this tag.
+/// Returns the first entry held by `holder`.
 pub(crate) fn first_held<'a>(entries: &'a [Entry], holder: &Holder) -> Option<&'a Entry>
     ensures { option_map (λ e. e.now) result ≡ find (is_held_as holder.now) entries.now }
 {
     entries.iter().find(|entry| is_held_under(entry, holder))
 }
 
-/// Makes all entries ready again that are held under this tag. Tells whether there is one.
+/// Makes all entries held by `holder` ready again, and marks them as redelivered. Returns whether there is one.
 pub(crate) fn release(entries: &mut Vec<Entry>, holder: &Holder) -> bool
     ensures told { result ≡ is_some (find (is_held_as holder.now) entries.old.items) }
     ensures entries { entries.new.items ≡ requeued (is_under holder.now) entries.old.items }
@@ -115,7 +115,7 @@ pub(crate) fn release(entries: &mut Vec<Entry>, holder: &Holder) -> bool
     is_held
 }
 
-/// Makes all entries ready again that are held under this tag.
+/// Makes all entries held by `holder` ready again, and marks them as redelivered.
 fn free_all(entries: &mut [Entry], holder: &Holder)
     ensures { entries.new ≡ requeued (is_under holder.now) entries.old }
 {
@@ -124,7 +124,7 @@ fn free_all(entries: &mut [Entry], holder: &Holder)
     }
 }
 
-/// The place of the first entry that is held under this tag.
+/// Returns the index of the first entry held by `holder`.
 fn index_held(entries: &[Entry], holder: &Holder) -> Option<usize>
     ensures { result ≡ position_from (is_held_as holder.now) 0 entries.now }
 {
@@ -133,7 +133,7 @@ fn index_held(entries: &[Entry], holder: &Holder) -> Option<usize>
         .position(|entry| is_held_under(entry, holder))
 }
 
-/// Takes the first entry out that is held under this tag.
+/// Removes and returns the first entry held by `holder`, if any.
 fn take_held(entries: &mut Vec<Entry>, holder: &Holder) -> Option<Entry>
     ensures taken { result ≡ find (is_held_as holder.now) entries.old.items }
     ensures entries { entries.new.items ≡ without_first (is_held_as holder.now) entries.old.items }
@@ -146,7 +146,7 @@ fn take_held(entries: &mut Vec<Entry>, holder: &Holder) -> Option<Entry>
     }
 }
 
-/// Drops all entries that are held under this tag.
+/// Removes all entries held by `holder`.
 fn drop_held(entries: &mut Vec<Entry>, holder: &Holder)
     ensures entries { entries.new.items ≡ filter (λ e. not (is_held_as holder.now e)) entries.old.items }
     ensures len { vec_len entries.new ≤ vec_len entries.old }
@@ -155,7 +155,7 @@ fn drop_held(entries: &mut Vec<Entry>, holder: &Holder)
     entries.retain(|entry| !is_held_under(entry, holder));
 }
 
-/// Takes all entries out that are held under this tag, and gives the first of them. Nothing here asks that there is but one.
+/// Removes all entries held by `holder`, and returns the first of them. There may be more than one: nothing here excludes it.
 pub(crate) fn remove(entries: &mut Vec<Entry>, holder: &Holder) -> Option<Entry>
     ensures taken { result ≡ find (is_held_as holder.now) entries.old.items }
     ensures entries { entries.new.items ≡ filter (λ e. not (is_held_as holder.now e)) entries.old.items }
@@ -167,7 +167,7 @@ pub(crate) fn remove(entries: &mut Vec<Entry>, holder: &Holder) -> Option<Entry>
     entry
 }
 
-/// Appends the publish number of the entry if it is ready. There is room for it.
+/// Appends the publish number of `entry` to `numbers` if the entry is ready. `numbers` has capacity for it.
 fn append_number(entry: &Entry, numbers: &mut Vec<u64>)
     requires { vec_len numbers.old + seen_line.ready_count (entry.now ∷ []) ≤ vec_capacity numbers.old }
     ensures numbers { numbers.new.items ≡ numbers.old.items ++ map number_of (filter is_ready (entry.now ∷ [])) }
@@ -178,7 +178,7 @@ fn append_number(entry: &Entry, numbers: &mut Vec<u64>)
     }
 }
 
-/// Appends the publish numbers of the ready entries, in order. There is room for them.
+/// Appends the publish numbers of the ready entries to `numbers`, in order. `numbers` has capacity for them.
 fn append_numbers(entries: &[Entry], numbers: &mut Vec<u64>)
     requires { vec_len numbers.old + seen_line.ready_count entries.now ≤ vec_capacity numbers.old }
     ensures numbers { numbers.new.items ≡ numbers.old.items ++ map number_of (filter is_ready entries.now) }
@@ -189,7 +189,7 @@ fn append_numbers(entries: &[Entry], numbers: &mut Vec<u64>)
     }
 }
 
-/// Drops the ready entries.
+/// Removes the ready entries.
 fn drop_ready(entries: &mut Vec<Entry>)
     ensures entries { entries.new.items ≡ filter (λ e. not (is_ready e)) entries.old.items }
     ensures len { vec_len entries.new ≤ vec_len entries.old }
@@ -198,7 +198,7 @@ fn drop_ready(entries: &mut Vec<Entry>)
     entries.retain(|entry| !is_free(entry));
 }
 
-/// Takes the ready entries out, and appends their publish numbers. There is room for them.
+/// Removes the ready entries, and appends their publish numbers to `numbers`, which has capacity for them.
 pub(crate) fn purge(entries: &mut Vec<Entry>, numbers: &mut Vec<u64>)
     requires { vec_len numbers.old + seen_line.ready_count entries.old.items ≤ vec_capacity numbers.old }
     ensures entries { entries.new.items ≡ filter (λ e. not (is_ready e)) entries.old.items }

@@ -6,7 +6,7 @@ use marks::{Flat, Over, Places};
 use std::alloc::{AllocError, Global};
 use std::marker::Model;
 
-/// A bit for each index. The first of 4,096 is found by two words.
+/// A bit for each index. Among up to 4,096 indices the first member is found by reading two words.
 type Marks = Over<Flat>;
 
 /// The set of indices with a ready message.
@@ -44,8 +44,7 @@ impl Signs {
         }
     }
 
-    /// Grows the set so that each index below `places` has a bit. Fails only if an allocation fails; the set has the same members
-    /// in any case.
+    /// Grows the set so that each index below `places` has a bit. The members don't change. Fails only if an allocation fails.
     pub(crate) fn grow(&mut self, places: usize) -> Result<(), AllocError>
         ensures same { SameBits self.old self.new }
         ensures room { OnOk result (self.new.places ≡ places) }

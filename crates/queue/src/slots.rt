@@ -78,7 +78,7 @@ pub(crate) fn index_of_arrival(slots: &[Slot], arrival: u64) -> usize {
     slots.partition_point(|slot| slot.arrival < arrival)
 }
 
-/// Returns the first index of an entry held by `holder`.
+/// Returns the first index of an entry held by `holder`, if any.
 fn search(slots: &[Slot], holder: &Holder) -> Option<usize>
     ensures some { IfSome result (λ i. slot_has (is_held_as holder.now) (slot_at slots.now i) ≡ true) }
     ensures none { IfNone result ((k : ℕ) → slot_has (is_held_as holder.now) (slot_at slots.now k) ≡ false) }
@@ -91,7 +91,7 @@ fn search(slots: &[Slot], holder: &Holder) -> Option<usize>
     None
 }
 
-/// Returns the index of the entry held by `holder`. Takes constant time if it is `near`.
+/// Returns the index of the entry held by `holder`, if any. Takes constant time if the entry is at index `near`.
 pub(crate) fn index_held(slots: &[Slot], holder: &Holder, near: usize) -> Option<usize>
     ensures some { IfSome result (λ i. slot_has (is_held_as holder.now) (slot_at slots.now i) ≡ true) }
     ensures none { IfNone result ((k : ℕ) → slot_has (is_held_as holder.now) (slot_at slots.now k) ≡ false) }
@@ -132,7 +132,7 @@ pub(crate) fn mark_reloaded_in(slots: &mut [Slot])
     }
 }
 
-/// Empties this slot.
+/// Empties the slot at `index`, and returns its entry.
 pub(crate) fn take_at(slots: &mut Vec<Slot>, index: usize) -> Option<Entry>
     requires { index < vec_len slots.old }
     ensures taken { result ≡ slot_at slots.old.items index }
@@ -222,7 +222,7 @@ fn close_gaps(slots: &mut Vec<Slot>, signs: &mut Signs)
     sign_all(slots, signs, places);
 }
 
-/// Removes the empty slots if they are more than half of all.
+/// Removes the empty slots if they are at least half of `slots`. `live` is the number of those with an entry.
 pub(crate) fn close_many_gaps(slots: &mut Vec<Slot>, signs: &mut Signs, live: usize)
     requires within { vec_len slots.old ≤ signs.old.places }
     requires signed { AreSigned (contents slots.old.items) signs.old }
@@ -240,8 +240,8 @@ pub(crate) fn close_many_gaps(slots: &mut Vec<Slot>, signs: &mut Signs, live: us
     close_gaps(slots, signs);
 }
 
-/// Removes the empty slots, appends the entries of `others`, for which `slots` have capacity, and sets the bits. Returns the
-/// number of entries appended.
+/// Removes the empty slots, appends the entries of `others`, and sets the bits. `slots` has capacity for all entries. Returns the number of
+/// entries appended.
 pub(crate) fn move_in(slots: &mut Vec<Slot>, signs: &mut Signs, others: Vec<Slot>) -> usize
     requires within { vec_capacity slots.old ≤ signs.old.places }
     requires signed { AreSigned (contents slots.old.items) signs.old }

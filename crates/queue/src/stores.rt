@@ -16,7 +16,7 @@ use std::alloc::{AllocError, Global};
 /// A queue of messages, ready or held, in the order of arrival. `reserve` promises room, which `push` spends and `give_back`
 /// returns. No other call allocates.
 pub trait Store: Drop {
-    /// The entries in arrival order, and how many pushes need no memory.
+    /// The entries in arrival order, and the number of pushes that need no allocation.
     ghost line: { Self → Line };
 
     /// Returns an empty queue. Never allocates.
@@ -29,12 +29,12 @@ pub trait Store: Drop {
         ensures entries { (line self.new).entries ≡ (line self.old).entries }
         ensures kept { (line self.old).room ≤ (line self.new).room }
         ensures room { OnOk result (more ≤ (line self.new).room) }
-        // no more is promised than was asked for
+        // the room grows to `more` at most
         ensures few { (line self.new).room ≤ max (line self.old).room more }
         ensures same { OnErr result ((line self.new).room ≡ (line self.old).room) }
         ensures full { OnErr result ((line self.old).room < more) };
 
-    /// Returns how many pushes need no memory.
+    /// Returns the number of pushes that need no allocation.
     fn room(&self) -> usize
         ensures { result ≡ (line self.now).room };
 
@@ -57,15 +57,15 @@ pub trait Store: Drop {
     fn ready_bytes(&self) -> u128
         ensures { result ≡ ready_bytes (line self.now).entries };
 
-    /// Returns whether a queue with `limit` ready messages and `byte_limit` bytes of their bodies at most refuses a message with
-    /// a body of `size` bytes. Source: RabbitMQ, "Queue Length Limit", reject-publish.
+    /// Returns whether a limit refuses one more message with a body of `size` bytes: `limit` is the most ready messages, `byte_limit` the
+    /// most bytes of their bodies, and `None` is no limit. Source: RabbitMQ, "Queue Length Limit", reject-publish.
     fn is_full(&self, limit: Option<u32>, byte_limit: Option<u32>, size: usize) -> bool
         ensures { result ≡ (is_at limit (ready_count (line self.now).entries) || is_past byte_limit (ready_bytes (line self.now).entries + size)) }
     {
         limits::is_at(limit, self.ready()) || limits::is_past(byte_limit, self.ready_bytes(), size)
     }
 
-    /// Returns whether the pushes that have room would bring the queue to `limit` ready messages.
+    /// Returns whether the number of ready messages plus the promised room reaches `limit`; `false` if there is no limit.
     fn has_room_up_to(&self, limit: Option<u32>) -> bool
         ensures { result ≡ is_at limit (ready_count (line self.now).entries + (line self.now).room) }
     {
@@ -76,8 +76,8 @@ pub trait Store: Drop {
     fn first_ready(&self) -> Option<&Entry>
         ensures { option_map (λ e. e.now) result ≡ find is_ready (line self.now).entries };
 
-    /// Marks the first ready message, if any, as held by `holder`, which holds no message yet. Returns the number of its arrival,
-    /// by which it is found sooner, or 0 if arrivals are not numbered. Never allocates.
+    /// Marks the first ready message, if any, as held by `holder`, which holds no message yet. Returns the number of its arrival, a hint
+    /// with which later calls find it faster, or 0 if arrivals are not numbered. Never allocates.
     fn hold(&mut self, holder: Holder) -> Option<u64>
         requires { find (is_held_as holder) (line self.old).entries ≡ None }
         ensures told { is_some result ≡ is_some (find is_ready (line self.old).entries) }

@@ -9,7 +9,7 @@ use crate::slots::Slot;
 use model::Entry;
 use std::marker::Model;
 
-/// What is still to come: entries, or slots, some of them empty, and the blocks after them.
+/// The entries still to come: the rest of a vector of entries, or the rest of a block's slots, some of them empty, and the blocks after it.
 #[derive(Drop)]
 enum Ahead<'a> {
     Entries(&'a [Entry]),
@@ -45,7 +45,7 @@ fn first_of<'a>(slots: &mut &'a [Slot]) -> Option<&'a Entry>
     None
 }
 
-/// Removes and returns the first entry of `slots` and, after them, of `blocks`.
+/// Removes and returns the first entry of `slots`, or, if they have none, of `blocks`.
 fn first_in<'a>(slots: &mut &'a [Slot], blocks: &mut &'a [Block]) -> Option<&'a Entry>
     ensures some { IfSome result (λ e. GoesOn (all_in slots.old.now blocks.old.now) (all_in slots.new.now blocks.new.now) e.now) }
     ensures none { IfNone result (IsOver (all_in slots.old.now blocks.old.now) (all_in slots.new.now blocks.new.now)) }
@@ -62,7 +62,7 @@ fn first_in<'a>(slots: &mut &'a [Slot], blocks: &mut &'a [Block]) -> Option<&'a 
     None
 }
 
-/// Removes and returns the first entry of what is still to come.
+/// Removes and returns the first entry still to come, or returns `None` if there is none.
 fn next_of<'a>(ahead: &mut Ahead<'a>) -> Option<&'a Entry>
     ensures some { IfSome result (λ e. GoesOn (entries_ahead ahead.old) (entries_ahead ahead.new) e.now) }
     ensures none { IfNone result (IsOver (entries_ahead ahead.old) (entries_ahead ahead.new)) }

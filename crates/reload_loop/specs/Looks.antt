@@ -24,16 +24,16 @@ use Rattle.reload_loop.specs.Snapshots.{Snap, AreHeld, IsOther, IsReadFrom, know
 abbrev pub obstacle_told : Obstacle → Text
 obstacle_told o = codes "warren: " ++ obstacle_line o
 
--- the obstacle is reported, or that an allocation failed: the whole line, or else a prefix
+-- the line of the obstacle was written, or, if there is none, the line of an allocation failure: the whole line, or else a prefix of it
 abbrev pub IsWhyNotTold : OutputStream → Option Obstacle → Bool → Type 0
 IsWhyNotTold err (Some o) whole = TellsLine err (obstacle_told o) whole
 IsWhyNotTold err None whole = PutsOut err out_of_memory whole
 
--- what is reported of a reload that was not done
+-- the line that says why a reload was not done was written: the whole line, or else a prefix
 abbrev pub IsFaultTold : OutputStream → ReloadFault → Bool → Type 0
 IsFaultTold err fault whole = IsWhyNotTold err (obstacle_in fault) whole
 
--- what these files put in force, by the texts that were read
+-- by the texts that were read, the files put `force` in force
 abbrev pub IsStated : FileNames → Snap → Config → Type 0
 IsStated names read force = IsInForceBy (known_in names read) names force
 
@@ -66,13 +66,13 @@ WasFound names kept Nothing = ⊤
 WasFound names kept (Refused read told) = IsRefusal names kept read told.file.now told.why
 WasFound names kept (Admitted read force) = IsOffered names kept read force
 
--- the files still are as they were read when it was found
+-- the files still are as they were when an earlier look read what it found; false if it found nothing
 abbrev pub IsFoundAgain : (Text → Known) → FileNames → Found → Type 0
 IsFoundAgain holds names Nothing = ⊥
 IsFoundAgain holds names (Refused read told) = IsReadFrom holds names read
 IsFoundAgain holds names (Admitted read force) = IsReadFrom holds names read
 
--- it is found in these files; if it is `Nothing` they have the texts that are kept
+-- what a look finds in the files: `Nothing` if they have the texts that are kept, otherwise a refusal or a configuration
 abbrev pub IsFound : (Text → Known) → FileNames → Snap → Found → Type 0
 IsFound holds names kept Nothing = AreHeld holds names kept
 IsFound holds names kept (Refused read told) = IsReadFrom holds names read × IsRefusal names kept read told.file.now told.why
@@ -80,35 +80,36 @@ IsFound holds names kept (Admitted read force) = IsReadFrom holds names read × 
 
 -- ---- an offered configuration
 
--- why it is not put in force: its first obstacle, or an allocation failed that may
+-- why `offered` is not put in force: its first obstacle, or, for `None`, an allocation failure, which is possible at this reload
 abbrev pub IsWhyNotPut : World → Config → Option Obstacle → Type 0
 IsWhyNotPut old offered (Some o) = IsObstacle old.config.topology offered old.state.broker o
 IsWhyNotPut old offered None = engine_lacks old (To_reload offered)
 
--- there is no obstacle to what is offered, or the result says why it is not put in force
+-- there is no obstacle to `offered`, or the result says why it is not put in force
 abbrev pub JudgesOffer : World → Config → Result Unit ReloadFault → Type 0
 JudgesOffer old offered (Ok x) = NothingStands old.config.topology offered old.state.broker
 JudgesOffer old offered (Err fault) = IsWhyNotPut old offered (obstacle_in fault)
 
 -- ---- a look
 
--- What a look does: from the texts by which what is in force was judged and the world before, to those after it, and whether the line that it
--- reports was taken whole. One line is reported if anything is refused, and otherwise none.
+-- What a look does. It leads from the kept texts, by which the configuration in force was judged, and the world before it to those after it. It reports
+-- one line if anything is refused, and otherwise none; the last argument is whether standard error took the whole line.
 pub data Looks (holds : Text → Known) (names : FileNames) (err : OutputStream) (kept : Snap) (old : World) : Snap → World → Bool → Type 0 where
-  -- the files have those texts
+  -- the files have the kept texts
   unchanged : AreHeld holds names kept → GetsNothing err → Looks holds names err kept old kept old true
-  -- they have others, and what they state is in force now
+  -- the files have other texts, and what they state is in force now
   done : {read : Snap} {new : World} (force : Config) → IsReadFrom holds names read → IsOther read kept → IsStated names read force → IsPutInForce old force new
       → GetsNothing err → Looks holds names err kept old read new true
-  -- they have others, and are refused
+  -- the files have other texts, and are refused
   refused : {whole : Bool} (read : Snap) → IsReadFrom holds names read → IsOther read kept
       → IsRefused names read err whole → Looks holds names err kept old kept old whole
-  -- there is an obstacle to what they state
+  -- the files have other texts, and there is an obstacle to what they state
   stopped : {new : World} {whole : Bool} (read : Snap) (force : Config) (o : Obstacle)
       → IsReadFrom holds names read → IsOther read kept → IsStated names read force
       → IsObstacle old.config.topology force old.state.broker o → Same old new
       → TellsLine err (obstacle_told o) whole → Looks holds names err kept old kept new whole
-  -- an allocation failed that may: each queue in use is still declared, or the first that is not has a long name
+  -- the files have other texts, and an allocation failed, as is possible only if the new topology declares each queue in use,
+  -- or if the first queue in use that it lacks has a long name
   wanting : {new : World} {whole : Bool} (read : Snap) (force : Config)
       → IsReadFrom holds names read → IsOther read kept → IsStated names read force
       → engine_lacks old (To_reload force) → Same old new

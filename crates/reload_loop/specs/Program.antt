@@ -1,4 +1,4 @@
--- The program with sockets, whose files may be read again while it serves (own).
+-- The program that serves through sockets, and may read its files again while it serves (own).
 use Rattle.std.specs.Prelude.{◌≡◌, ◌<◌, ◌≤◌, ◌^◌, ℕ, Bool, true, List, [], Option, Some, None, ⊤}
 use Rattle.std.specs.Str.Parse.{IsNumeral, digits_value, without_leading_plus}
 use Rattle.model.specs.Words.{Text}
@@ -23,11 +23,12 @@ use Rattle.reload_loop.specs.ServesOn.{ServesOn, standing}
 abbrev pub names_in : ServeArguments → FileNames
 names_in a = record { definitions = a.definitions.now; guarantees = a.guarantees.now; certificates = a.certificates.now }
 
--- the command with these arguments, with the number of rounds between two looks, if one is given
+-- `serve` with these arguments, and with the number of rounds between two looks, if one is given
 abbrev pub asked_by : ServeArguments → Option Text → Wanted
 asked_by a every = Serve a.definitions.now a.guarantees.now a.certificates.now a.listen.now (file_named a.turns) every
 
--- the words ask to serve these files at this address, for `turns` rounds, with a look at the files after every `every` of them, if a number is given
+-- the words ask to serve the files `names` at the address `listen`, for `turns` rounds if that is given, and, if `every` is given,
+-- to look at the files after each `every` rounds
 abbrev pub AsksToServe : List Text → FileNames → Text → Option Text → Option Text → Type 0
 AsksToServe words names listen turns every = AsksFor words (Serve names.definitions names.guarantees names.certificates listen turns every)
 
@@ -39,14 +40,14 @@ IsNotServe (Replay script definitions guarantees certificates) = ⊤
 IsNotServe (Serve definitions guarantees certificates listen turns reload) = ⊥
 IsNotServe (Route definitions exchange key) = ⊤
 
--- the number of rounds between two looks: the number that is given, if it is at least 1
+-- `every`, at least 1, is the number of rounds between two looks: the one that `text` gives, if it gives one from 1 to 2^64 - 1
 pub record IsEvery (text : Text) (every : ℕ) : Type 0 where
   pub some : 1 ≤ every
   pub is : IsNumeral 10 (without_leading_plus text) → digits_value 10 (without_leading_plus text) < 2 ^ 64 → 1 ≤ digits_value 10 (without_leading_plus text)
       → every ≡ digits_value 10 (without_leading_plus text)
 
--- Clients were served, and the files looked at: from a new broker of what the files had when they were read, for the given number of
--- rounds, after the address was reported.
+-- Clients were served by a broker started from the files as they were first read, for the given number of rounds, after the address was
+-- reported. Between rounds there were looks at the files.
 pub record ServesReloading (holds : Text → Known) (names : FileNames) (turns : Option Text)
     (every : Text) (may : Openings) (out err : OutputStream) (end : Served) (whole : Bool) : Type 0 where
   pub first : Snap
@@ -54,7 +55,7 @@ pub record ServesReloading (holds : Text → Known) (names : FileNames) (turns :
   pub force : Config
   pub in_force : IsInForceBy (known_in names first) names force
   pub start : Told
-  -- what standard error holds after that
+  -- what standard error holds once the address was reported
   pub said : Option Text
   pub can_come : CanCome may start out (change err.before said)
   pub count : ℕ
@@ -63,7 +64,7 @@ pub record ServesReloading (holds : Text → Known) (names : FileNames) (turns :
   pub stepped : IsEvery every step
   pub last : Snap
   pub serves : ServesOn holds names step count (standing (served (new_world force) [] start) first said true) (standing end last err.after whole)
-  -- all that arrived at the broker, reloads included, and certified delivery of it
+  -- all that arrived at the broker, reloads included, and certified delivery's promises of it
   pub kept : IsServed engine_lacks force start end
 
 -- How `serve --reload` ends: with the server as it is at the end, if clients could connect,
@@ -77,19 +78,19 @@ pub data ReloadsEnd (holds : Text → Known) (names : FileNames) (turns : Option
   reloading : {end : Served} {whole : Bool} → ServesReloading holds names turns every may out err end whole
       → ReloadsEnd holds names turns every Unasked may out err (Some end) (tried whole 0)
 
--- How a call ends that can open sockets; `may` is what may come of opening them at an address.
+-- How a call ends that can open sockets; `may` has the outcomes that opening them at an address may have, and `Unasked` says that none were asked for.
 pub data RunsWithSockets (words : List Text) (before after : Text → Known) (Unasked : Type 0)
     (may : Text → Openings) (out err : OutputStream) : Option Served → ℕ → Type 0 where
-  -- as `program` ends, unless it was asked to serve; then an allocation failed before the words were read
+  -- it ends as `program` does, without sockets; if the words ask to serve, it does so only because an allocation failed before they were read
   without : {status : ℕ} → RunsAs words before after out err status → Unasked
       → ((names : FileNames) (listen : Text) (turns every : Option Text) → AsksToServe words names listen turns every → TriesPut err out_of_memory 4 status)
       → RunsWithSockets words before after Unasked may out err None status
-  -- it was asked to serve, and not to read its files again
+  -- the words ask to serve, and not to read the files again
   serves : {end : Option Served} {status : ℕ} (names : FileNames) (listen : Text) (turns : Option Text)
       → AsksToServe words names listen turns None → AreKept before after
       → ServeEnds before names.definitions names.guarantees names.certificates turns Unasked (may listen) out err end status
       → RunsWithSockets words before after Unasked may out err end status
-  -- it was asked to serve, and to read them again
+  -- the words ask to serve, and to read the files again
   reloads : {end : Option Served} {status : ℕ} (names : FileNames) (listen every : Text) (turns : Option Text)
       → AsksToServe words names listen turns (Some every) → AreKept before after
       → ReloadsEnd before names turns every Unasked (may listen) out err end status → RunsWithSockets words before after Unasked may out err end status

@@ -10,15 +10,15 @@ use Rattle.server.specs.Streams.{change}
 use Rattle.reload_loop.specs.Snapshots.{Snap}
 use Rattle.reload_loop.specs.Looks.{Looks}
 
--- the state between rounds: what was served, the texts by which what is in force was judged,
--- what standard error holds, and whether it took each line whole
+-- the state between rounds: what was served, the texts by which the configuration in force was judged, what standard error holds, and whether it
+-- took each line whole
 pub record Standing : Type 0 where
   pub served : Served
   pub kept : Snap
   pub told : Option Text
   pub whole : Bool
 
--- the four as one value
+-- the state between rounds with these four parts
 abbrev pub standing : Served → Snap → Option Text → Bool → Standing
 standing v kept told whole = record { served = v; kept = kept; told = told; whole = whole }
 

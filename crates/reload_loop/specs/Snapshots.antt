@@ -9,11 +9,11 @@ use Rattle.server.specs.declared.storage.Unread.TheVariants as unread
 use Rattle.scripts.specs.FileNames.{FileNames}
 use Rattle.reload_loop.specs.declared.snapshots.Names.{Names}
 
--- the names of the three
+-- the names of the three files
 abbrev pub names_of : Names → FileNames
 names_of n = record { definitions = n.definitions.now; guarantees = n.guarantees.now; certificates = n.certificates.now }
 
--- what is known of a file by a read of it
+-- what is known of a file after a read with this result; nothing (`Unknown`) if the file was too long or an allocation failed
 abbrev pub known_of : Result (Vec ℕ) Unread → Known
 known_of (Ok bytes) = Holds bytes.items
 known_of (Err unread.Failed) = Absent
@@ -21,13 +21,13 @@ known_of (Err unread.NoDescriptor) = Absent
 known_of (Err unread.TooLong) = Unknown
 known_of (Err unread.Memory) = Unknown
 
--- what is known of the three files by their reads
+-- what the results of three reads tell about the three files
 pub record Snap : Type 0 where
   pub definitions : Known
   pub guarantees : Known
   pub certificates : Known
 
--- what is known of the file `name`; there is no other file than the three
+-- what is known of the file `name`; any file but the three counts as one that does not exist
 abbrev pub known_in : FileNames → Snap → Text → Known
 known_in names s name =
     if bytes_eq name names.definitions then s.definitions
@@ -35,7 +35,7 @@ known_in names s name =
     else if bytes_eq name names.certificates then s.certificates
     else Absent
 
--- the second value is a result of reading a file about which the first one is true
+-- the second argument is a possible result of reading a file of which `known` is known; `Unknown` always is
 abbrev pub IsSlotOf : Known → Known → Type 0
 IsSlotOf known (Holds text) = IsFileRead known text
 IsSlotOf known Absent = IsUnreadable known
@@ -47,7 +47,7 @@ pub record IsReadFrom (holds : Text → Known) (names : FileNames) (s : Snap) : 
   pub guarantees : IsSlotOf (holds names.guarantees) s.guarantees
   pub certificates : IsSlotOf (holds names.certificates) s.certificates
 
--- the file has the text that was read
+-- the file was read, and has the text that was read
 abbrev pub IsHeld : Known → Known → Type 0
 IsHeld known (Holds text) = HasText known text
 IsHeld known Absent = ⊥
@@ -82,6 +82,6 @@ pub record AreSame (one other : Snap) : Type 0 where
   pub guarantees : IsSameText one.guarantees other.guarantees
   pub certificates : IsSameText one.certificates other.certificates
 
--- one of the three files has another text than in `kept`, or could not be read
+-- one of the three files has another text in `read` than in `kept`, or was not read for one of the two
 abbrev pub IsOther : Snap → Snap → Type 0
 IsOther read kept = AreSame read kept → ⊥

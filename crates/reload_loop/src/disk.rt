@@ -20,7 +20,7 @@ pub struct Disk<'a> {
 /// The path that names the standard input.
 const STANDARD_INPUT: &str = "/dev/stdin";
 
-/// Returns why a read failed, by the kind of its error, if a descriptor was free.
+/// Returns why a read failed, by the kind of its error. A descriptor was free, so that is not the reason.
 fn unread_by_kind(kind: ErrorKind) -> Unread
     ensures { result ≡ why.NoDescriptor → ⊥ }
 {

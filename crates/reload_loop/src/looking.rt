@@ -25,7 +25,7 @@ use std::alloc::Global;
 use std::io::Write;
 use std::{io, mem};
 
-/// Returns what the files put in force, as they were read, or what is reported of one that is refused.
+/// Returns the setup that the files state, by the bytes in `read`, or the refusal of one of them, which is reported.
 fn stated<'a>(alloc: Global, names: Names<'a>, read: &Snapshot) -> Result<Setup, Told<'a>>
     ensures { MatchResult result (IsStated (names_of names.entry) read.now) (λ told. IsWhyRefused (names_of names.entry) read.now told.file.now told.why) }
 {
@@ -44,7 +44,8 @@ fn stated<'a>(alloc: Global, names: Names<'a>, read: &Snapshot) -> Result<Setup,
     }
 }
 
-/// Returns whether the files still are as they were read when `found` was. Never after an allocation failure: memory may be free again.
+/// Returns whether the files still are as they were when `found` was read from them. Returns `false` if judging them failed to allocate, since memory may
+/// be free again.
 fn is_found_again<F: Files>(
     alloc: Global,
     names: Names<'_>,
@@ -63,7 +64,7 @@ fn is_found_again<F: Files>(
     }
 }
 
-/// Reads the files, and returns what they state, or `Nothing` if they have the bytes by which what is in force was judged.
+/// Reads the files, and returns what they state, or `Nothing` if they have the bytes in `kept`, by which the configuration in force was judged.
 fn find<'a, F: Files>(alloc: Global, names: Names<'a>, kept: &Snapshot, files: &mut F) -> Found<'a>
     ensures found { IsFound (F.holds files.old) (names_of names.entry) kept.now result }
     ensures files { AreKept (F.holds files.old) (F.holds files.new) }
@@ -78,8 +79,8 @@ fn find<'a, F: Files>(alloc: Global, names: Names<'a>, kept: &Snapshot, files: &
     }
 }
 
-/// Updates `found` to what the files state now. It stays if they are as they were read then; it is `Nothing` if they have the bytes by which
-/// what is in force was judged.
+/// Updates `found` to what the files state now. Keeps it if the files still are as they were when it was read from them. Sets it to `Nothing` if they
+/// have the bytes in `kept`, by which the configuration in force was judged.
 fn find_again<'a, F: Files>(
     alloc: Global,
     names: Names<'a>,
@@ -101,8 +102,7 @@ fn find_again<'a, F: Files>(
     *found = find(alloc, names, kept, files);
 }
 
-/// Returns whether `setup` may be put in force now. Fails with the first obstacle, or if an allocation fails. Copies nothing of
-/// it.
+/// Checks that `setup` may be put in force now. Fails with the first obstacle, or if an allocation fails. Copies nothing of `setup`.
 fn judge(alloc: Global, engine: &Engine, setup: &Setup) -> Result<(), ReloadFault>
     ensures { JudgesOffer (world_of engine.now) setup.now result }
 {
@@ -138,7 +138,8 @@ fn put_in_force<E: Write>(
     }
 }
 
-/// Puts what was found in force if it was admitted and there is no obstacle. Otherwise reports why not, and remembers it still.
+/// Puts `found` in force and clears it, if it was admitted and there is no obstacle. Otherwise reports why not, and keeps it for the next look, unless
+/// an allocation failed after the setup was handed over: then it is dropped. Does nothing if `found` is `Nothing`.
 fn act<'a, E: Write>(
     alloc: Global,
     server: &mut Server<Engine>,
@@ -171,11 +172,11 @@ fn act<'a, E: Write>(
     }
 }
 
-/// Puts in force what the files state, if they have other bytes than those by which what is in force was judged. If they are refused, or there is
-/// an obstacle, writes one line to `err` and changes nothing else. Fails if `err` doesn't take the line whole.
+/// Puts in force what the files state, if they have other bytes than those in `kept`, by which the configuration in force was judged. If they are
+/// refused, there is an obstacle, or an allocation fails, writes one line to `err` and changes nothing else. Fails if `err` doesn't take the line whole.
 ///
-/// What was found and is not in force is remembered, as it was read: while the files are the same they are not judged again. A refusal is
-/// reported again; for what was admitted the broker is asked again for an obstacle.
+/// What was found and not put in force is remembered in `found`: while the files are the same they are not judged again, unless an allocation failed
+/// when they were judged or put in force. A refusal is reported again; for an admitted setup the broker is asked again for an obstacle.
 pub(crate) fn look<'a, F: Files, E: Write>(
     alloc: Global,
     server: &mut Server<Engine>,
@@ -190,7 +191,7 @@ pub(crate) fn look<'a, F: Files, E: Write>(
     ensures looks { Looks (F.holds files.old) (names_of names.entry)
         (change (E.contents err.old) (E.contents err.new)) kept.old (world_of server.old.machine)
         kept.new (world_of server.new.machine) (is_ok result) }
-    // What is remembered; the peers and the files are unchanged, and what was served before is served after.
+    // What is remembered; the peers and the files are unchanged, and `IsServed` is kept.
     ensures found { WasFound (names_of names.entry) kept.new found.new }
     ensures peers { server.new.peers ≡ server.old.peers }
     ensures served { (f : Config) (told now : wire.Told)

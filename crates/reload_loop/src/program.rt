@@ -29,7 +29,7 @@ struct AskedToServe<'a> {
     every: Option<&'a str>,
 }
 
-/// Returns the arguments of `serve`, if that is asked for.
+/// Returns the arguments of `serve`, if `asked` is that command.
 fn asked_to_serve(asked: Asked<'_>) -> Option<AskedToServe<'_>>
     ensures some { IfSome result (λ a. wanted_of asked.entry ≡ asked_by a.arguments (file_named a.every)) }
     ensures none { result ≡ None → IsNotServe (wanted_of asked.entry) }
@@ -56,7 +56,7 @@ fn asked_to_serve(asked: Asked<'_>) -> Option<AskedToServe<'_>>
     }
 }
 
-/// Returns the number of rounds between two looks at the files: the given number, at least 1.
+/// Returns the number of rounds between two looks at the files: `given`, or 1 if that is 0 or not a number below 2^64.
 fn every_of(given: &str) -> u64
     ensures { IsEvery given.now result }
 {
@@ -67,7 +67,7 @@ fn every_of(given: &str) -> u64
     }
 }
 
-/// Returns the status of serving, by whether each line of a look was taken whole.
+/// Returns the exit status of serving: 0 if standard error took each line whole, otherwise 4.
 fn status_of(whole: bool) -> u8
     ensures { result ≡ tried whole 0 }
 {
@@ -134,7 +134,7 @@ fn serve_reloading<L: Listener, F: Files, O: Write, E: Write>(
 /// Does what the words ask for, `serve` too, and returns the exit status, and the server if clients were served.
 ///
 /// Any other command is done as `server::program` does it. `serve` reports on `out` where clients connect, once its files are judged.
-/// With `--reload` it looks at them again while it serves.
+/// With `--reload` it looks at its files again while it serves.
 pub fn program_with_sockets<S: AsStr, L: Listener, F: Files, O: Write, E: Write>(
     alloc: Global,
     words: &[S],

@@ -22,10 +22,10 @@ use std::io::Write;
 
 /// Does `turns` rounds, with a look at the files after every `every` of them, except at the end.
 ///
-/// If the files have other bytes than `kept`, by which what is in force was judged, what they state is put in force. If they are
-/// refused, or there is an obstacle, one line is written to `err`, and what is in force and `kept` stay. The next look tries again: files are
-/// judged again once they have other bytes; until then a refusal is reported at each look, and what was admitted is put in force at the first look
-/// at which there is no obstacle. Returns whether `err` took each such line whole.
+/// A look puts in force what the files state if they have other bytes than `kept`, by which the configuration in force was judged. If they are
+/// refused, there is an obstacle, or an allocation fails, it writes one line to `err`, and the configuration in force and `kept` stay. The next look
+/// tries again: files are judged again once they have other bytes, or after an allocation failure. Until then a refusal is reported at each look, and
+/// an admitted setup is put in force at the first look at which there is no obstacle. Returns whether `err` took each such line whole.
 pub fn serve_and_reload<W: Wire, F: Files, E: Write>(
     alloc: Global,
     server: &mut Server<Engine>,
@@ -43,7 +43,7 @@ pub fn serve_and_reload<W: Wire, F: Files, E: Write>(
         kept.old (E.contents err.old) true)
         (standing (served (world_of server.new.machine) server.new.peers (W.told sockets.new))
         kept.new (E.contents err.new) result) }
-    // What was served before is served after: all that arrived since the server was new, reloads included, and certified delivery's promises of it.
+    // `IsServed` is kept: it has all that arrived since the server was new, reloads included, and certified delivery's promises of it.
     ensures served { (f : Config) (told : Told)
         → IsServed engine_lacks f told (served (world_of server.old.machine) server.old.peers (W.told sockets.old))
         → IsServed engine_lacks f told (served (world_of server.new.machine) server.new.peers (W.told sockets.new)) }

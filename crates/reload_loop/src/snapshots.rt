@@ -24,7 +24,7 @@ pub struct Snapshot {
     certificates: Result<Vec<u8>, Unread>,
 }
 
-/// Written out so that a drop is one call.
+/// Not derived: a derived drop is expanded, and proved again, in each function that drops the value.
 impl Drop for Snapshot {
     fn drop(self) {
         let Snapshot {
@@ -59,14 +59,14 @@ impl Snapshot {
         }
     }
 
-    /// Returns whether each of the three was read.
+    /// Returns whether each of the three files was read.
     fn is_whole(&self) -> bool
         ensures { result ≡ true → AllRead self.now }
     {
         self.definitions.is_ok() & self.guarantees.is_ok() & self.certificates.is_ok()
     }
 
-    /// Returns whether each of the three was read, and its file still has the same bytes. No file is changed.
+    /// Returns whether each of the three files was read and still has the same bytes. No file is changed.
     pub(crate) fn is_held<F: Files>(&self, alloc: Global, names: Names<'_>, files: &mut F) -> bool
         ensures held { result ≡ true → AreHeld (F.holds files.old) (names_of names.entry) self.now }
         ensures files { AreKept (F.holds files.old) (F.holds files.new) }
@@ -85,7 +85,7 @@ impl Snapshot {
             && is_found_in(alloc, files, names.certificates, &self.certificates)
     }
 
-    /// Returns whether each file was read in both, with the same bytes.
+    /// Returns whether each file was read in both snapshots, with the same bytes.
     pub(crate) fn has_same(&self, other: &Snapshot) -> bool
         ensures { Decides result (AreSame self.now other.now) }
     {
@@ -123,7 +123,7 @@ fn have_same(one: &Result<Vec<u8>, Unread>, other: &Result<Vec<u8>, Unread>) -> 
     }
 }
 
-/// Returns whether the file `name` still is as it was read. One that was too long is read whole; an allocation failure never counts as the same.
+/// Returns whether the file `name` still is as it was read. A file that was too long is read again; an allocation failure never counts as the same.
 fn is_found_in<F: Files>(
     alloc: Global,
     files: &mut F,

@@ -15,7 +15,7 @@ pub record IsConsumed (b : Broker) (q : Text) : Type 0 where
   pub among : IsIn consumer channel.consumers
   pub takes : consumer.queue ≡ q
 
--- This is what the broker has: for each queue of the topology its entries, and whether a consumer takes from it.
+-- `entries` and `consumed` are what the broker has for each queue of the topology, by index: its entries, and whether a consumer takes from it.
 pub record ShowsQueues (t : Topology) (entries : ℕ → List Entry) (consumed : ℕ → Bool) (b : Broker) : Type 0 where
   pub queue : (place : ℕ) (q : Text) → slice_get (queue_names t.queues) place ≡ Some q → b.queue q ≡ entries place
   pub consumers : (place : ℕ) (q : Text) → slice_get (queue_names t.queues) place ≡ Some q → (consumed place ≡ true) ↔ IsConsumed b q

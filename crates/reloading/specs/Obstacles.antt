@@ -18,45 +18,45 @@ use Rattle.reloading.specs.LiveQueues.{ShowsQueues}
 abbrev pub IsUsed : List Entry → Bool → Type 0
 IsUsed entries consumed = (entries ≡ [] → ⊥) ⊎ (consumed ≡ true)
 
--- a queue in use is reported
+-- the queue `q` is reported if it is in use
 abbrev pub TellsUse : List Entry → Bool → Text → Option Obstacle → Type 0
 TellsUse entries consumed q (Some o) = IsUsed entries consumed × (o ≡ InUse q)
 TellsUse entries consumed q None = IsUsed entries consumed → ⊥
 
--- a queue in use that the new topology lacks is reported
+-- the queue `q` is reported if it is in use and the new topology lacks it
 abbrev pub TellsQueue : Topology → (ℕ → List Entry) → (ℕ → Bool) → ℕ → Text → Option Obstacle → Type 0
 TellsQueue new entries consumed p q (Some o) = (IsIn q (queue_names new.queues) → ⊥) × TellsUse (entries p) (consumed p) q (Some o)
 TellsQueue new entries consumed p q None = (IsIn q (queue_names new.queues) → ⊥) → TellsUse (entries p) (consumed p) q None
 
--- Two messages were first published alike, and have the same key now.
+-- Two messages were first published to the same exchange with the same key, and have the same key now.
 pub record AreAlike (m o : Message) : Type 0 where
   pub key : m.key ≡ o.key
   pub exchange : m.first_exchange ≡ o.first_exchange
   pub first_key : m.first_key ≡ o.first_key
 
--- the guarantee endangers no message of this queue, whatever it is
+-- the guarantee endangers no message of the queue `q`, whatever the message is
 abbrev pub EndangersNone : Topology → Guarantee → Text → Type 0
 EndangersNone new g q = (m : Message) → Endangers new g q m → ⊥
 
--- an entry of this queue that the guarantee endangers is reported, with the guarantee's number
+-- the guarantee `g`, number `number`, endangers the entry `e` of the queue `q`, and the obstacle says that; or, for `None`, it doesn't endanger it
 abbrev pub TellsEntry : Topology → Guarantee → ℕ → Text → ℕ → Entry → Option Obstacle → Type 0
 TellsEntry new g number q j e (Some o) = Endangers new g q e.message × (o ≡ Breaks q e.message.first_key number)
 TellsEntry new g number q j e None = Endangers new g q e.message → ⊥
 
--- the first such entry of the queue
+-- of the queue's entries, the first that the guarantee endangers is reported; `None` if there is none
 abbrev pub TellsEntries : Topology → Guarantee → ℕ → (ℕ → List Entry) → ℕ → Text → Option Obstacle → Type 0
 TellsEntries new g number entries p q o = TellsFirst (TellsEntry new g number q) (entries p) o
 
--- the first such entry, of the queues with these names in order
+-- the first entry that the guarantee endangers is reported, in the order of the queues `names` and of their entries; `None` if there is none
 abbrev pub TellsQueues : Topology → List Text → (ℕ → List Entry) → ℕ → Guarantee → Option Obstacle → Type 0
 TellsQueues new names entries i g o = TellsFirst (TellsEntries new g (i + 1) entries) names o
 
--- this is the first obstacle to the reload, or `None` if there is none
+-- the result is the first obstacle to the reload, or `None` if there is none
 abbrev pub Judges : Topology → Config → Broker → Option Obstacle → Type 0
 Judges old new b (Some o) = IsObstacle old new b o
 Judges old new b None = NothingStands old new b
 
--- the same for each broker that has these entries and consumers, whoever may log in
+-- the result is the first obstacle to the reload, or `None` if there is none, for each broker with these entries and consumers, whoever may log in
 abbrev pub JudgesReload : Topology → (ℕ → List Entry) → (ℕ → Bool) → Topology → List Guarantee → Option Obstacle → Type 0
 JudgesReload old entries consumed new gs told =
     (b : Broker) (users : List User) → ShowsQueues old entries consumed b → Judges old (record { topology = new; guarantees = gs; users = users }) b told

@@ -1,4 +1,4 @@
--- Messages that are remembered, so that those like them are not judged again (own).
+-- Messages that are remembered, so that messages like them are not judged again (own).
 use Rattle.std.specs.Prelude.{List, [], ◌∷◌, Option, Some, None}
 use Rattle.std.specs.Borrow.{Bor}
 use Rattle.model.specs.Message.{Message}

@@ -11,16 +11,16 @@ use Rattle.model.specs.declared.topologies.Mode.TheVariants.{Never}
 use Rattle.reloading.specs.First.{TellsFirst}
 use Rattle.reloading.specs.Obstacles.{TellsQueue}
 
--- a name that is shared in a report; one of at most 22 bytes is copied, which doesn't allocate
+-- a name of more than 22 bytes: putting it into a report may fail to allocate; a shorter one is copied without an allocation
 abbrev pub IsLong : Text → Type 0
 IsLong q = 22 < length q
 
--- A reload to the new topology may fail to allocate: each queue in use is declared in it, or the first that is not has a long name.
+-- When a reload to the new topology may fail to allocate: if each queue in use is declared in it, or if the first that is not has a long name.
 pub data MayWant (old new : Topology) (b : Broker) : Type 0 where
   none_gone : NoneIsOrphaned old new b → MayWant old new b
   long_name : (q : Text) → IsFirstOrphaned old new b q → IsLong q → MayWant old new b
 
--- The first queue in use that is gone, of those with these names, has a long name.
+-- Of the queues with these names, the first that is in use and that the new topology lacks has a long name.
 pub record FirstIsLong (new : Topology) (names : List Text) (entries : ℕ → List Entry) (consumed : ℕ → Bool) : Type 0 where
   pub queue : Text
   pub first : TellsFirst (TellsQueue new entries consumed) names (Some (InUse queue))

@@ -22,7 +22,7 @@ use model::{Message, Mode, Obstacle, Text};
 use paths::{Deaths, Explored, Leading};
 use std::alloc::{AllocError, Global};
 
-/// Returns the obstacle that a message in `queue` breaks the guarantee with this number.
+/// Returns the obstacle which says that `message`, in `queue`, breaks guarantee number `guarantee`, counted from 1.
 fn breaks(queue: &Text, message: &Message, guarantee: usize) -> Result<Obstacle, AllocError>
     ensures { IfOk result (λ o. o ≡ Breaks queue.now message.now.first_key guarantee) }
 {
@@ -33,7 +33,7 @@ fn breaks(queue: &Text, message: &Message, guarantee: usize) -> Result<Obstacle,
     })
 }
 
-/// Returns the message in `queue` with the first of the guarantees before index `bound` that endangers it, if one does.
+/// Returns the danger to `message`, which is in `queue`, from the first guarantee before index `bound` that endangers it, if one does.
 fn endangered(
     alloc: Global,
     topology: &Topology,
@@ -62,7 +62,7 @@ fn endangered(
     }
 }
 
-/// Returns the same, but `None` at once if `like` is a message like this one that none of these guarantees endangers.
+/// Returns what [`endangered`] does, but `None` at once if there is a `like`: a message like `message` that none of these guarantees endangers.
 fn endangered_next(
     alloc: Global,
     topology: &Topology,
@@ -89,8 +89,8 @@ fn endangered_next(
     }
 }
 
-/// Returns the first message of the queue at index `place` that the first of the guarantees before index `bound` endangers that endangers one at all.
-/// Those before index `least` endanger none.
+/// Finds the first guarantee before index `bound` that endangers a message of the queue at index `place`, and returns the first message that it
+/// endangers. The guarantees before index `least` endanger none.
 fn first_of_entries<S: LiveQueues>(
     alloc: Global,
     live: &S,
@@ -129,8 +129,8 @@ fn first_of_entries<S: LiveQueues>(
     Ok(found)
 }
 
-/// Returns the same of a queue with a dead-letter exchange, without looking at its messages if none of the guarantees before index `bound` may endanger
-/// one.
+/// Returns what [`first_of_entries`] does, without looking at the queue's messages if no guarantee before index `bound` may endanger one. The queue
+/// has a dead-letter exchange.
 fn first_of_dying<S: LiveQueues>(
     alloc: Global,
     live: &S,
@@ -157,7 +157,8 @@ fn first_of_dying<S: LiveQueues>(
     }
 }
 
-/// Returns the same of any queue. It may be one that the new topology lacks.
+/// Returns what [`first_of_entries`] does, for any queue of the old topology; `None` at once if it has no dead-letter exchange in the new topology,
+/// or is not there.
 fn first_of_queue<S: LiveQueues>(
     alloc: Global,
     live: &S,
@@ -182,7 +183,7 @@ fn first_of_queue<S: LiveQueues>(
     }
 }
 
-/// Returns the first message of all queues that the first guarantee endangers that endangers one. All messages are walked once.
+/// Finds the first guarantee that endangers a message of any queue, and returns the first message that it endangers. All messages are walked once.
 fn first_of_queues<S: LiveQueues>(
     alloc: Global,
     live: &S,
@@ -234,8 +235,8 @@ fn some_forbid(guarantees: &[Guarantee]) -> bool
 /// Returns the first message that one of the guarantees endangers, guarantee by guarantee. Fails only if one of them is a `never` and an allocation
 /// fails.
 ///
-/// What dead letters reach is explored once for all guarantees, and all messages are walked once: of the guarantees that endanger one, the first so far
-/// is kept, and only those before it are looked at after that.
+/// What dead letters reach is explored once for all guarantees, and all messages are walked once. Once a guarantee endangers a message, later messages are
+/// judged only by the guarantees before it.
 pub fn first_breach<S: LiveQueues>(
     alloc: Global,
     live: &S,

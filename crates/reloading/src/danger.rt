@@ -7,6 +7,6 @@ use model::Obstacle;
 pub struct Danger {
     /// The index of the guarantee.
     pub guarantee: usize,
-    /// The message as an obstacle.
+    /// The obstacle that reports the message.
     pub obstacle: Obstacle,
 }

@@ -19,8 +19,8 @@ use std::alloc::{AllocError, Global};
 /// allocation fails. It may allocate only if each queue in use is declared in `topology` and one of `guarantees` is a `never`, or if the first queue
 /// in use that is not declared has a name of more than 22 bytes.
 ///
-/// First are queues in use that are gone, in the order of `old`; then, guarantee by guarantee, queue by queue of `old` and entry by entry,
-/// messages that could reach a queue that is forbidden them by dead-lettering.
+/// First come queues in use that `topology` lacks, in the order of `old`. Then come, guarantee by guarantee, queue by queue of `old` and entry by
+/// entry, messages that could reach, by dead-lettering, a queue that the guarantee forbids to them.
 pub fn obstacle<S: LiveQueues>(
     alloc: Global,
     live: &S,
@@ -29,7 +29,7 @@ pub fn obstacle<S: LiveQueues>(
     guarantees: &[Guarantee],
 ) -> Result<Option<Obstacle>, AllocError>
     ensures told { IfOk result (JudgesReload old.now (S.entries live.now) (S.consumed live.now) topology.now guarantees.now) }
-    // When it may fail to allocate: if no queue in use is gone, only for a `never`.
+    // When it may fail to allocate: as `MayWant` says, and, if each queue in use is still declared, only with a `never` guarantee.
     ensures wants { OnErr result ((b : Broker) → ShowsQueues old.now (S.entries live.now) (S.consumed live.now) b → MayWant old.now topology.now b) }
     ensures never { OnErr result ((b : Broker) → ShowsQueues old.now (S.entries live.now) (S.consumed live.now) b
         → NoneIsOrphaned old.now topology.now b → HasNever guarantees.now) }

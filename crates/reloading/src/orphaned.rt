@@ -22,7 +22,7 @@ fn is_used<S: LiveQueues>(live: &S, place: usize) -> bool
     live.walk(place).next().is_some() || live.is_consumed(place)
 }
 
-/// Returns a copy of a name. Fails only if the name is long and the allocation fails.
+/// Returns a copy of a name. Fails only if the name has more than 22 bytes and the allocation fails.
 fn told_name(name: &Text) -> Result<Text, AllocError>
     ensures same { IfOk result (λ t. t ≡ name.now) }
     ensures wants { OnErr result (IsLong name.now) }
@@ -66,7 +66,7 @@ fn orphaned_at<S: LiveQueues>(
     }
 }
 
-/// Returns the first queue in use that the new topology lacks, as an obstacle. Fails only if its name is long and the allocation fails.
+/// Returns the first queue in use that the new topology lacks, as an obstacle. Fails only if its name has more than 22 bytes and the allocation fails.
 pub fn first_orphaned<S: LiveQueues>(
     live: &S,
     old: &Topology,

@@ -1,4 +1,4 @@
-//! Remembers messages that were judged, so that those like them are not judged again.
+//! Remembers messages that were judged, so that messages like them are not judged again.
 
 ghost use Rattle.std.specs.Prelude.{◌≡◌, ◌<◌, ◌⊎◌, [], true, IfSome};
 ghost use Rattle.model.specs.Message.{Message as Seen};
@@ -24,7 +24,7 @@ pub fn none_passed<'a>() -> Passed<'a>
     [None; SLOTS]
 }
 
-/// Returns whether two messages were first published alike and have the same key now.
+/// Returns whether two messages were first published to the same exchange with the same key, and have the same key now.
 fn are_alike(one: &Message, other: &Message) -> bool
     ensures { result ≡ true → AreAlike one.now other.now }
 {
@@ -52,7 +52,7 @@ fn first_slot(message: &Message) -> usize
     ((mix ^ (mix >> 32)) % 2048) as usize
 }
 
-/// Returns what is in this slot, if it is like `message`.
+/// Returns the message in slot `slot`, if there is one and it is like `message`.
 pub fn like_at<'a>(passed: &Passed<'a>, slot: usize, message: &Message) -> Option<&'a Message>
     requires { slot < 2048 }
     ensures kept { IfSome result (λ m. IsIn m.now (kept passed.now)) }
@@ -64,7 +64,7 @@ pub fn like_at<'a>(passed: &Passed<'a>, slot: usize, message: &Message) -> Optio
     }
 }
 
-/// Returns whether this slot is empty or has a message like this one.
+/// Returns whether slot `slot` is empty or has a message like `message`.
 fn may_stand(passed: &Passed<'_>, slot: usize, message: &Message) -> bool
     requires { slot < 2048 }
 {
@@ -74,7 +74,7 @@ fn may_stand(passed: &Passed<'_>, slot: usize, message: &Message) -> bool
     }
 }
 
-/// Returns the first of the slots that are tried for a message that is empty or has one like it; the first of all if there is none.
+/// Returns, of the slots that are tried for `message`, the first that is empty or has a message like it; or the first of all if there is none.
 fn found_slot(passed: &Passed<'_>, message: &Message) -> usize
     ensures { result < 2048 }
 {
@@ -88,8 +88,8 @@ fn found_slot(passed: &Passed<'_>, message: &Message) -> usize
     first
 }
 
-/// Returns the slot that has a message like this one, if it is found, otherwise the one in which to keep this. Looks at slot `before` first, that
-/// of the message before.
+/// Returns a slot that has a message like `message`, if one is found, otherwise the slot in which to keep `message`. Looks first at slot `before`,
+/// which was returned for the message before.
 pub fn slot_of(passed: &Passed<'_>, before: usize, message: &Message) -> usize
     requires { before < 2048 }
     ensures { result < 2048 }
@@ -101,7 +101,7 @@ pub fn slot_of(passed: &Passed<'_>, before: usize, message: &Message) -> usize
     }
 }
 
-/// Remembers `message` in this slot, in place of what is there.
+/// Remembers `message` in slot `slot`, in place of the message that is there, if any.
 pub fn keep<'a>(passed: &mut Passed<'a>, slot: usize, message: &'a Message)
     requires { slot < 2048 }
     ensures { (m : Seen) → IsIn m (kept passed.new) → IsIn m (kept passed.old) ⊎ (m ≡ message.now) }

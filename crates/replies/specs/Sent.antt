@@ -9,15 +9,15 @@ use Rattle.model.specs.declared.events.Send.{Send}
 use Rattle.model.specs.declared.events.Event.{Event}
 use Rattle.model.specs.declared.events.Event.TheVariants.{Open, First, Running, Command, TooLarge, Fault, Lose, Pause, Resume, Deliver}
 
--- each send is for connection c, on a channel that a frame can name, and its method can be encoded; nothing is said of its size
+-- each send is for connection `c`, on a channel that a frame can name, and its method can be encoded; its size may be any
 abbrev pub AreAddressed : ℕ → List Send → Type 0
 AreAddressed c sends = AllByRecursion (IsAddressed c) sends
 
--- what is returned of a publish that is routed nowhere: all of it if it is mandatory, otherwise nothing (AMQP 0-9-1, basic.publish, "mandatory")
+-- the `basic.return` of a publish that is routed nowhere, if it is mandatory, otherwise none (AMQP 0-9-1, basic.publish, "mandatory")
 abbrev pub return_if : ℕ → ℕ → Publish → Content → Option Send
 return_if c h p content = if p.mandatory then Some (return_of c h p content) else None
 
--- what is returned of a publish, if it was routed nowhere
+-- the list of `returned`, if there is one and the publish was routed nowhere (`true`); otherwise empty
 abbrev pub sent_back : Bool → Option Send → List Send
 sent_back false returned = []
 sent_back true None = []

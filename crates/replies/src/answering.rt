@@ -46,8 +46,7 @@ pub fn answer_purge(
     }
 }
 
-/// Builds the step that sends `queue.declare-ok` with the numbers of ready messages and of consumers, or nothing if `no_wait` is
-/// set.
+/// Builds the step that sends `queue.declare-ok` with the counts `ready` and `consumers`, or nothing if the `no_wait` of `declare` is set.
 pub fn answer_queue_declare(
     alloc: Global,
     connection: u64,
@@ -71,7 +70,7 @@ pub fn answer_queue_declare(
     }
 }
 
-/// Adds `basic.consume-ok` to the step, which sends nothing before and has capacity for it, unless `no_wait` is set.
+/// Appends `basic.consume-ok` to the sends of `step` unless `no_wait` is set. The step sends nothing before, and has capacity for one send.
 pub fn answer_consume(step: &mut Step, connection: u64, channel: u16, no_wait: bool, tag: Text)
     requires empty { step.old.sends.items ≡ [] }
     requires room { vec_len step.old.sends < vec_capacity step.old.sends }

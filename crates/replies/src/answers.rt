@@ -9,7 +9,7 @@ ghost use Rattle.model.specs.declared.methods.Method.TheVariants as seen;
 use crate::closes::reply;
 use model::{Ack, Answer, Method, Nack, QueueDeclared, Send, Text};
 
-/// Returns a count as a reply has it: at most 2^32 - 1.
+/// Returns `count` as a reply writes it in 32 bits: at most 2^32 - 1.
 pub(crate) fn written(count: usize) -> u32
     ensures { result ≡ written_count count }
 {
@@ -34,7 +34,7 @@ pub fn open_ok(connection: u64, channel: u16) -> Send
     )
 }
 
-/// Builds `channel.flow-ok`, for a flow that goes on.
+/// Builds `channel.flow-ok` with `active` set: the flow is not stopped.
 pub fn flow_ok(connection: u64, channel: u16) -> Send
     ensures send { result ≡ said.reply connection channel (seen.ChannelFlowOk true) }
     ensures addressed { IsAddressed connection result }
@@ -58,7 +58,7 @@ pub(crate) fn select_ok(connection: u64, channel: u16) -> Send
     reply(connection, channel, Method::ConfirmSelectOk)
 }
 
-/// Builds `queue.purge-ok` with the number of messages removed, at most 2^32 - 1.
+/// Builds `queue.purge-ok` with the number of messages removed, capped at 2^32 - 1.
 pub(crate) fn purge_ok(connection: u64, channel: u16, count: usize) -> Send
     ensures send { result ≡ said.reply connection channel (seen.QueuePurgeOk (written_count count)) }
     ensures addressed { IsAddressed connection result }
@@ -67,8 +67,7 @@ pub(crate) fn purge_ok(connection: u64, channel: u16, count: usize) -> Send
     reply(connection, channel, Method::QueuePurgeOk { message_count })
 }
 
-/// Builds `queue.declare-ok` for the queue with this name, with the numbers of its ready messages and of its consumers, each at
-/// most 2^32 - 1.
+/// Builds `queue.declare-ok` for the queue named `queue`, with its numbers of ready messages and of consumers, each capped at 2^32 - 1.
 pub(crate) fn queue_ok(
     connection: u64,
     channel: u16,
@@ -87,7 +86,7 @@ pub(crate) fn queue_ok(
     reply(connection, channel, Method::QueueDeclareOk(declared))
 }
 
-/// Builds `basic.consume-ok` with this consumer tag.
+/// Builds `basic.consume-ok` for the consumer tag `consumer_tag`.
 pub(crate) fn consume_ok(connection: u64, channel: u16, consumer_tag: Text) -> Send
     ensures send { result ≡ said.reply connection channel (seen.BasicConsumeOk consumer_tag) }
     ensures addressed { length consumer_tag < 256 → IsAddressed connection result }
@@ -95,7 +94,7 @@ pub(crate) fn consume_ok(connection: u64, channel: u16, consumer_tag: Text) -> S
     reply(connection, channel, Method::BasicConsumeOk { consumer_tag })
 }
 
-/// Builds `basic.cancel-ok` with this consumer tag.
+/// Builds `basic.cancel-ok` for the consumer tag `consumer_tag`.
 pub(crate) fn cancel_ok(connection: u64, channel: u16, consumer_tag: Text) -> Send
     ensures send { result ≡ said.reply connection channel (seen.BasicCancelOk consumer_tag) }
     ensures addressed { length consumer_tag < 256 → IsAddressed connection result }

@@ -14,7 +14,7 @@ use std::alloc::AllocError;
 /// The reply code of a publish that is returned: no-route.
 const NO_ROUTE: u16 = 312;
 
-/// Builds `basic.return` for this publish with its content, whose bytes are shared. Fails only if an allocation fails.
+/// Builds `basic.return` for `publish` with its `content`, whose bytes are shared. Fails only if an allocation fails.
 fn return_of(
     connection: u64,
     channel: u16,
@@ -37,7 +37,7 @@ fn return_of(
     })
 }
 
-/// Builds the `basic.return` of a mandatory publish, for the case that it is routed nowhere; `None` if it is not mandatory.
+/// Returns the `basic.return` that `publish` needs if it is routed nowhere, or `None` if it is not mandatory. Fails only if an allocation fails.
 pub fn return_if(
     connection: u64,
     channel: u16,
@@ -54,8 +54,8 @@ pub fn return_if(
     }
 }
 
-/// Builds `basic.get-ok` with this message under delivery tag `tag`; `remaining` messages are ready behind it. The content's bytes are shared.
-/// Fails only if an allocation fails.
+/// Builds `basic.get-ok` for the message of `entry` with the delivery tag `tag`; `remaining` messages are still ready behind it. The content's
+/// bytes are shared. Fails only if an allocation fails.
 pub fn get_ok(
     connection: u64,
     channel: u16,
@@ -81,7 +81,7 @@ pub fn get_ok(
     })
 }
 
-/// Builds `basic.deliver` with this message under delivery tag `tag`, to the consumer with tag `consumer_tag`. The content's bytes are shared.
+/// Builds `basic.deliver` for the message of `entry` with the delivery tag `tag`, to the consumer `consumer_tag`. The content's bytes are shared.
 /// Fails only if an allocation fails.
 pub fn deliver(
     connection: u64,

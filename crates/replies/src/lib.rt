@@ -1,7 +1,7 @@
 //! The methods that the broker sends, and what a step sends and notes.
 //!
-//! Start at [`Step`]. Each method is one of the model's (`Step` and `Deliveries`), for the connection that it is built for
-//! (`specs/Sent.antt`).
+//! Start at [`Step`]. Each contract says which send of the model (its `Step` and `Deliveries`) is built, and that it goes to the
+//! given connection (`specs/Sent.antt`).
 #![tactic(auto)]
 
 mod answering;

@@ -29,7 +29,7 @@ impl Step {
         }
     }
 
-    /// Returns a step that sends nothing and has these notes. Never allocates.
+    /// Returns a step that sends nothing and notes `notes`. Never allocates.
     pub fn noting(alloc: Global, notes: Notes) -> Step
         ensures sends { result.sends.items ≡ [] }
         ensures notes { result.notes ≡ notes }
@@ -54,8 +54,7 @@ impl Step {
         })
     }
 
-    /// Appends `returned` to what is sent, with a note for publish `number`, if there is one and the publish was routed nowhere. There is capacity
-    /// for both.
+    /// If publish `number` was routed nowhere (`is_none`), appends `returned`, if any, to the sends, and a note of it. There is capacity for both.
     pub fn send_back(&mut self, number: u64, returned: Option<Send>, is_none: bool)
         requires sends { vec_len self.old.sends < vec_capacity self.old.sends }
         requires notes { vec_len self.old.notes < vec_capacity self.old.notes }
@@ -77,8 +76,8 @@ impl Step {
         }
     }
 
-    /// Appends the confirm of publish `number` to what is sent and noted, if it has a confirm number. There is capacity for
-    /// both.
+    /// Appends the confirm of publish `number` to the sends and to the notes, if it has a confirm number: nack if a routed queue was full
+    /// (`is_some_full`), otherwise ack. There is capacity for both.
     pub fn confirm(
         &mut self,
         connection: u64,

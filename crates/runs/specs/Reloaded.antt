@@ -9,7 +9,7 @@ use Rattle.runs.specs.Faults.{obstacle_in}
 use Rattle.runs.specs.declared.faults.ReloadFault.{ReloadFault}
 use Rattle.runs.specs.declared.faults.ReloadFault.TheVariants.{Memory}
 
--- It was done, as there was no obstacle: `offered` is in force, each message is marked as one that the reload found, and nothing else changed.
+-- The reload was done, as there was no obstacle: `offered` is in force, each message is marked as one that the reload found, and nothing else changed.
 pub record IsPutInForce (old : World) (offered : Config) (new : World) : Type 0 where
   pub nothing : NothingStands old.config.topology offered old.state.broker
   pub config : new.config ≡ offered
@@ -18,12 +18,12 @@ pub record IsPutInForce (old : World) (offered : Config) (new : World) : Type 0 
   pub given : new.given ≡ old.given
   pub wires : (c : ℕ) → new.wire c ≡ old.wire c
 
--- It was not done: the first obstacle is reported, or an allocation failed, and nothing has changed.
+-- The reload was not done: the first obstacle is reported, or an allocation failed (`None`), and nothing has changed.
 abbrev pub TellsWhyNot : World → Config → Option Obstacle → World → Type 0
 TellsWhyNot old offered (Some o) new = IsObstacle old.config.topology offered old.state.broker o × Same old new
 TellsWhyNot old offered None new = Same old new
 
--- what each result of a reload means: done exactly if there is no obstacle
+-- what each result of a reload means: `Ok`, that there was no obstacle and it was done; an error, that it was not done, and why
 abbrev pub TellsReload : World → Config → Result Unit ReloadFault → World → Type 0
 TellsReload old offered (Ok x) new = IsPutInForce old offered new
 TellsReload old offered (Err f) new = TellsWhyNot old offered (obstacle_in f) new

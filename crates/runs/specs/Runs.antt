@@ -17,14 +17,14 @@ WorksAndTells old c seen new after = (hs : List Happening) × WorksOff old c hs 
 abbrev pub AnswersAndTells : World → Arrival Config → Seen → World → Seen → Type 0
 AnswersAndTells old arrival seen new after = (os : List Occurrence) × IsOffered arrival × Answers old arrival os new × TellsEvents old seen os new after
 
--- the same for a list of arrivals
+-- all that a list of arrivals brings is done, and recorded; what its reloads offer is sound
 abbrev pub PlaysAndTells : World → List (Arrival Config) → Seen → World → Seen → Type 0
 PlaysAndTells old arrivals seen new after = (os : List Occurrence) × AreOffered arrivals × Plays old arrivals os new × TellsEvents old seen os new after
 
--- What happened from a world without connections to `last`, arrival by arrival, and was recorded in `seen`.
+-- The arrivals were played one by one, from a world without connections to `last`, and what happened was recorded in `seen`.
 pub record IsRunOf (f : Config) (arrivals : List (Arrival Config)) (last : World) (seen : Seen) : Type 0 where
   pub occurrences : List Occurrence
   pub plays : Plays (new_world f) arrivals occurrences last
   pub shows : Shows occurrences last seen
-  -- certified delivery
+  -- the promises of certified delivery are kept
   pub promises : KeepsPromises f occurrences last.state.broker seen.connections

@@ -27,7 +27,7 @@ gathered_at [] i bytes = []
 gathered_at (s ∷ ss) zero bytes = record s { output = s.output ++ bytes } ∷ ss
 gathered_at (s ∷ ss) (suc i) bytes = s ∷ gathered_at ss i bytes
 
--- `bytes` are appended to the output of the connection with this number, if it was given
+-- `connections`, with `bytes` appended to the output of connection `c`; unchanged if no connection has that number
 abbrev pub gathered : List Shown → ℕ → List ℕ → List Shown
 gathered connections c bytes = if c == 0 then connections else gathered_at connections (c - 1) bytes
 
@@ -41,7 +41,8 @@ with_opened connections = connections ++ record { output = []; is_over = false }
 abbrev pub AreUnopened : World → Type 0
 AreUnopened w = (i : ℕ) → w.given ≤ i → ((w.wire (i + 1)).output ≡ []) × (is_over w (i + 1) ≡ true)
 
--- The notes are those of what happened; for each connection, what was taken and what is left are all that was put out; and the world is consistent.
+-- `seen` has the notes of the occurrences `os`. For each connection, its bytes in `seen` and those left in its output are together all that was put
+-- out. The world is consistent.
 pub record Records (os : List Occurrence) (w : World) (seen : Seen) : Type 0 where
   pub noted : seen.notes ≡ notes_over os
   pub counted : length seen.connections ≡ w.given
@@ -49,7 +50,7 @@ pub record Records (os : List Occurrence) (w : World) (seen : Seen) : Type 0 whe
   pub unopened : AreUnopened w
   pub consistent : IsConsistent w
 
--- What happens is recorded after what was recorded before.
+-- What happened from `old` to `new`, `os`, was recorded behind what `seen` had recorded before.
 pub record TellsEvents (old : World) (seen : Seen) (os : List Occurrence) (new : World) (after : Seen) : Type 0 where
   pub keeps : (done : List Occurrence) → Records done old seen → Records (done ++ os) new after
 
@@ -59,7 +60,7 @@ pub record TellsEvents (old : World) (seen : Seen) (os : List Occurrence) (new :
 abbrev pub finished : World → ℕ → Shown → Shown
 finished w c s = record { output = s.output ++ (w.wire c).output; is_over = is_over w c }
 
--- the same for each connection
+-- `new` has for each connection all that was put out for it, including what is left (`finished`)
 pub record AreFinished (w : World) (old new : List Shown) : Type 0 where
   pub counted : length new ≡ length old
   pub each : (i : ℕ) (s : Shown) → slice_get old i ≡ Some s → slice_get new i ≡ Some (finished w (i + 1) s)

@@ -12,7 +12,7 @@ use std::mem;
 pub enum ReloadFault {
     /// The new topology lacks this queue, while a message is in it or a consumer takes from it.
     InUse(Text),
-    /// A message in this queue, first published with this key, could reach a queue that a guarantee forbids it by dead-lettering. The
+    /// A message in this queue, first published with this key, could reach, by dead-lettering, a queue that a guarantee forbids to it. The
     /// guarantee's number counts from 1.
     Breaks {
         queue: Text,
@@ -42,7 +42,7 @@ impl From<AllocError> for ReloadFault {
 }
 
 impl ReloadFault {
-    /// Returns the fault of this obstacle. Never allocates.
+    /// Converts an obstacle into the fault that reports it. Never allocates.
     pub fn of(mut obstacle: Obstacle) -> ReloadFault
         ensures { obstacle_in result ≡ Some obstacle }
     {

@@ -1,4 +1,4 @@
-//! A run: arrivals one after another, and what they bring.
+//! Runs arrivals on a machine, one after another, and records what is seen. Start with [`run_over`].
 
 ghost use Rattle.std.specs.Prelude.{◌≡◌, IfOk, OnOk, length, map, take};
 ghost use Rattle.model.specs.Arrivals.{new_world, is_gone, told};
@@ -41,7 +41,7 @@ fn play<M: Machine>(
     Ok(())
 }
 
-/// Does one arrival, and all that it brings.
+/// Performs one arrival, with all commands that it completes, and records what was seen.
 fn arrive<M: Machine>(
     alloc: Global,
     machine: &mut M,
@@ -107,7 +107,7 @@ fn hear<M: Machine>(
     work(alloc, machine, c, transcript)
 }
 
-/// Takes `n` bytes of output of connection `c` and performs what waited for that, unless the connection is gone.
+/// Takes `n` bytes of output of connection `c` and performs the commands that waited for that, unless the connection is gone.
 fn take<M: Machine>(
     alloc: Global,
     machine: &mut M,
@@ -139,7 +139,7 @@ fn pump<M: Machine>(
     }
 }
 
-/// Drops connection `c`, unless it is gone; its remaining output is recorded as never taken.
+/// Drops connection `c`, unless it is gone. Its remaining output, which is never taken, is recorded before.
 fn lose<M: Machine>(machine: &mut M, c: u64, transcript: &mut Transcript) -> Result<(), AllocError>
     ensures { OnOk result (AnswersAndTells (M.world machine.old) (arrival.Lose c) transcript.old (M.world machine.new) transcript.new) }
 {
@@ -170,7 +170,7 @@ fn reload<M: Machine>(
     }
 }
 
-/// Performs turns of a connection until it is idle, paused or over.
+/// Performs turns of connection `c`, and records their notes, until it is idle, paused or over.
 fn work<M: Machine>(
     alloc: Global,
     machine: &mut M,

@@ -72,7 +72,7 @@ pub struct Transcript {
     notes: Vec<Note>,
 }
 
-/// Written out so that a drop is one call.
+/// Not derived: a derived drop is expanded, and proved again, in each function that drops the value.
 impl Drop for Transcript {
     fn drop(self) {
         let Transcript {

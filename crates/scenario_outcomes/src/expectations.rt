@@ -49,7 +49,7 @@ pub fn value_of<T, E: Drop>(call: &'static str, outcome: Result<T, E>) -> Result
     }
 }
 
-/// Checks that `is_so`, which `claim` describes.
+/// Checks that `is_so` is true; `claim` says what that means.
 pub fn expect(claim: &'static str, is_so: bool) -> Result<(), Unmet>
     ensures { IsOk result ↔ IsTrue is_so }
 {

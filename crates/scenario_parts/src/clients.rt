@@ -21,7 +21,7 @@ pub const PUBLISH: &[u8] =
 pub const ACKED: &[u8] =
     b"\x01\x00\x01\x00\x00\x00\x04\x00\x55\x00\x0b\xce\x01\x00\x01\x00\x00\x00\x0d\x00\x3c\x00\x50\x00\x00\x00\x00\x00\x00\x00\x01\x00\xce";
 
-/// The same publish, without confirm.select, up to the first byte of its body, in the middle of a frame.
+/// The publish of [`PUBLISH`], without confirm.select, up to the first byte of its body, in the middle of a frame.
 pub const STOPPED: &[u8] =
     b"\x01\x00\x01\x00\x00\x00\x12\x00\x3c\x00\x28\x00\x00\x06orders\x03new\x00\xce\x02\x00\x01\x00\x00\x00\x0e\x00\x3c\x00\x00\x00\x00\x00\x00\x00\x00\x00\x02\x00\x00\xce\x03\x00\x01\x00\x00\x00\x02h";
 
@@ -45,23 +45,23 @@ pub fn joined(alloc: Global, first: &[u8], second: &[u8]) -> Result<Vec<u8>, Unm
     Ok(bytes)
 }
 
-/// Returns what a client writes that opens and publishes.
+/// Returns [`OPENING`] followed by [`PUBLISH`].
 pub fn opening_and_publish(alloc: Global) -> Result<Vec<u8>, Unmet> {
     joined(alloc, OPENING, PUBLISH)
 }
 
-/// Returns the number of bytes in the replies to a client that opens and publishes.
+/// Returns the length in bytes of the replies to [`opening_and_publish`].
 pub fn answer_len() -> u64 {
     OPENED.len() as u64 + ACKED.len() as u64
 }
 
-/// Checks that `answer` is the replies to a client that opens and publishes.
+/// Checks that `answer` has exactly the replies to [`opening_and_publish`].
 pub fn expect_opened_and_acked(alloc: Global, answer: &[u8]) -> Result<(), Unmet> {
     let expected = joined(alloc, OPENED, ACKED)?;
     expect_bytes("the answer", answer, expected.as_slice())
 }
 
-/// Returns the number of deliveries in `bytes`, which have the ids of basic.deliver nowhere else in these scenarios.
+/// Returns the number of deliveries in `bytes`. Counts the ids of basic.deliver, which occur nowhere else in these scenarios.
 pub fn deliveries_in(bytes: &[u8]) -> u64 {
     bytes.windows(4).filter(|part| **part == *DELIVER).count() as u64
 }

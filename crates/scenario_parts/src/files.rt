@@ -8,6 +8,6 @@ pub const DEFINITIONS: &[u8] =
 pub const GUARANTEES: &[u8] =
     b"{\"guarantees\":[{\"mode\":\"reaches\",\"exchange\":\"X\",\"pattern\":\"orders.#\",\"queue\":\"audit\"}]}";
 
-/// The certificates file of that guarantee, with the five states that docs/FORMATS.md derives.
+/// The certificates file for [`GUARANTEES`], with the five states that docs/FORMATS.md derives.
 pub const CERTIFICATES: &[u8] =
     b"[{\"exchange\":\"X\",\"form\":1,\"mode\":\"reaches\",\"pattern\":\"orders.#\",\"queue\":\"audit\",\"states\":[[0,0,0],[1,1,1],[4,0,8],[4,0,12],[6,2,2]]}]";

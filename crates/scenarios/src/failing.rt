@@ -32,19 +32,19 @@ pub(crate) const PUBLISH_AND_GET: &[u8] =
 pub(crate) const GET_TWICE: &[u8] =
     b"\x01\x00\x01\x00\x00\x00\x0d\x00\x3c\x00\x46\x00\x00\x05audit\x00\xce\x01\x00\x01\x00\x00\x00\x0d\x00\x3c\x00\x46\x00\x00\x05audit\x00\xce";
 
-/// get-ok of `lo` with delivery tag 1, not redelivered, the last ready message, and its content.
+/// get-ok of the message `lo` with delivery tag 1, not redelivered, no ready message behind it, and its content.
 const GOT: &[u8] =
     b"\x01\x00\x01\x00\x00\x00\x1c\x00\x3c\x00\x47\x00\x00\x00\x00\x00\x00\x00\x01\x00\x06orders\x03new\x00\x00\x00\x00\xce\x02\x00\x01\x00\x00\x00\x0e\x00\x3c\x00\x00\x00\x00\x00\x00\x00\x00\x00\x02\x00\x00\xce\x03\x00\x01\x00\x00\x00\x02lo\xce";
 
-/// The same, redelivered, with one ready message behind it.
+/// [`GOT`], but redelivered, with one ready message behind it.
 const GOT_AGAIN: &[u8] =
     b"\x01\x00\x01\x00\x00\x00\x1c\x00\x3c\x00\x47\x00\x00\x00\x00\x00\x00\x00\x01\x01\x06orders\x03new\x00\x00\x00\x01\xce\x02\x00\x01\x00\x00\x00\x0e\x00\x3c\x00\x00\x00\x00\x00\x00\x00\x00\x00\x02\x00\x00\xce\x03\x00\x01\x00\x00\x00\x02lo\xce";
 
-/// get-ok of the message of `PUBLISH` with delivery tag 1, not redelivered, the last ready message, and its content.
+/// get-ok of the message of `PUBLISH` with delivery tag 1, not redelivered, no ready message behind it, and its content.
 const OWN: &[u8] =
     b"\x01\x00\x01\x00\x00\x00\x1c\x00\x3c\x00\x47\x00\x00\x00\x00\x00\x00\x00\x01\x00\x06orders\x03new\x00\x00\x00\x00\xce\x02\x00\x01\x00\x00\x00\x0e\x00\x3c\x00\x00\x00\x00\x00\x00\x00\x00\x00\x02\x00\x00\xce\x03\x00\x01\x00\x00\x00\x02hi\xce";
 
-/// The same with delivery tag 2.
+/// [`OWN`] with delivery tag 2.
 const OWN_BEHIND: &[u8] =
     b"\x01\x00\x01\x00\x00\x00\x1c\x00\x3c\x00\x47\x00\x00\x00\x00\x00\x00\x00\x02\x00\x06orders\x03new\x00\x00\x00\x00\xce\x02\x00\x01\x00\x00\x00\x0e\x00\x3c\x00\x00\x00\x00\x00\x00\x00\x00\x00\x02\x00\x00\xce\x03\x00\x01\x00\x00\x00\x02hi\xce";
 
@@ -54,7 +54,7 @@ const EMPTY: &[u8] = b"\x01\x00\x01\x00\x00\x00\x05\x00\x3c\x00\x48\x00\xce";
 /// The largest number of calls of one kind that are tried.
 const PATIENCE: u64 = 1_000;
 
-/// Returns a client that opens and then writes `then`.
+/// Returns a client that writes [`OPENING`] and then `then`.
 pub(crate) fn client(alloc: Global, then: &[u8], window: usize) -> Result<Client, Unmet> {
     Ok(Client {
         input: joined(alloc, OPENING, then)?,
@@ -164,8 +164,8 @@ fn expect_second(alloc: Global, run: &mut Run, rounds: u64) -> Result<(), Unmet>
     }
 }
 
-/// Checks that the first client is served although the second was lost. It holds its message, and gets that of the second, if it
-/// was published.
+/// Checks that the first client is served although the second was lost. The first holds its own message, and gets that of the second
+/// if that was published.
 fn expect_first(alloc: Global, run: &mut Run, rounds: u64) -> Result<(), Unmet> {
     let is_published = run.has_come(1);
     run.get_twice(alloc, 0, rounds)?;
@@ -176,7 +176,7 @@ fn expect_first(alloc: Global, run: &mut Run, rounds: u64) -> Result<(), Unmet> 
     }
 }
 
-/// Checks that only the client was lost whose read or write failed.
+/// Checks that only a client whose read or write failed was lost.
 fn expect_others(alloc: Global, run: &mut Run, rounds: u64) -> Result<(), Unmet> {
     let victim = run.wire.victim();
     for client in 0..2u64 {
@@ -197,7 +197,7 @@ fn fail_none(alloc: Global, pace: Pace) -> Result<(), Unmet> {
     expect_others(alloc, &mut run, pace.rounds)
 }
 
-/// Checks a run for each call of the kind `asked`, in which that call fails. Returns the number of runs.
+/// For each call of the kind `asked`, checks a run in which that call fails. Returns the number of runs.
 fn fail_each(alloc: Global, pace: Pace, asked: Asked) -> Result<u64, Unmet> {
     for count in 0..PATIENCE {
         let mut run = Run::new(alloc, pace.window, asked, count + 1)?;

@@ -76,8 +76,8 @@ fn largest_publish(alloc: Global) -> Result<Vec<u8>, AllocError> {
     Ok(bytes)
 }
 
-/// Returns the events of a connection that publishes the largest body, gets it, and gets again. Then `taken` bytes of its output
-/// are taken, one number at a time.
+/// Returns the events of a connection that publishes the largest body, gets it, and gets again. Then each number of bytes in
+/// `taken` is taken from its output, one after another.
 fn arrivals(alloc: Global, taken: &[u64]) -> Result<Vec<Arrival<Setup>>, AllocError> {
     let publish = Text::from_vec(largest_publish(alloc)?)?;
     let mut arrivals = Vec::new(alloc);
@@ -91,7 +91,7 @@ fn arrivals(alloc: Global, taken: &[u64]) -> Result<Vec<Arrival<Setup>>, AllocEr
     Ok(arrivals)
 }
 
-/// Returns the transcript of such a connection.
+/// Returns the transcript of the events of [`arrivals`].
 fn shown(alloc: Global, taken: &[u64]) -> Result<Transcript, Unmet> {
     let checked = shop(alloc, Text::short(b"audit"))?;
     let Ok(arrivals) = arrivals(alloc, taken) else {
@@ -136,7 +136,7 @@ pub(crate) fn a_paused_connection_performs_nothing_until_its_output_is_below_the
     )
 }
 
-/// Returns the events of a connection whose publish waits while its output is at the bound, which drops below after a reload.
+/// Returns the events of a connection whose publish waits because its output is past the bound. After the reload the output falls below the bound.
 fn arrivals_with_reload(alloc: Global, reload: Checked) -> Result<Vec<Arrival<Setup>>, AllocError> {
     let mut arrivals = arrivals(alloc, &[])?;
     let setup = Setup::new(reload, Vec::new(alloc));

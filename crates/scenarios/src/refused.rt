@@ -72,8 +72,8 @@ fn expect_one_lost(alloc: Global, wire: &MemoryWire) -> Result<(), Unmet> {
     Ok(())
 }
 
-/// Serves two clients that publish a message and get it, while the machine's call number `count` fails.
-/// Returns whether there was such a call.
+/// Serves two clients that publish a message and get it. Call number `count` fails, of the calls of the machine that may allocate.
+/// Returns whether that call was made.
 fn serve_two(alloc: Global, count: u64) -> Result<bool, Unmet> {
     let mut left = count;
     let machine = Wanting {

@@ -27,25 +27,25 @@ const PAYING: Stated = Stated {
 const NEVER: &[u8] =
     b"{\"guarantees\":[{\"mode\":\"never\",\"exchange\":\"Y\",\"pattern\":\"#\",\"queue\":\"billing\"}]}";
 
-/// Its certificate: the states of `#` after any word and before all words. No key of a binding from `Y` is tracked.
+/// The certificates file of [`NEVER`]: the states of `#` after any word and before all words. No key of a binding from `Y` is tracked.
 const CERTIFICATES: &[u8] =
     b"[{\"exchange\":\"Y\",\"form\":1,\"mode\":\"never\",\"pattern\":\"#\",\"queue\":\"billing\",\"states\":[[2],[3]]}]";
 
-/// `Y` routes to `q2` instead.
+/// [`PAYING`] with one more queue, `q2`, to which `Y` routes instead of `q1`; under the guarantee [`NEVER`].
 const ELSEWHERE: Stated = Stated {
     definitions: b"{\"vhosts\":[{\"name\":\"/\"}],\"users\":[],\"permissions\":[],\"exchanges\":[{\"name\":\"Y\",\"vhost\":\"/\",\"type\":\"fanout\",\"durable\":true,\"auto_delete\":false,\"internal\":false,\"arguments\":{}},{\"name\":\"D\",\"vhost\":\"/\",\"type\":\"direct\",\"durable\":true,\"auto_delete\":false,\"internal\":false,\"arguments\":{}}],\"queues\":[{\"name\":\"q1\",\"vhost\":\"/\",\"durable\":true,\"auto_delete\":false,\"arguments\":{\"x-dead-letter-exchange\":\"D\",\"x-dead-letter-routing-key\":\"pay\"}},{\"name\":\"billing\",\"vhost\":\"/\",\"durable\":true,\"auto_delete\":false,\"arguments\":{}},{\"name\":\"q2\",\"vhost\":\"/\",\"durable\":true,\"auto_delete\":false,\"arguments\":{}}],\"bindings\":[{\"source\":\"Y\",\"vhost\":\"/\",\"destination\":\"q2\",\"destination_type\":\"queue\",\"routing_key\":\"\",\"arguments\":{}},{\"source\":\"D\",\"vhost\":\"/\",\"destination\":\"billing\",\"destination_type\":\"queue\",\"routing_key\":\"pay\",\"arguments\":{}}]}",
     guarantees: NEVER,
     certificates: CERTIFICATES,
 };
 
-/// The same without `q1`.
+/// [`ELSEWHERE`] without the queue `q1`.
 const WITHOUT_Q1: Stated = Stated {
     definitions: b"{\"vhosts\":[{\"name\":\"/\"}],\"users\":[],\"permissions\":[],\"exchanges\":[{\"name\":\"Y\",\"vhost\":\"/\",\"type\":\"fanout\",\"durable\":true,\"auto_delete\":false,\"internal\":false,\"arguments\":{}},{\"name\":\"D\",\"vhost\":\"/\",\"type\":\"direct\",\"durable\":true,\"auto_delete\":false,\"internal\":false,\"arguments\":{}}],\"queues\":[{\"name\":\"billing\",\"vhost\":\"/\",\"durable\":true,\"auto_delete\":false,\"arguments\":{}},{\"name\":\"q2\",\"vhost\":\"/\",\"durable\":true,\"auto_delete\":false,\"arguments\":{}}],\"bindings\":[{\"source\":\"Y\",\"vhost\":\"/\",\"destination\":\"q2\",\"destination_type\":\"queue\",\"routing_key\":\"\",\"arguments\":{}},{\"source\":\"D\",\"vhost\":\"/\",\"destination\":\"billing\",\"destination_type\":\"queue\",\"routing_key\":\"pay\",\"arguments\":{}}]}",
     guarantees: NEVER,
     certificates: CERTIFICATES,
 };
 
-/// Reads these files and admits what they state.
+/// Reads the files in `stated` and admits the topology under its guarantees.
 fn admitted(alloc: Global, stated: Stated) -> Result<Checked, Unmet> {
     let definitions = value_of(
         "read_definitions",
@@ -72,7 +72,7 @@ fn paying_engine(alloc: Global) -> Result<Engine, Unmet> {
     value_of("Engine::new", Engine::new(alloc, checked, Vec::new(alloc)))
 }
 
-/// Checks that a new server over `PAYING` accepts a reload of these files.
+/// Checks that a new server over `PAYING` accepts a reload of the files in `stated`.
 fn expect_reloaded(alloc: Global, stated: Stated) -> Result<(), Unmet> {
     let setup = Setup::new(admitted(alloc, stated)?, Vec::new(alloc));
     let engine = paying_engine(alloc)?;

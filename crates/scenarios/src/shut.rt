@@ -26,7 +26,7 @@ impl<'a> Machine for Shut<'a> {
 
     ghost left = { λ s. 0 };
 
-    // every call may fail for memory
+    // every call may fail to allocate
     ghost lacks = { λ w n. Unit {0} };
 
     fn open(&mut self, _alloc: Global) -> Result<Option<u64>, AllocError> {
@@ -204,7 +204,7 @@ pub(crate) fn a_socket_that_is_refused_is_closed_and_quiet_rounds_rest(
     expect_number("the number of rests", wire.rests, 4)
 }
 
-/// Checks three rounds, in each of which the first pump fails for memory: no further one follows, and the round rests.
+/// Checks three rounds, in each of which the first pump fails to allocate: no further pump follows, and the round rests.
 pub(crate) fn want_of_memory_ends_the_pumps_of_a_round(alloc: Global) -> Result<(), Unmet> {
     let mut wire = OneCaller {
         has_come: true,

@@ -8,7 +8,7 @@ use std::alloc::{AllocError, Global};
 #[derive(Drop)]
 pub(crate) struct Wanting<'a, M: Machine> {
     pub(crate) machine: M,
-    /// The number of such calls up to and including the failing one; 0 after it.
+    /// The number of calls that may allocate, up to and including the failing one; 0 after it.
     pub(crate) left: &'a mut u64,
 }
 
@@ -31,7 +31,7 @@ impl<'a, M: Machine> Machine for Wanting<'a, M> {
 
     ghost config = { M.config };
 
-    // every call may fail for memory
+    // every call may fail to allocate
     ghost lacks = { λ w n. Unit {0} };
 
     ghost left = { λ s. M.left s.machine };

@@ -4,17 +4,17 @@ use Rattle.scripts.specs.declared.lines.BadLine.{BadLine}
 use Rattle.scripts.specs.declared.lines.BadLine.TheVariants.{Malformed, Memory}
 use Rattle.scripts.specs.Script.{ScriptArrival, opened_after}
 
--- a malformed line is refused only for `why`; an allocation failure promises nothing
+-- `why` holds if the line was refused as malformed; an allocation failure promises nothing
 abbrev pub LineRefused : BadLine → Type 0 → Type 0
 LineRefused Malformed why = why
 LineRefused Memory why = Unit {0}
 
--- the parser returns what the line says, `said`, and calls a line malformed only if it says nothing
+-- the parser returns what `said` has, and calls a line malformed only if `said` is `None`
 abbrev pub TellsIfThere : {X : Type 0} → Result X BadLine → Option X → Type 0
 TellsIfThere (Ok x) said = said ≡ Some x
 TellsIfThere (Err e) said = LineRefused e (said ≡ None)
 
--- the event of a line was appended, if it has one, and `after` connections have been opened after it
+-- `new` is `old` and the event of the line, if it has one, and `after` connections have been opened after the line
 abbrev pub TakesLine : Result ℕ BadLine → List ScriptArrival → List ScriptArrival → ℕ → Option (Option ScriptArrival) → Type 0
 TakesLine (Ok after) old new opened said = (a : Option ScriptArrival) × (said ≡ Some a) × (new ≡ old ++ option_to_list a) × (after ≡ opened_after opened said)
 TakesLine (Err e) old new opened said = LineRefused e (said ≡ None)

@@ -16,15 +16,15 @@ ScriptArrival = Arrival FileNames
 
 -- ---- fields
 
--- the text before the first space, and the text after it
+-- the text before the first space, and the text after it; `None` if there is no space
 abbrev pub cut : Text → Option (Text × Text)
 cut text = option_map (λ place. (take place text, drop (place + 1) text)) (position (λ b. b == 32) text)
 
--- the number whose decimal digits are those of `n` and then `b`; a number is below 2^64
+-- the number with the decimal digits of `n` and then the digit `b`, if it is below 2^64
 abbrev pub with_digit : ℕ → ℕ → Option ℕ
 with_digit n b = if nat_le 48 b && nat_le b 57 && nat_lt (n * 10 + (b - 48)) (2 ^ 64) then Some (n * 10 + (b - 48)) else None
 
--- the number whose decimal digits are those of `n` and then the text
+-- the number with the decimal digits of `n` and then those of the text, if it is below 2^64
 abbrev pub digits_after : ℕ → Text → Option ℕ
 digits_after n [] = Some n
 digits_after n (b ∷ bs) = option_and_then (λ next. digits_after next bs) (with_digit n b)
@@ -34,7 +34,7 @@ abbrev pub number : Text → Option ℕ
 number [] = None
 number (b ∷ bs) = if b == 48 && nat_lt 0 (length bs) then None else digits_after 0 (b ∷ bs)
 
--- the value, if there is one
+-- the value of a success; `None` for an error
 abbrev pub ok_of : {X E : Type 0} → Result X E → Option X
 ok_of (Ok x) = Some x
 ok_of (Err e) = None
@@ -50,11 +50,11 @@ file_name field = if length field == 0 || is_some (cut field) then None else if 
 
 -- ---- lines, with `opened` connections opened before
 
--- the number of connections that a script opens at most
+-- the most connections that a script opens
 abbrev pub most_openings : ℕ
 most_openings = 1024
 
--- the number of channels that a `ready` line opens at most
+-- the most channels that a `ready` line opens
 abbrev pub most_ready : ℕ
 most_ready = 255
 
@@ -97,7 +97,7 @@ three_names fields = option_and_then (λ f. option_and_then (λ more. names_of f
 abbrev pub reload : Text → Option ScriptArrival
 reload fields = option_map (λ names. Reload names) (three_names fields)
 
--- a line of several fields, by the first of them
+-- the event of a line whose first field is `f.0`, and whose other fields are `f.1`
 abbrev pub by_word : ℕ → Text × Text → Option ScriptArrival
 by_word opened f =
     if bytes_eq f.0 (codes "ready") then ready opened f.1 else
@@ -131,7 +131,7 @@ opened_after opened (Some (Some Open)) = opened + 1
 opened_after opened (Some (Some (Ready k))) = opened + 1
 opened_after opened line = opened
 
--- `found` before the events of the rest, unless that is at fault
+-- `found` followed by the events of the other lines, or the number of the first of those at fault
 abbrev pub onto_arrivals : List ScriptArrival → Result (List ScriptArrival) ℕ → Result (List ScriptArrival) ℕ
 onto_arrivals found (Ok rest) = Ok (found ++ rest)
 onto_arrivals found (Err number) = Err number
@@ -153,7 +153,7 @@ script text = arrivals_from 1 0 (lines text)
 
 -- ---- what a reader returns
 
--- why a script is refused: its first line at fault; an allocation failure promises nothing
+-- the refusal `Line n` means that line `n` is the first at fault; an allocation failure promises nothing
 abbrev pub RefusesScript : BadScript → Result (List ScriptArrival) ℕ → Type 0
 RefusesScript (Line n) said = said ≡ Err n
 RefusesScript Memory said = Unit {0}

@@ -15,16 +15,16 @@ use std::str;
 /// An event that a script brings; a reload names its files.
 pub type Arrival = model::Arrival<ReloadFiles>;
 
-/// The number of connections that a script opens at most.
+/// The most connections that a script opens.
 const MOST_OPENINGS: u64 = 1024;
 
-/// The number of channels that a `ready` line opens at most.
+/// The most channels that a `ready` line opens.
 const MOST_READY: u64 = 255;
 
 /// Why a line was not parsed.
 #[derive(Clone, Copy, PartialEq, Eq, Debug, Drop)]
 pub enum BadLine {
-    /// The line has another form, or names a connection that was not opened.
+    /// The line has no form that a script allows, opens too many connections, or names one that was not opened.
     Malformed,
     /// An allocation failed.
     Memory,
@@ -149,7 +149,8 @@ fn opening(opened: u64) -> Option<Arrival>
     Some(Arrival::Open)
 }
 
-/// Parses the line `ready K`, whose `field` is K, with `opened` connections opened before it.
+/// Parses the line `ready K`, whose `field` is K, with `opened` connections opened before it. Returns `None` if K is no number from 1 to 255,
+/// or if no further connection may be opened.
 fn ready(opened: u64, field: &[u8]) -> Option<Arrival>
     ensures { result ≡ ready opened field.now }
 {

@@ -12,7 +12,7 @@ pub struct ReloadFiles {
     certificates: String,
 }
 
-/// Written out, so that a drop is one call.
+/// Not derived: a derived drop is expanded, and proved again, in each function that drops the value.
 impl Drop for ReloadFiles {
     fn drop(self) {
         let ReloadFiles {

@@ -11,7 +11,8 @@ use std::alloc::Global;
 /// Why a script was not read.
 #[derive(Clone, Copy, PartialEq, Eq, Debug, Drop)]
 pub enum BadScript {
-    /// This line, counted from 1, has another form, or names a connection that was not opened.
+    /// The number, counted from 1, of the first line at fault: it has no form that a script allows, opens too many connections, or
+    /// names one that was not opened.
     Line(u64),
     /// An allocation failed.
     Memory,
@@ -27,7 +28,7 @@ fn openings(line: &Option<Arrival>) -> u64
     }
 }
 
-/// Appends the event of a line, if it has one, and returns the number of connections opened after it.
+/// Appends the event of `line` to `found`, if it has one. Returns the number of connections opened by then; `opened` were before it.
 fn take_line(
     alloc: Global,
     found: &mut Vec<Arrival>,

@@ -11,7 +11,7 @@ use std::alloc::Global;
 /// More rounds than the opening and the publish need.
 const ROUNDS: u64 = 64;
 
-/// Checks that a message reaches the second of two queues, to which alone its key is bound.
+/// Checks that a message reaches the second of two queues, the only one to which its key is bound.
 pub(crate) fn a_route_is_asked(alloc: Global) -> Result<(), Unmet> {
     let mut exchanges = Vec::new(alloc);
     let exchange = Exchange {

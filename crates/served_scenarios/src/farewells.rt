@@ -10,13 +10,13 @@ use std::io::{self, Read as _, Write as _};
 use std::net::{Net, OpenStream as _};
 use std::time::Duration;
 
-/// The milliseconds that clients have; they log in within that, too.
+/// The time that clients have, in milliseconds. They have to log in within that, too.
 const TIME: u64 = 1_000;
 
-/// The rounds after which a scenario gives up, whatever else the machine does.
+/// The number of rounds after which a scenario gives up, whatever else the machine does.
 const PATIENCE: u32 = 1_000;
 
-/// The rounds in which all is served that a client wrote. Rounds in which nothing comes wait.
+/// The number of rounds in which everything that a client wrote is served. A round in which nothing comes waits.
 const TURNS: u64 = 4;
 
 /// connection.open of a connection that is open, which is refused with connection.close and code 503.

@@ -38,7 +38,7 @@ enum Ending {
     Closed,
 }
 
-/// Appends what is there for a client to `answer`.
+/// Appends the bytes that a client can read now to `answer`.
 fn read_there<S: io::Read>(client: &mut S, answer: &mut Vec<u8>) -> Result<Ending, Unmet> {
     match client.read_to_end(answer) {
         Ok(_) => Ok(Ending::Closed),
@@ -47,7 +47,7 @@ fn read_there<S: io::Read>(client: &mut S, answer: &mut Vec<u8>) -> Result<Endin
     }
 }
 
-/// Expects that exactly `expected` is there for a client, and that its socket is open or closed as `ending` says.
+/// Expects that a client can read exactly `expected` now, and that its socket is open or closed as `ending` says.
 fn expect_there<S: io::Read>(
     alloc: Global,
     client: &mut S,
@@ -116,11 +116,11 @@ pub(crate) fn a_client_that_closes_its_connection_loses_its_socket<N: Net>(
 /// basic.get of `audit` on channel 1, to be acknowledged.
 const GET: &[u8] = b"\x01\x00\x01\x00\x00\x00\x0d\x00\x3c\x00\x46\x00\x00\x05audit\x00\xce";
 
-/// get-ok of the message of `PUBLISH` with delivery tag 1, given out before and the last, and its content.
+/// get-ok of the message of `PUBLISH` with delivery tag 1: it is redelivered, and no further message is ready. Then its content.
 const GOT_AGAIN: &[u8] =
     b"\x01\x00\x01\x00\x00\x00\x1c\x00\x3c\x00\x47\x00\x00\x00\x00\x00\x00\x00\x01\x01\x06orders\x03new\x00\x00\x00\x00\xce\x02\x00\x01\x00\x00\x00\x0e\x00\x3c\x00\x00\x00\x00\x00\x00\x00\x00\x00\x02\x00\x00\xce\x03\x00\x01\x00\x00\x00\x02hi\xce";
 
-/// What a client held whose socket ended is given to another, while the server goes on.
+/// A message that a client held when its socket ended is given to another client, while the server goes on.
 pub(crate) fn what_a_client_held_that_went_away_is_given_to_another<N: Net>(
     net: &N,
     alloc: Global,
@@ -180,16 +180,16 @@ fn publish_large<S: io::Write>(
 const GET_AND_RECOVER: &[u8] =
     b"\x01\x00\x01\x00\x00\x00\x0d\x00\x3c\x00\x46\x00\x00\x05audit\x00\xce\x01\x00\x01\x00\x00\x00\x05\x00\x3c\x00\x6e\x01\xce";
 
-/// How often the message is got: more often than the system buffers answers.
+/// The number of times that the message is got: too many for the system to buffer all answers.
 const GETS: u64 = 12;
 
-/// The frames of each answer: get-ok, a header, the body in nine frames, and recover-ok.
+/// The number of frames of each answer: get-ok, a header, the body in nine frames, and recover-ok.
 const GET_FRAMES: u64 = 12;
 
-/// The bytes of each answer: 36 and 22, 1,048,576 and 72, and 12; 8 bytes of a frame are beside its payload.
+/// The number of bytes of each answer: 36 of get-ok, 22 of the header, 1,048,576 of the body and 8 for each of its frames, and 12 of recover-ok.
 const GET_BYTES: u64 = 1_048_718;
 
-/// Returns what follows the first frame of `bytes`.
+/// Returns what follows the first frame of `bytes`, or `None` if `bytes` doesn't begin with a whole frame.
 fn behind_frame(bytes: &[u8]) -> Option<&[u8]> {
     let [_, _, _, a, b, c, d, ref rest @ ..] = *bytes else {
         return None;
@@ -202,7 +202,7 @@ fn behind_frame(bytes: &[u8]) -> Option<&[u8]> {
     }
 }
 
-/// Returns how many frames `bytes` are, if they are frames.
+/// Returns the number of frames of which `bytes` consist, or `None` if they aren't frames.
 fn count_frames(bytes: &[u8]) -> Option<u64> {
     let mut rest = bytes;
     let mut count = 0u64;

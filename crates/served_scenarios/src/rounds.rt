@@ -17,10 +17,10 @@ use std::io;
 use std::io::{Read as _, Write as _};
 use std::net::Net;
 
-/// The rounds after which a scenario gives up.
+/// The number of rounds after which a scenario gives up.
 const PATIENCE: u32 = 64;
 
-/// The rounds in which all is served that a client of the system wrote. Rounds in which nothing comes wait.
+/// The number of rounds that suffice to serve everything that a client has written to its socket. A round in which nothing arrives waits.
 const TURNS: u64 = 16;
 
 /// More messages than are read in the rounds of a scenario.
@@ -43,8 +43,8 @@ fn client(alloc: Global, first: &[u8], second: &[u8]) -> Result<Client, Unmet> {
     })
 }
 
-/// Returns two sockets. Each has a whole opening at its first read; at its second the one has a publish that stops inside its body, and the other
-/// a whole one.
+/// Returns two sockets. The first read of each is a whole opening. The second is a publish: of one socket it stops inside its body, of the other it
+/// is whole.
 fn two(alloc: Global) -> Result<MemoryWire, Unmet>
     ensures { IfOk result (λ w. told_by w.log ≡ Some []) }
 {
@@ -106,7 +106,7 @@ fn deliveries_after_one_more(
     Ok(deliveries_in(written.as_slice()))
 }
 
-/// Does rounds up to the first that delivers something, and returns how many deliveries that makes.
+/// Does rounds until one delivers something, and returns the number of deliveries in that round.
 fn first_deliveries(
     alloc: Global,
     server: &mut Server<Engine>,
@@ -121,7 +121,7 @@ fn first_deliveries(
     Ok(0)
 }
 
-/// Of 300 messages for one consumer a round delivers 256, and the next one the others.
+/// Of 300 messages for one consumer, a round delivers 256, and the next round the others.
 pub(crate) fn a_round_makes_256_of_300_deliveries(alloc: Global) -> Result<(), Unmet> {
     let mut server = new_server(alloc)?;
     let mut wire = one_that_publishes_and_consumes(alloc, 300)?;
@@ -145,7 +145,7 @@ fn one_that_fills_and_one_that_does_not(alloc: Global) -> Result<MemoryWire, Unm
     Ok(MemoryWire::new(alloc, clients))
 }
 
-/// Returns how many bytes a read of this socket was offered, if it got any.
+/// Returns the number of bytes that `call` was offered if it is a read of `socket` that got any, otherwise `None`.
 fn room_of(call: &Logged, socket: u64) -> Option<usize> {
     match call {
         Logged::Got(name, room, _) if *name == socket => Some(*room),
@@ -153,7 +153,7 @@ fn room_of(call: &Logged, socket: u64) -> Option<usize> {
     }
 }
 
-/// Returns how many bytes the last read of this socket was offered that got any; 0 if there is none.
+/// Returns the number of bytes that the last read of `socket` was offered, among those that got any; 0 if none did.
 fn last_room(wire: &MemoryWire, socket: u64) -> u64 {
     let mut last = 0;
     for call in &wire.log.calls {
@@ -214,7 +214,7 @@ pub(crate) fn a_client_of_the_system_is_served<N: Net>(
     expect_served(alloc, &mut client)
 }
 
-/// A client that opens and publishes is answered, though the connection of another is reset between the two, which is lost.
+/// A client that opens and publishes is answered, though between the two the connection of another client is reset and lost.
 pub(crate) fn a_client_that_is_reset_is_lost_alone<N: Net>(
     net: &N,
     alloc: Global,

@@ -46,7 +46,7 @@ impl Served {
         Served::over(alloc, sockets)
     }
 
-    /// Makes a server that listens at a free port. A client whose connection is not running has `patience`.
+    /// Makes a server that listens at a free port, and that ends a client whose connection is not running after `patience`.
     pub(crate) fn with_patience(
         rt: &HostRuntime,
         alloc: Global,

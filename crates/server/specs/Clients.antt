@@ -43,7 +43,7 @@ pub record Opened : Type 0 where
   pub told : Told
   pub address : Text
 
--- the outcomes that opening sockets may have: none, or these
+-- the outcomes that opening sockets may have: no sockets (`None`), or open ones
 abbrev pub Openings : Type 1
 Openings = Option Opened → Type 0
 
@@ -51,7 +51,7 @@ Openings = Option Opened → Type 0
 abbrev pub listening_line : Text → Text
 listening_line address = codes "warren: listening on " ++ (address ++ 10 ∷ [])
 
--- the stream took the text and was flushed; or it did not take all, or was not flushed
+-- `true`: the stream took the text and was flushed; `false`: it took the text or a proper prefix of it, and the write or the flush failed
 abbrev pub IsTaken : OutputStream → Text → Bool → Type 0
 IsTaken s text true = GetsText s text
 IsTaken s text false = (done : Bool) × PutsOut s text done
@@ -84,7 +84,8 @@ IsTurns None turns = turns ≡ 18446744073709551615
 IsTurns (Some text) turns = IsNumeral 10 (without_leading_plus text) → digits_value 10 (without_leading_plus text) < 2 ^ 64
     → turns ≡ digits_value 10 (without_leading_plus text)
 
--- How `serve` ends if it served no client, with this exit status. The files are judged before sockets are opened.
+-- How `serve` ends if it served no client, with this exit status. The files are judged before sockets are opened: if they are refused, `Unasked` says
+-- that no sockets were asked for.
 pub data EndsUnserved (holds : Text → Known) (definitions guarantees certificates : Text)
     (Unasked : Type 0) (may : Openings) (out err : OutputStream) : ℕ → Type 0 where
   refused : {file : Text} {status : ℕ} (why : CommandRefusal) → FailsToStart holds definitions guarantees certificates file why → Unasked
@@ -92,7 +93,7 @@ pub data EndsUnserved (holds : Text → Known) (definitions guarantees certifica
   unheard : {status : ℕ} (force : Config) → IsInForce holds (Some definitions) (Some guarantees) (Some certificates) force
       → NobodyComes may out err status → EndsUnserved holds definitions guarantees certificates Unasked may out err status
 
--- A broker was just started from these files, without any connection, sockets were opened, and their address was reported.
+-- A broker without any connection was just started from these files, sockets were opened, and their address was reported.
 pub record Begins (holds : Text → Known) (definitions guarantees certificates : Text) (may : Openings) (out err : OutputStream) (start : Served) : Type 0 where
   pub force : Config
   pub in_force : IsInForce holds (Some definitions) (Some guarantees) (Some certificates) force
@@ -110,10 +111,10 @@ pub record ServesClients (holds : Text → Known) (definitions guarantees certif
   pub count : ℕ
   pub counted : IsTurns turns count
   pub rounds : Rounds engine_lacks count (served (new_world force) [] start) end
-  -- all events that the broker received, and that certified delivery holds for them
+  -- all that arrived at the broker, and certified delivery's promises of it
   pub kept : IsServed engine_lacks force start end
 
--- How `serve` ends: with the served broker as it was left, if it listened, and this exit status.
+-- How `serve` ends: with the last state of the server, if it listened, and this exit status.
 abbrev pub ServeEnds : (Text → Known) → Text → Text → Text → Option Text → Type 0 → Openings → OutputStream → OutputStream → Option Served → ℕ → Type 0
 ServeEnds holds definitions guarantees certificates turns Unasked may out err None status =
     EndsUnserved holds definitions guarantees certificates Unasked may out err status

@@ -7,13 +7,13 @@ use Rattle.server.specs.declared.file_refusals.FileRefusal.TheVariants.{Refused,
 use Rattle.server.specs.declared.storage.Unread.{Unread as Why}
 use Rattle.server.specs.declared.storage.Unread.TheVariants as why
 
--- a file that could not be read, for which no descriptor is free, that is too long, or for which an allocation failed
+-- the refusal of a file, by the reason why it could not be read
 abbrev pub of_file : Why → FileRefusal
 of_file why.Failed = Unread
 of_file why.NoDescriptor = NoDescriptor
 of_file why.TooLong = TooLong
 of_file why.Memory = Memory
 
--- the number of the cause; 14 is an allocation failure
+-- the refusal of a file to which a cause applies, by its number; 14 is an allocation failure
 abbrev pub of_cause : FileCause → FileRefusal
 of_cause cause = if cause_number cause == 14 then Memory else Refused (cause_number cause)

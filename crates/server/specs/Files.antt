@@ -44,18 +44,18 @@ pub record IsFileRead (known : Known) (text : Text) : Type 0 where
   pub whole : HasText known text
   pub short : length text ≤ most_bytes
 
--- the file may have another text, as far as is known
+-- as far as is known, the file may have a text other than `text`
 abbrev pub HasOther : Known → Text → Type 0
 HasOther Unknown text = ⊤
 HasOther Absent text = ⊥
 HasOther (Holds known) text = text ≡ known → ⊥
 
--- whether the file has this text, which is then no longer than `most_bytes`
+-- whether the file has this text; if it has, the text is no longer than `most_bytes`
 abbrev pub TellsSame : Known → Text → Bool → Type 0
 TellsSame known text true = IsFileRead known text
 TellsSame known text false = HasOther known text
 
--- whether the rest of a reader, if that is known, is this text
+-- `same` is whether the rest of a reader is `text`, if the rest is known
 abbrev pub TellsLeft : Option Text → Text → Bool → Type 0
 TellsLeft None text same = ⊤
 TellsLeft (Some left) text true = text ≡ left

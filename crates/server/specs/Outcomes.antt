@@ -27,7 +27,7 @@ fault_number Memory = 6
 abbrev pub Outcome : Type 0
 Outcome = Result Unit CertFault
 
--- an outcome that is printed: an allocation failure is none
+-- the outcome is one that is printed: any but an allocation failure
 abbrev pub IsOutcomeTold : Outcome → Type 0
 IsOutcomeTold (Ok u) = Unit {0}
 IsOutcomeTold (Err Start) = Unit {0}
@@ -37,7 +37,7 @@ IsOutcomeTold (Err (Forbidden at)) = Unit {0}
 IsOutcomeTold (Err Form) = Unit {0}
 IsOutcomeTold (Err Memory) = ⊥
 
--- the certificate at this index is accepted for the guarantee, or this is its first fault; a missing certificate is fault 5
+-- `o` is the outcome for the guarantee `g` and the certificate at index `place`: accepted, or its first fault; a missing certificate is fault 5
 abbrev pub TellsOutcome : Topology → List Certificate → ℕ → Guarantee → Outcome → Type 0
 TellsOutcome t cs place g o = ChecksAt t g cs place o × IsOutcomeTold o
 
@@ -51,7 +51,7 @@ pub record AreOutcomes (t : Topology) (gs : List Guarantee) (cs : List Certifica
   pub told : EachWith (TellsOutcome t cs) 0 gs own
   pub all : outcomes ≡ own ++ of_too_many gs cs
 
--- the certificate is not accepted
+-- whether the certificate is not accepted
 abbrev pub is_fault : Outcome → Bool
 is_fault (Ok u) = false
 is_fault (Err f) = true

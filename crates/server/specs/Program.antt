@@ -37,11 +37,11 @@ use Rattle.server.specs.Outcomes.{Verifies, fault_number}
 
 -- ---- what is in force
 
--- what is in force by these definitions under these guarantees
+-- the configuration of the topology and the users in `stated`, under the guarantees `gs`
 abbrev pub force_of : Stated → List Guarantee → Config
 force_of stated gs = record { topology = stated.topology; guarantees = gs; users = stated.users }
 
--- What is in force by these files: what the definitions state, under exactly the guarantees of their file, each of which has its certificate.
+-- These files put `force` in force: what the definitions state, under exactly the guarantees of their file, each of which has its certificate.
 pub record IsInForce (holds : Text → Known) (definitions guarantees certificates : Option Text) (force : Config) : Type 0 where
   pub stated : Stated
   pub promised : List Guarantee
@@ -221,13 +221,13 @@ IsWhyOfFile (Certificate n fault) known = ⊥
 IsWhyOfFile NotListening known = ⊥
 IsWhyOfFile Memory known = ⊤
 
--- why a script's text is not replayed: its first line at fault; an allocation failure promises nothing
+-- why a script's text is not replayed: its first line at fault; an allocation failure needs no reason
 abbrev pub IsRefusalOf : CommandRefusal → Text → Type 0
 IsRefusalOf (Line n) text = script text ≡ Err n
 IsRefusalOf Memory text = ⊤
 IsRefusalOf other text = ⊥
 
--- Why guarantees are not admitted: the first certificate at fault, counted from 1, and its first fault; an allocation failure promises nothing.
+-- Why guarantees are not admitted: the first certificate at fault, counted from 1, and its first fault; an allocation failure needs no reason.
 abbrev pub IsWhyUnadmitted : Topology → List Guarantee → List Shown → CommandRefusal → Type 0
 IsWhyUnadmitted t gs cs (Line n) = ⊥
 IsWhyUnadmitted t gs cs (Refused n) = ⊥
@@ -251,7 +251,7 @@ pub record IsJudged (before after : Text → Known) (definitions guarantees : Te
   pub judged : JudgesAll stated.topology promised verdicts text status
   pub written : WritesOut before after out verdicts
 
--- `check`, if all guarantees hold and their certificates cannot be written: the verdicts all the same, and why
+-- `check`, if all guarantees hold but their certificates cannot be written: the verdicts are printed all the same, and `why` is the reason
 pub record IsJudgedUnfiled (before after : Text → Known) (definitions guarantees file text : Text) (why : CommandRefusal) : Type 0 where
   pub stated : Stated
   pub promised : List Guarantee
@@ -291,7 +291,7 @@ IsCommandAnswered before after (Replay script definitions guarantees certificate
 IsCommandAnswered before after (Serve definitions guarantees certificates listen turns reload) text status = ⊥
 IsCommandAnswered before after (Route definitions exchange key) text status = IsRouted before definitions exchange key text status × AreKept before after
 
--- what a command prints that could not write its file, why, and the files before and after it
+-- what a command prints if its file can't be written, the reason why it can't, and the files before and after the command
 abbrev pub IsAnsweredUnfiled : (Text → Known) → (Text → Known) → Wanted → Text → Text → CommandRefusal → Type 0
 IsAnsweredUnfiled before after (Check definitions guarantees out) text file why =
     (out ≡ Some file) × IsJudgedUnfiled before after definitions guarantees file text why
@@ -300,7 +300,7 @@ IsAnsweredUnfiled before after (Replay script definitions guarantees certificate
 IsAnsweredUnfiled before after (Serve definitions guarantees certificates listen turns reload) text file why = ⊥
 IsAnsweredUnfiled before after (Route definitions exchange key) text file why = ⊥
 
--- a command is answered in full, or except for the file that `told` reports
+-- a command is answered in full; or, if `told` is a report, in all but the file that the report names
 abbrev pub AnswersBut : (Text → Known) → (Text → Known) → Wanted → Text → ℕ → Option Told → Type 0
 AnswersBut before after wanted text status None = IsCommandAnswered before after wanted text status
 AnswersBut before after wanted text status (Some told) = IsAnsweredUnfiled before after wanted text told.file.now told.why
@@ -355,7 +355,7 @@ abbrev pub IsWhyNotSetUp : (Text → Known) → ScriptArrival → Text → Comma
 IsWhyNotSetUp holds (arrival.Reload names) file why = FailsOver holds (Some names.definitions) (Some names.guarantees) (Some names.certificates) file why
 IsWhyNotSetUp holds said file why = why ≡ Memory
 
--- Why the events of a script are refused: the files of this reload are refused, and those of none before it; or an allocation failed.
+-- Why the events of a script are refused: the files of one reload are refused, while those of all reloads before it are accepted; or an allocation failed.
 pub data FailsToReload (holds : Text → Known) (said : List ScriptArrival) : Text → CommandRefusal → Type 0 where
   at : {file : Text} {why : CommandRefusal} (place : ℕ) (names : FileNames) (before : List (Arrival Config))
       → slice_get said place ≡ Some (arrival.Reload names)
@@ -392,7 +392,7 @@ pub data Fails (holds : Text → Known) : Wanted → Text → CommandRefusal →
       → Fails holds (Replay script definitions guarantees certificates) file why
   -- the exchange does not exist
   unrouted : {file exchange key : Text} → ListsFile (holds file) exchange key None → Fails holds (Route file exchange key) file NoExchange
-  -- `serve` is asked of a call that can open no sockets
+  -- the command is `serve`, and the call can open no sockets
   unheard : {definitions guarantees certificates listen file : Text} {turns reload : Option Text}
       → Fails holds (Serve definitions guarantees certificates listen turns reload) file NotListening
   -- an allocation failed
@@ -412,14 +412,14 @@ TellsLine err line whole = PutsOut err line whole ⊎ PutsOut err out_of_memory 
 abbrev pub RefusesWith : OutputStream → Text → CommandRefusal → ℕ → Type 0
 RefusesWith err file why status = TriesPut err (refusal_line file why) (status_of why) status ⊎ TriesPut err out_of_memory 4 status
 
--- why a script prints nothing was reported, with this exit status
+-- the reason why a script prints nothing was reported, with this exit status
 pub record IsUnplayed (holds : Text → Known) (script : Text) (err : OutputStream) (status : ℕ) : Type 0 where
   pub file : Text
   pub why : CommandRefusal
   pub fails : FailsToPlay holds script file why
   pub told : RefusesWith err file why status
 
--- why a command prints nothing was reported, with this exit status, and it leaves the files like this
+-- the reason why a command prints nothing was reported, with this exit status; the command leaves the files as `after`
 pub record IsWhyTold (before after : Text → Known) (wanted : Wanted) (err : OutputStream) (status : ℕ) : Type 0 where
   pub file : Text
   pub why : CommandRefusal
@@ -436,8 +436,8 @@ abbrev pub ShowsError : ErrorKind → OutputStream → ℕ → Type 0
 ShowsError kind err status = ((kind ≡ OutOfMemory) × TriesPut err out_of_memory 4 status)
     ⊎ ((kind ≡ OutOfMemory → ⊥) × ((done : Bool) × (status ≡ tried done 3)))
 
--- The result of a call: by its words, what is known about files before and after it, what standard output and standard error got, and the exit
--- status. If a stream took only a part, `done` is false and the status is 4.
+-- How a call of the program ends: by its words, what is known about files before and after it, what standard output and standard error got, and the
+-- exit status. If a stream took only a part, `done` is false and the status is 4.
 pub data RunsAs (words : List Text) (before after : Text → Known) (out err : OutputStream) : ℕ → Type 0 where
   -- the command's answer was printed
   printed : (wanted : Wanted) (text : Text) (status : ℕ) (done : Bool) → AsksFor words wanted
@@ -451,7 +451,7 @@ pub data RunsAs (words : List Text) (before after : Text → Known) (out err : O
   told_of : {wanted : Wanted} {file : Text} (why : CommandRefusal) (done : Bool) → AsksFor words wanted
       → IsNotAnswered before after wanted file why → GetsNothing out → PutsOut err (refusal_line file why) done
       → RunsAs words before after out err (tried done (status_of why))
-  -- the command prints nothing, and an allocation failed when the reason was to be reported: `out of memory` is printed instead
+  -- the command prints nothing, and an allocation failed when the reason was to be reported: `warren: memory` is reported instead
   untold : {wanted : Wanted} {file : Text} (why : CommandRefusal) (done : Bool) → AsksFor words wanted
       → IsNotAnswered before after wanted file why → GetsNothing out → PutsOut err out_of_memory done
       → RunsAs words before after out err 4

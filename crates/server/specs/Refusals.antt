@@ -8,14 +8,14 @@ use Rattle.server.specs.declared.storage.Unread.TheVariants as why
 use Rattle.server.specs.declared.refusals.CommandRefusal.{CommandRefusal}
 use Rattle.server.specs.declared.refusals.CommandRefusal.TheVariants.{Refused, TooLong, Unread, NoDescriptor, Memory}
 
--- a file that could not be read, for which no descriptor is free, that is too long, or for which an allocation failed
+-- the refusal of a command, by the reason why its file could not be read
 abbrev pub of_unread : Why → CommandRefusal
 of_unread why.Failed = Unread
 of_unread why.NoDescriptor = NoDescriptor
 of_unread why.TooLong = TooLong
 of_unread why.Memory = Memory
 
--- the refusal of a command for a file that is refused in this way
+-- the refusal of a command whose file is refused in this way
 abbrev pub of_refused : FileRefusal → CommandRefusal
 of_refused (file.Refused n) = Refused n
 of_refused file.TooLong = TooLong
@@ -23,6 +23,6 @@ of_refused file.Unread = Unread
 of_refused file.NoDescriptor = NoDescriptor
 of_refused file.Memory = Memory
 
--- the command is refused because a file is, in this way
+-- the command is refused because `file` is refused, in a way that `IsRefused` allows
 abbrev pub IsOfFile : (Text → FileRefusal → Type 0) → Text → CommandRefusal → Type 0
 IsOfFile IsRefused file why = (cause : FileRefusal) × (why ≡ of_refused cause) × IsRefused file cause

@@ -30,7 +30,7 @@ built_in = record {
   bindings = record { source = codes "orders"; to = place.Queue (codes "audit"); key = codes "new" } ∷ [];
 }
 
--- the file has definitions to which no cause applies, and this is what they state
+-- the file has definitions to which no cause of refusal applies, and they state `stated`
 abbrev pub States : Known → Stated → Type 0
 States known stated = (text : Text) × HasText known text × ReadsDefinitions (Ok stated) text
 
@@ -41,7 +41,7 @@ StatesAt holds (Some file) stated = States (holds file) stated
 
 -- ---- guarantees
 
--- the file has these guarantees, stated for this topology, and no cause applies to it
+-- the file has these guarantees, stated for this topology, and no cause of refusal applies to it
 abbrev pub Promises : Known → Topology → List Guarantee → Type 0
 Promises known t gs = (text : Text) × HasText known text × AreAccepted gs t text
 
@@ -63,7 +63,7 @@ CertifiesAt holds (Some file) cs = HoldsCertificates (holds file) cs
 
 -- ---- refusals
 
--- Why a file is refused: the cause of a number applies to it, it is too long, or it cannot be read; an allocation failure promises nothing.
+-- Why a file is refused: the cause with the number `n` applies to it, it is too long, or it cannot be read; an allocation failure promises nothing.
 abbrev pub IsWhyNot : (ℕ → Text → Type 0) → FileRefusal → Known → Type 0
 IsWhyNot Stands (Refused n) known = (text : Text) × HasText known text × Stands n text
 IsWhyNot Stands TooLong known = IsTooLong known
@@ -95,7 +95,7 @@ HasCertificateCause n text = (cause : FileCause) × (n ≡ cause_number cause) �
 abbrev pub IsWhyUncertified : FileRefusal → Known → Type 0
 IsWhyUncertified why known = IsWhyNot HasCertificateCause why known
 
--- Why a file of this kind yields nothing, and the file concerned: the named one is refused, or an allocation failed.
+-- Why a file of this kind yields nothing: `file` is the named one, and it is refused for `why`; or an allocation failed, and `file` may be any.
 abbrev pub IsWhyNone : (holds : Text → Known) → (FileRefusal → Known → Type 0) → Option Text → Text → FileRefusal → Type 0
 IsWhyNone holds IsWhy named file why = ((named ≡ Some file) × IsWhy why (holds file)) ⊎ (why ≡ Memory)
 
@@ -113,7 +113,7 @@ FailsToCertify holds named file why = IsWhyNone holds IsWhyUncertified named fil
 
 -- ---- definitions with guarantees
 
--- what definitions and guarantees state together, each of which may be named or not
+-- what a definitions file and a guarantees file state together; either may be named or not
 pub record SetsUp (holds : Text → Known) (definitions guarantees : Option Text) (stated : Stated) (gs : List Guarantee) : Type 0 where
   pub states : StatesAt holds definitions stated
   pub promises : PromisesAt holds guarantees stated.topology gs

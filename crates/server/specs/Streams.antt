@@ -8,7 +8,7 @@ pub record OutputStream : Type 0 where
   pub before : Option Text
   pub after : Option Text
 
--- a stream that had the first bytes, and has the second
+-- a stream with the bytes `before` a call and `after` it
 abbrev pub change : Option Text → Option Text → OutputStream
 change before after = record { before = before; after = after }
 
@@ -33,7 +33,7 @@ abbrev pub PutsOut : OutputStream → Text → Bool → Type 0
 PutsOut s text true = GetsText s text
 PutsOut s text false = GetsBeginning s text
 
--- the exit status: 4 if a stream did not take all
+-- the exit status: `status`, or 4 if a stream did not take all of its text
 abbrev pub tried : Bool → ℕ → ℕ
 tried done status = if done then status else 4
 

@@ -27,13 +27,13 @@ EachWith P n (x ∷ xs) (y ∷ ys) = P n x y × EachWith P (n + 1) xs ys
 abbrev pub FindsVerdicts : Topology → List Guarantee → List Verdict → Type 0
 FindsVerdicts t gs vs = EachWith (λ place g v. FindsVerdict t g v) 0 gs vs
 
--- the guarantee is broken
+-- whether the verdict is that the guarantee is broken
 abbrev pub is_no : Verdict → Bool
 is_no (Yes c) = false
 is_no (No r) = true
 is_no (Undecided why) = false
 
--- the guarantee is undecided
+-- whether the verdict is that the guarantee is undecided
 abbrev pub is_undecided : Verdict → Bool
 is_undecided (Yes c) = false
 is_undecided (No r) = false
@@ -99,7 +99,7 @@ pub record JudgesAll (t : Topology) (gs : List Guarantee) (verdicts : List Verdi
   pub status_is : status ≡ status_of_verdicts verdicts
   pub means : IsMeant t gs status
 
--- The same for verdicts that are not kept. A draft, if one is given, gains exactly their certificates, in their order.
+-- `JudgesAll` for some verdicts. A draft, if one is given, gains exactly their certificates, in their order.
 pub record Judges (t : Topology) (gs : List Guarantee) (before after : Option Draft) (text : Text) (status : ℕ) : Type 0 where
   pub verdicts : List Verdict
   pub judged : JudgesAll t gs verdicts text status

@@ -1,4 +1,4 @@
-//! The program without sockets. Start with [`program`]: a command's answer is decided first and printed then.
+//! The program without sockets. Start with [`program`]: it decides a command's answer first, and then prints it.
 
 ghost use Rattle.std.specs.Prelude.{◌≡◌, List, Some, map, option_map, MatchResult};
 ghost use Rattle.model.specs.Words.{Text};
@@ -47,7 +47,7 @@ impl<'a> From<Output> for Answered<'a> {
 }
 
 /// Performs `check DEFS GUARANTEES`: returns the verdict on each guarantee. If `out` is given and all guarantees hold, writes the
-/// certificates to that file; if they can't be written, returns the verdicts all the same, and why.
+/// certificates to that file; if they can't be written, returns the verdicts all the same, and why they can't.
 fn check<'a, F: Files>(
     alloc: Global,
     definitions: &'a str,

@@ -62,7 +62,7 @@ pub struct Service<W: Wire> {
     pub sockets: W,
 }
 
-/// How `serve` ended: its exit status, and, if it listened, what served the clients, as it was left.
+/// The end of `serve`: its exit status, and, if it listened, the server and its sockets in their last state.
 #[derive(Drop)]
 pub struct Ended<W: Wire> {
     pub status: u8,

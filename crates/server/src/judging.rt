@@ -1,15 +1,17 @@
 //! The verdicts of `check`, as lines. Start with [`judge`].
 
-ghost use Rattle.std.specs.Prelude.{◌≡◌, ◌++◌, ◌∷◌, [], codes, decimal, IfOk, OnOk, string_bytes};
+ghost use Rattle.std.specs.Prelude.{◌≡◌, ◌++◌, ◌∷◌, [], codes, decimal, IfOk, IfSome, OnOk, string_bytes};
+ghost use Rattle.paths.specs.Deaths.{AreDeaths};
 ghost use Rattle.certificate.specs.Drafts.{Adds};
 ghost use Rattle.scripts.specs.Transcript.{line, name_word};
 ghost use Rattle.server.specs.Verdicts.{certificates_in, undecided_word, is_no, is_undecided, Judges, path_text, path_words, status_by, verdict_line};
 
-use certificate::Draft;
+use certificate::{Draft, deaths_for};
 use exchange_graph::Topology;
-use guarantee_search::{UndecidedCause, Verdict, search};
+use guarantee_search::{UndecidedCause, Verdict, search_by};
 use guarantees::Guarantee;
 use model::Text;
+use paths::Deaths;
 use scripts::{name_word, put_line};
 use std::alloc::{AllocError, Global};
 
@@ -20,7 +22,7 @@ pub(crate) struct Output {
     pub(crate) status: u8,
 }
 
-/// Returns the line of a guarantee that holds, by a certificate with this number of states.
+/// Returns the line of guarantee `number`, which holds by a certificate with `states` states.
 fn yes_line(alloc: Global, number: u64, states: usize) -> Result<String, AllocError>
     ensures { IfOk result (λ text. string_bytes text ≡ line (decimal number ∷ codes "yes states" ∷ decimal states ∷ [])) }
 {
@@ -51,7 +53,7 @@ fn path_text(alloc: Global, path: &[Text]) -> Result<String, AllocError>
     Ok(text)
 }
 
-/// Returns the line of a guarantee that `key` breaks, with `shown` after the key.
+/// Returns the line of guarantee `number`, which `key` breaks, with `shown` after the key.
 fn no_line_with(alloc: Global, number: u64, key: &[u8], shown: &str) -> Result<String, AllocError>
     ensures { IfOk result (λ text. string_bytes text ≡ decimal number ++ 32 ∷ (codes "no key" ++ 32 ∷ (name_word key.now ++ (shown.now ++ 10 ∷ [])))) }
 {
@@ -59,7 +61,7 @@ fn no_line_with(alloc: Global, number: u64, key: &[u8], shown: &str) -> Result<S
     format!(in alloc; "{number} no key {key}{shown}\n")
 }
 
-/// Returns the line of a guarantee that `key` breaks, with the `path` to the queue, unless it is empty.
+/// Returns the line of guarantee `number`, which `key` breaks, with the `path` to the queue, unless it is empty.
 fn no_line(alloc: Global, number: u64, key: &[u8], path: &[Text]) -> Result<String, AllocError>
     ensures { IfOk result (λ text. string_bytes text ≡ line (decimal number ∷ codes "no key" ∷ name_word key.now ∷ path_words path.now)) }
 {
@@ -77,7 +79,7 @@ fn undecided_word(cause: UndecidedCause) -> &'static str
     }
 }
 
-/// Returns the line of an undecided guarantee.
+/// Returns the line of guarantee `number`, which is undecided.
 fn undecided_line(alloc: Global, number: u64, cause: UndecidedCause) -> Result<String, AllocError>
     ensures { IfOk result (λ text. string_bytes text ≡ line (decimal number ∷ codes "undecided" ∷ undecided_word cause ∷ [])) }
 {
@@ -85,7 +87,7 @@ fn undecided_line(alloc: Global, number: u64, cause: UndecidedCause) -> Result<S
     format!(in alloc; "{number} undecided {cause}\n")
 }
 
-/// Returns the line of a verdict on the guarantee of this number.
+/// Returns the line of the verdict on guarantee `number`.
 fn verdict_line(alloc: Global, number: u64, verdict: &Verdict) -> Result<String, AllocError>
     ensures { IfOk result (λ text. string_bytes text ≡ verdict_line number verdict.now) }
 {
@@ -119,7 +121,7 @@ fn is_undecided(verdict: &Verdict) -> bool
     }
 }
 
-/// Returns the exit status for verdicts of which one is `broken`, or one is `undecided`.
+/// Returns the exit status: 1 if some guarantee is broken, 2 if none is and some is undecided, 0 if all hold.
 fn status_of(broken: bool, undecided: bool) -> u8
     ensures { result ≡ status_by broken undecided }
 {
@@ -146,6 +148,34 @@ fn filed(alloc: Global, file: Option<Draft>, verdict: &Verdict) -> Option<Draft>
     }
 }
 
+/// Does what [`judge`] does. What dead letters reach is explored for each `never` unless `deaths` are given.
+fn judge_by(
+    alloc: Global,
+    topology: &Topology,
+    deaths: Option<&Deaths>,
+    guarantees: &[Guarantee],
+    draft: Option<Draft>,
+) -> Result<(Output, Option<Draft>), AllocError>
+    requires { IfSome deaths (λ d. AreDeaths topology.now d.now) }
+    ensures { IfOk result (λ r. Judges topology.now guarantees.now draft r.1 r.0.text.items r.0.status) }
+{
+    let mut file = draft;
+    let mut text = Vec::new(alloc);
+    let mut number = 1;
+    let mut broken = false;
+    let mut undecided = false;
+    for guarantee in guarantees {
+        let verdict = search_by(alloc, topology, deaths, guarantee)?;
+        put_line(&mut text, verdict_line(alloc, number, &verdict)?)?;
+        broken = broken | is_no(&verdict);
+        undecided = undecided | is_undecided(&verdict);
+        file = filed(alloc, file, &verdict);
+        number += 1;
+    }
+    let status = status_of(broken, undecided);
+    Ok((Output { text, status }, file))
+}
+
 /// Decides each of `guarantees`, and returns a line for each, numbered from 1, with the exit status. If a draft is given, returns
 /// it with the certificates found.
 ///
@@ -159,19 +189,6 @@ pub(crate) fn judge(
 ) -> Result<(Output, Option<Draft>), AllocError>
     ensures { IfOk result (λ r. Judges topology.now guarantees.now draft r.1 r.0.text.items r.0.status) }
 {
-    let mut file = draft;
-    let mut text = Vec::new(alloc);
-    let mut number = 1;
-    let mut broken = false;
-    let mut undecided = false;
-    for guarantee in guarantees {
-        let verdict = search(alloc, topology, guarantee)?;
-        put_line(&mut text, verdict_line(alloc, number, &verdict)?)?;
-        broken = broken | is_no(&verdict);
-        undecided = undecided | is_undecided(&verdict);
-        file = filed(alloc, file, &verdict);
-        number += 1;
-    }
-    let status = status_of(broken, undecided);
-    Ok((Output { text, status }, file))
+    let deaths = deaths_for(alloc, topology, guarantees);
+    judge_by(alloc, topology, deaths.as_ref(), guarantees, draft)
 }

@@ -10,7 +10,7 @@ use std::io::{ErrorKind, Read};
 /// The number of bytes read at a time.
 const PART: usize = 16_384;
 
-/// Returns what follows `part` in `bytes`, or `None` if `bytes` doesn't begin with `part`.
+/// Returns the rest of `bytes` behind `part`, or `None` if `bytes` doesn't begin with `part`.
 fn behind<'a>(bytes: &'a [u8], part: &[u8]) -> Option<&'a [u8]>
     ensures { MatchOption result ((rest : Text) → bytes.now ≡ part.now ++ rest → ⊥) (λ rest. bytes.now ≡ part.now ++ rest.now) }
 {

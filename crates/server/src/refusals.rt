@@ -36,12 +36,12 @@ pub enum CommandRefusal {
     NoDescriptor,
     /// The file cannot be written.
     Unwritten,
-    /// The file has no exchange of this name.
+    /// The file has no exchange of the name that the command gives.
     NoExchange,
-    /// The certificate `number`, counted from 1, has the fault `fault`. Fault 5 also says that it has no guarantee, or that its
-    /// guarantee has no certificate.
+    /// Guarantee or certificate `number`, counted from 1, is at fault: its certificate has the fault `fault`; or, with fault 5, the guarantee has no
+    /// certificate, or the certificate has no guarantee.
     Certificate { number: u64, fault: u8 },
-    /// It can't listen at the given address.
+    /// The program can't listen at the given address.
     NotListening,
     /// An allocation failed.
     Memory,
@@ -181,14 +181,14 @@ fn status_of(refusal: CommandRefusal) -> u8
     }
 }
 
-/// Writes the message for an allocation failure to `err`. If a write fails, a proper prefix of it was written.
+/// Writes the message for an allocation failure to `err`. If a write fails, a proper prefix of the message was written.
 pub fn put_out_of_memory<E: Write>(err: &mut E) -> io::Result<()>
     ensures { PutsOut (change (E.contents err.old) (E.contents err.new)) out_of_memory (is_ok result) }
 {
     put(err, OUT_OF_MEMORY.as_bytes())
 }
 
-/// Writes the message of a refusal to `err`, or the message for an allocation failure if there is no memory for it. If a write
+/// Writes the message of a refusal to `err`, or the message for an allocation failure if building the message fails. If a write
 /// fails, a proper prefix was written.
 pub fn put_refusal<E: Write>(alloc: Global, err: &mut E, told: Told<'_>) -> io::Result<()>
     ensures { TellsLine (change (E.contents err.old) (E.contents err.new)) (refusal_line told.entry.file.now told.entry.why) (is_ok result) }

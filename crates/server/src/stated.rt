@@ -38,8 +38,8 @@ fn read_definitions_of<F: Files>(
 
 /// Reads the definitions of a file. Changes no file.
 ///
-/// Fails with the file's name if the file can't be read or is too long, with the lowest-numbered cause that applies to it, or if
-/// an allocation fails.
+/// Fails with the file's name and the reason: the file can't be read or is too long, a cause applies to it (the lowest-numbered is
+/// reported), or an allocation failed.
 pub(crate) fn definitions_of<'a, F: Files>(
     alloc: Global,
     file: &'a str,

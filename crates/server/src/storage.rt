@@ -24,7 +24,7 @@ pub struct NotWritten;
 
 /// Reads and writes files by name. The program gets its files from here, so that tests can keep them in memory.
 pub trait Files {
-    /// What is known about the file of a name.
+    /// What is known about the file with a given name.
     ghost holds: { Self → List ℕ → Known };
 
     /// Reads the whole file, of at most 16,777,216 bytes.
@@ -34,7 +34,7 @@ pub trait Files {
 
     /// Returns whether the file has exactly `bytes`, of which there are at most 16,777,216.
     ///
-    /// An implementation that reads in parts copies nothing, and stops reading where they differ.
+    /// An implementation that reads in parts copies nothing, and stops reading where the file and `bytes` differ.
     fn has_bytes(&mut self, alloc: Global, name: &str, bytes: &[u8]) -> Result<bool, Unread>
         ensures compared { MatchResult result (TellsSame (holds self.old name.now) bytes.now) (λ why. IsUnread (holds self.old name.now) why) }
         ensures stays { (other : List ℕ) → holds self.new other ≡ holds self.old other }

@@ -1,16 +1,18 @@
 //! The outcomes of `verify`, as lines. Start with [`verify`].
 
-ghost use Rattle.std.specs.Prelude.{◌≡◌, ◌++◌, ◌∷◌, [], codes, decimal, IfOk, OnOk, string_bytes};
+ghost use Rattle.std.specs.Prelude.{◌≡◌, ◌++◌, ◌∷◌, [], codes, decimal, IfOk, IfSome, OnOk, string_bytes};
 ghost use Rattle.std.specs.List.{list_any};
+ghost use Rattle.paths.specs.Deaths.{AreDeaths};
 ghost use Rattle.scripts.specs.Transcript.{line};
 ghost use Rattle.server.specs.Outcomes.{AreOutcomes, is_fault, letter_word, outcome_line, outcome_lines, status_of_outcomes, TellsOutcome, Verifies};
 ghost use Rattle.server.specs.Verdicts.{EachWith};
 
 use crate::judging::Output;
-use certificate::{CertFault, Certificate, check};
+use certificate::{CertFault, Certificate, check_by, deaths_for};
 use exchange_graph::Topology;
 use guarantees::Guarantee;
 use model::Text;
+use paths::Deaths;
 use scripts::{name_word, put_line};
 use std::alloc::{AllocError, Global};
 
@@ -21,19 +23,48 @@ type Outcome = Result<(), CertFault>;
 fn outcome_at(
     alloc: Global,
     topology: &Topology,
+    deaths: Option<&Deaths>,
     guarantee: &Guarantee,
     certificates: &[Certificate],
     place: usize,
 ) -> Result<Outcome, AllocError>
+    requires { IfSome deaths (λ d. AreDeaths topology.now d.now) }
     ensures { IfOk result (TellsOutcome topology.now certificates.now place guarantee.now) }
 {
     if place >= certificates.len() {
         return Ok(Err(CertFault::Form));
     }
-    match check(alloc, topology, guarantee, &certificates[place]) {
+    match check_by(alloc, topology, deaths, guarantee, &certificates[place]) {
         Err(CertFault::Memory) => Err(AllocError),
         outcome => Ok(outcome),
     }
+}
+
+/// Checks the certificate of each guarantee. Fails only if an allocation fails. What dead letters reach is explored for each `never`
+/// unless `deaths` are given.
+fn outcomes_by(
+    alloc: Global,
+    topology: &Topology,
+    deaths: Option<&Deaths>,
+    guarantees: &[Guarantee],
+    certificates: &[Certificate],
+) -> Result<Vec<Outcome>, AllocError>
+    requires { IfSome deaths (λ d. AreDeaths topology.now d.now) }
+    ensures { IfOk result (λ outcomes. EachWith (TellsOutcome topology.now certificates.now) 0 guarantees.now outcomes.items) }
+{
+    let mut outcomes = Vec::new(alloc);
+    for place in 0..guarantees.len() {
+        let outcome = outcome_at(
+            alloc,
+            topology,
+            deaths,
+            &guarantees[place],
+            certificates,
+            place,
+        )?;
+        outcomes.push(outcome)?;
+    }
+    Ok(outcomes)
 }
 
 /// Checks the certificate of each guarantee, in order. Fails only if an allocation fails.
@@ -45,11 +76,8 @@ fn own_outcomes(
 ) -> Result<Vec<Outcome>, AllocError>
     ensures { IfOk result (λ outcomes. EachWith (TellsOutcome topology.now certificates.now) 0 guarantees.now outcomes.items) }
 {
-    let mut outcomes = Vec::new(alloc);
-    for place in 0..guarantees.len() {
-        outcomes.push(outcome_at(alloc, topology, &guarantees[place], certificates, place)?)?;
-    }
-    Ok(outcomes)
+    let deaths = deaths_for(alloc, topology, guarantees);
+    outcomes_by(alloc, topology, deaths.as_ref(), guarantees, certificates)
 }
 
 /// Checks the certificate of each guarantee, and adds fault 5 if there are more certificates than guarantees. Fails only if an
@@ -79,7 +107,7 @@ fn letter_word(alloc: Global, word: &Option<Text>) -> Result<String, AllocError>
     }
 }
 
-/// Returns the line of fault 2: the letter `word` leads out of the state at index `state`.
+/// Returns the line of fault 2: the letter `word` leads from the state at index `state` to one that is neither listed nor left out.
 fn open_line(
     alloc: Global,
     number: u64,

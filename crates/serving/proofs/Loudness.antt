@@ -94,6 +94,10 @@ not_in_set false e = absurd (omega (arith, e))
 marked_out : (loud : List ℕ) (marks : List Bool) → AreLoud loud marks → (i : ℕ) → i < length marks → bit_of loud i ≡ 0 → IsMarkedAt marks i
 marked_out loud marks are i lt e = marked marks i lt (not_in_set (slice_index_or marks i true) (sym (are.each i) ∙ e))
 
+-- one that has no mark is the next
+pub next_here : (marks : List Bool) (from : ℕ) → slice_index_or marks from false ≡ false → IsNextLoud marks from from
+next_here marks from none = record { least = omega arith; loud = none; before = λ i le less. absurd (omega (arith, le, less)) }
+
 -- the next of the set has no mark, and those before it are marked
 pub next_in : (loud : List ℕ) (marks : List Bool) (from slot : ℕ) → AreLoud loud marks → IsNextMark (bit_of loud) from slot → IsNextLoud marks from slot
 next_in loud marks from slot are next =

@@ -14,14 +14,14 @@ accept_call (accept.Socket s) = Accepted s
 accept_call accept.Nothing = Not_accepted
 accept_call accept.Failed = Accept_failed
 
--- the call of a read with this answer; it was offered `room` bytes, and what it got is at the front of `buffer`
+-- the call of a read of socket `s` with this answer; it was offered `room` bytes, and the bytes that it got are the first of `buffer`
 abbrev pub read_call : ℕ → ℕ → Read → List ℕ → Call
 read_call s room (read.Got n) buffer = Got s room (take n buffer)
 read_call s room read.Wait buffer = Nothing_got s room
 read_call s room read.End buffer = Read_ended s room
 read_call s room read.Failed buffer = Read_failed s room
 
--- the call of a write with this answer; what it took are the first of the bytes that it was offered
+-- the call of a write to socket `s` with this answer; the bytes that it took are the first of `offered`
 abbrev pub write_call : ℕ → Write → List ℕ → Call
 write_call s (write.Took n) offered = Took s offered (take n offered)
 write_call s write.Wait offered = Nothing_taken s offered

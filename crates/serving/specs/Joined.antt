@@ -1,4 +1,4 @@
--- What came of each socket, connection by connection (own): the pieces that arrived for a connection are what was read from its socket.
+-- How the calls of each socket match the arrivals of its connection (own): the pieces that arrived are those that were read from the socket.
 use Rattle.std.specs.Prelude.{◌≡◌, ◌+◌, ℕ, List, [], ◌∷◌, ◌++◌, length, filter_map, flat_map, sum_by}
 use Rattle.std.specs.Prelude.{count_by, Bool, false, not, ◌==◌, ◌&&◌, Option, Some, None, if◌then◌else◌}
 use Rattle.model.specs.Topology.{IsIn}
@@ -22,7 +22,7 @@ piece_for c a = piece a.arrival
     piece (In d bytes) = if d == c then Some bytes else None
     piece other = None
 
--- the number of bytes of an attempt that takes output of connection c
+-- the number of bytes of an attempt that takes output of connection c; `None` for any other attempt
 abbrev pub amount_for : ℕ → Attempt → Option ℕ
 amount_for c a = amount a.arrival
   where
@@ -30,7 +30,7 @@ amount_for c a = amount a.arrival
     amount (Sent d n) = if d == c then Some n else None
     amount other = None
 
--- whether it is a loss of connection c
+-- whether an attempt is a loss of connection c
 abbrev pub is_loss_of : ℕ → Attempt → Bool
 is_loss_of c a = is_loss a.arrival
   where
@@ -38,7 +38,7 @@ is_loss_of c a = is_loss a.arrival
     is_loss (Lose d) = d == c
     is_loss other = false
 
--- whether it is for connection c and failed to allocate
+-- whether an attempt is for connection c and failed to allocate
 abbrev pub is_short_for : ℕ → Attempt → Bool
 is_short_for c a = not a.is_whole && is_of a.arrival
   where
@@ -49,7 +49,7 @@ is_short_for c a = not a.is_whole && is_of a.arrival
 
 -- ---- of one socket
 
--- the bytes that a read of socket s got
+-- the bytes that a read of socket s got; `None` for any other call
 abbrev pub got_of : ℕ → Call → Option (List ℕ)
 got_of s (Got t room bytes) = if t == s then Some bytes else None
 got_of s call = None
@@ -73,25 +73,25 @@ is_end_of s call = false
 
 -- ---- whose socket is which
 
--- the socket that was accepted, with its connection
+-- the socket that a deed accepted, with its connection, if it did
 abbrev pub met_by : Deed → List Peer
 met_by (Met i p) = p ∷ []
 met_by deed = []
 
--- all that were accepted, in order
+-- all sockets that were accepted, with their connections, in order
 abbrev pub all_met : List Deed → List Peer
 all_met deeds = flat_map met_by deeds
 
--- Of one socket and its connection:
+-- The calls of one socket match the arrivals of its connection.
 pub record IsJoined (p : Peer) (asked : List Call) (arrived : List Attempt) : Type 0 where
   -- each piece that arrived for the connection was read from the socket, and all that was read arrived
   pub pieces : filter_map (piece_for p.connection) arrived ≡ filter_map (got_of p.socket) asked
-  -- the numbers of bytes taken of its output are what the socket took
+  -- the numbers of bytes taken from the connection's output are those that the socket took
   pub amounts : filter_map (amount_for p.connection) arrived ≡ filter_map (count_of p.socket) asked
-  -- it was lost as often as the socket ended or failed, or an allocation for it failed
+  -- the connection was lost once for each end or failure of the socket, and once for each allocation that failed for the connection
   pub losses : count_by (is_loss_of p.connection) arrived ≡ count_by (is_end_of p.socket) asked + count_by (is_short_for p.connection) arrived
 
--- this holds of each socket that was accepted
+-- `IsJoined` holds of each socket that was accepted
 abbrev pub AreJoined : List Deed → Type 0
 AreJoined deeds = (p : Peer) → IsIn p (all_met deeds) → IsJoined p (flat_map calls deeds) (flat_map attempts deeds)
 
@@ -99,11 +99,12 @@ AreJoined deeds = (p : Peer) → IsIn p (all_met deeds) → IsJoined p (flat_map
 abbrev pub bytes_in : ℕ → List Attempt → ℕ
 bytes_in c arrived = sum_by length (filter_map (piece_for c) arrived)
 
--- how many bytes of its output were taken
+-- how many bytes of a connection's output were taken
 abbrev pub bytes_out : ℕ → List Attempt → ℕ
 bytes_out c arrived = sum_by (λ (n : ℕ). n) (filter_map (amount_for c) arrived)
 
--- if the wire knows the totals of an accepted socket, as many bytes arrived for its connection, and were taken of its output
+-- the totals that the wire knows of an accepted socket are right: the number of bytes that arrived for its connection, and the number of bytes
+-- that were taken of the connection's output
 abbrev pub AreCounted : List Deed → Told → Type 0
 AreCounted deeds told = (p : Peer) → IsIn p (all_met deeds) → (t : Totals) → told.totals p.socket ≡ Some t
     → (t.got ≡ bytes_in p.connection (flat_map attempts deeds))

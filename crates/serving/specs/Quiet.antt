@@ -13,11 +13,11 @@ pub record IsQuiet (w : World) (c : ℕ) : Type 0 where
   pub awake : is_awake w c ≡ true
   pub silent : has_output w c ≡ false
 
--- the slot is marked
+-- slot `i` is marked
 abbrev pub IsMarkedAt : List Bool → ℕ → Type 0
 IsMarkedAt marks i = slice_index_or marks i false ≡ true
 
--- each marked slot that holds a peer is quiet
+-- the connection of each peer in a marked slot is quiet
 abbrev pub AreQuiet : World → List (Option Peer) → List Bool → Type 0
 AreQuiet w ps marks = (i : ℕ) (p : Peer) → At ps i p → IsMarkedAt marks i → IsQuiet w p.connection
 
@@ -44,7 +44,7 @@ HoldsPaused w ps i = (p : Peer) × At ps i p × (is_paused w p.connection ≡ tr
 abbrev pub AreFull : World → List (Option Peer) → List Bool → Type 0
 AreFull w ps marks = (i : ℕ) → IsMarkedAt marks i → HoldsPaused w ps i
 
--- the slot does not hold connection c
+-- slot `i` does not hold connection c
 abbrev pub IsOther : ℕ → List (Option Peer) → ℕ → Type 0
 IsOther c ps i = (p : Peer) → At ps i p → p.connection ≢ c
 
@@ -57,13 +57,13 @@ pub record AreSeated (w : World) (ps : List (Option Peer)) (marks : List Bool) :
   pub fit : IsFit w ps
   pub quiet : AreQuiet w ps marks
 
--- The slots between two rounds: also, no connection in a slot is over with an empty output, and there are enough slots.
+-- The slots between two rounds: seated, without a connection that is over with an empty output, and at least 1,024.
 pub record AreSettled (w : World) (peers : Slab Peer) (marks : List Bool) : Type 0 where
   pub seated : AreSeated w peers.slots marks
   pub ended : (i : ℕ) → HasEnded w peers.slots i
   pub most : most_peers ≤ peers.capacity
 
--- The invariant of a server between rounds: the slots are settled, marks of full ones are right, and the buffer has its full length.
+-- The invariant of a server between rounds: the slots are settled, those marked as full hold paused connections, and the buffer has its full length.
 pub record IsServerKept (w : World) (peers : Slab Peer) (marks fulls : List Bool) (buffer : List ℕ) : Type 0 where
   pub settled : AreSettled w peers marks
   pub full : AreFull w peers.slots fulls

@@ -1,5 +1,4 @@
--- What a server does: what it asks of its wire and is answered, the arrivals that it makes of that,
--- the pumps that it makes by itself, and the reloads that it is called for (own).
+-- What a server does (own): its calls of the wire with their answers, the arrivals at the machine that these become, its pumps, and reloads.
 use Rattle.std.specs.Prelude.{◌≡◌, ◌≢◌, ◌≤◌, ◌+◌, ℕ, zero, suc, List, [], ◌∷◌, ◌++◌, length, take, flat_map}
 use Rattle.std.specs.Prelude.{Bool, true, false, Option, Some, None, slice_index_or, slice_set, if◌then◌else◌, MatchBool}
 use Rattle.std.specs.List.{list_any}
@@ -22,7 +21,7 @@ pub record Served : Type 0 where
   pub peers : List (Option Peer)
   pub told : Told
 
--- the three as one value
+-- a world, peers and a wire's knowledge as one value
 abbrev pub served : World → List (Option Peer) → Told → Served
 served w ps t = record { world = w; peers = ps; told = t }
 
@@ -40,23 +39,23 @@ pub data Passage : Type 0 where
   Leaves : Passage
   Stays : Passage
 
--- by whether it was running before and is after
+-- what a deed does to a connection, by whether it was running before and whether it is after
 abbrev pub passage_of : Bool → Bool → Passage
 passage_of false true = Enters
 passage_of true false = Leaves
 passage_of false false = Stays
 passage_of true true = Stays
 
--- One thing that a server does: what it makes of one answer of its wire, a pump, a rest, or a reload between two calls of `serve`.
+-- One thing that a server does: its reaction to one answer of its wire, a pump, a rest, or a reload between two calls of `serve`.
 pub data Deed : Type 0 where
   -- a socket was accepted, and a connection was opened for it in this slot
   Met : (slot : ℕ) → (peer : Peer) → Deed
-  -- a socket was accepted, but no connection was opened: none can be, or an allocation failed
+  -- a socket was accepted, but no connection was opened: no further one can be, or an allocation failed
   Turned_away : (socket : ℕ) → (opening : Attempt) → Deed
   Met_no_one : (is_failure : Bool) → Deed
   -- a read of length `room` got these bytes, which started or stopped the connection as `passage` says
   Heard : (slot : ℕ) → (peer : Peer) → (room : ℕ) → (bytes : List ℕ) → (passage : Passage) → Deed
-  -- an allocation for these bytes failed
+  -- a read got these bytes, and an allocation for them failed
   Heard_partly : (slot : ℕ) → (peer : Peer) → (room : ℕ) → (bytes : List ℕ) → Deed
   Heard_nothing : (slot : ℕ) → (peer : Peer) → (room : ℕ) → Deed
   -- the input of the socket ended, or its read failed
@@ -74,7 +73,7 @@ pub data Deed : Type 0 where
   Pumped_nothing : Deed
   -- a pump that failed to allocate
   Pump_refused : Deed
-  -- the connection is over with an empty output
+  -- the connection is over with an empty output, so its socket is closed
   Let_go : (slot : ℕ) → (peer : Peer) → Deed
   Paused : Deed
   -- a reload offered this configuration: it was put in force, or refused because of an obstacle
@@ -88,7 +87,7 @@ greeting s Enters = Welcomed s ∷ []
 greeting s Leaves = Parted s ∷ []
 greeting s Stays = []
 
--- what was asked of the wire, with its answers
+-- the calls of the wire in a deed, with their answers
 abbrev pub calls : Deed → List Call
 calls (Met i p) = Accepted p.socket ∷ []
 calls (Turned_away s o) = Accepted s ∷ Closed s ∷ []
@@ -109,7 +108,7 @@ calls Paused = Rested ∷ []
 calls (Reload_decided g) = []
 calls (Reload_undecided g) = []
 
--- what arrives at the machine
+-- the arrivals at the machine in a deed
 abbrev pub attempts : Deed → List Attempt
 attempts (Met i p) = whole arrival.Open ∷ []
 attempts (Turned_away s o) = o ∷ []
@@ -130,7 +129,7 @@ attempts Paused = []
 attempts (Reload_decided g) = whole (arrival.Reload g) ∷ []
 attempts (Reload_undecided g) = short (arrival.Reload g) ∷ []
 
--- whether something was done: a server rests only if nothing was
+-- whether a deed did something: a server rests only if none of a round did
 abbrev pub is_done : Deed → Bool
 is_done (Met_no_one failed) = false
 is_done (Heard_nothing i p room) = false
@@ -141,14 +140,14 @@ is_done Paused = false
 is_done (Reload_undecided g) = false
 is_done deed = true
 
--- whether it is a pump, which asks nothing of the wire
+-- whether a deed is a pump, which asks nothing of the wire
 abbrev pub is_pump : Deed → Bool
 is_pump Pumped = true
 is_pump Pumped_nothing = true
 is_pump Pump_refused = true
 is_pump deed = false
 
--- whether it is a pump, a rest or a reload, none of which is an answer of the wire
+-- whether a deed is a pump, a rest or a reload, none of which is an answer of the wire
 abbrev pub is_unasked : Deed → Bool
 is_unasked Pumped = true
 is_unasked Pumped_nothing = true
@@ -186,13 +185,13 @@ IsOutput w c bytes = bytes ≡ (w.wire c).output
 abbrev pub IsFront : World → ℕ → List ℕ → Type 0
 IsFront w c bytes = (n : ℕ) × (n ≤ length (w.wire c).output) × (bytes ≡ take n (w.wire c).output)
 
--- why a socket is turned away: no further connection can be opened, or an allocation for one failed
+-- why a socket is turned away: no further connection can be opened (`true`), or an allocation for one failed
 abbrev pub MayTurnAway : Lacks → World → Bool → Type 0
 MayTurnAway L w true = can_open w ≡ false
 MayTurnAway L w false = L w To_open
 
--- what each deed needs and does to the slots: a read is offered 16 to 65,536 bytes, a write all output of its connection, of which it takes
--- a prefix; a delivery could be made if one was; and what a reload offers is sound
+-- what each deed needs, and what it does to the slots: a read is offered 16 to 65,536 bytes; a write is offered all output of its connection, and
+-- takes a prefix of it; a pump delivers only if a delivery can be made; and a reload offers a sound configuration
 abbrev pub Table : Lacks → Served → Deed → List (Option Peer) → Type 0
 Table L v (Met i p) new = (can_open v.world ≡ true) × (p.connection ≡ v.world.given + 1) × IsFresh p.socket v.told × Filled v.peers i p new
 Table L v (Turned_away s o) new = (o.arrival ≡ arrival.Open) × MayTurnAway L v.world o.is_whole × IsFresh s v.told × (new ≡ v.peers)
@@ -213,23 +212,23 @@ Table L v Paused new = new ≡ v.peers
 Table L v (Reload_decided g) new = IsSound g × (new ≡ v.peers)
 Table L v (Reload_undecided g) new = IsSound g × (new ≡ v.peers)
 
--- what becomes of an accepted socket: it gets a connection and a slot, or nothing changes
+-- what becomes of the accepted socket `s`: it gets a connection and a slot (`true`), or nothing changes
 abbrev pub TakesIn : Lacks → World → List (Option Peer) → ℕ → Bool → World → List (Option Peer) → Type 0
 TakesIn L old ps s true new now = (can_open old ≡ true) × ((os : List Occurrence) × Answers old arrival.Open os new)
     × ((i : ℕ) × Filled ps i (record { connection = old.given + 1; socket = s }) now)
 TakesIn L old ps s false new now = ((o : Attempt) × (o.arrival ≡ arrival.Open) × MayTurnAway L old o.is_whole × Brings L old o [] new) × (now ≡ ps)
 
--- what becomes of connection c between these worlds
+-- whether connection c starts or stops running from `old` to `new`
 abbrev pub passage_between : World → World → ℕ → Passage
 passage_between old new c = passage_of (runs old c) (runs new c)
 
--- a socket is welcomed exactly if the deed lets its connection start running, and bidden farewell exactly if it lets it stop
+-- a socket is welcomed exactly if the deed lets its connection start running, and bidden farewell exactly if the deed lets the connection stop
 abbrev pub Greets : World → Deed → World → Type 0
 Greets old (Heard i p room bytes passage) new = passage ≡ passage_between old new p.connection
 Greets old (Gave i p offered taken passage) new = passage ≡ passage_between old new p.connection
 Greets old d new = Unit {0}
 
--- One deed, with what occurs by it.
+-- One deed, with the occurrences that it brings.
 pub record DoesDeed (L : Lacks) (old : Served) (d : Deed) (os : List Occurrence) (new : Served) : Type 0 where
   pub table : Table L old d new.peers
   pub brings : Attempts L old.world (attempts d) os new.world
@@ -242,7 +241,7 @@ Story L old [] os new = (os ≡ []) × (new ≡ old)
 Story L old (d ∷ ds) os new = (mid : Served) × (first : List Occurrence) × (rest : List Occurrence)
     × (os ≡ first ++ rest) × DoesDeed L old d first mid × Story L mid ds rest new
 
--- A part of a round: it asks this of the wire, with no pump, rest or reload, and `acted` is whether something was done.
+-- A part of a round without pumps, rests and reloads. Its accepts, reads and writes are exactly `asked`, and `acted` is whether it did something.
 pub record Serves (L : Lacks) (old : Served) (asked : List Ask) (acted : Bool) (new : Served) : Type 0 where
   pub deeds : List Deed
   pub occurrences : List Occurrence

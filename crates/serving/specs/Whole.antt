@@ -19,7 +19,7 @@ use Rattle.serving.specs.declared.peers.Peer.{Peer}
 abbrev pub arrived : List Deed → List Attempt
 arrived deeds = flat_map attempts deeds
 
--- the same as arrivals
+-- the arrivals of these attempts
 abbrev pub arrivals_of : List Attempt → List (Arrival Config)
 arrivals_of as' = map (λ (a : Attempt). a.arrival) as'
 
@@ -49,9 +49,9 @@ pub record IsServed (L : Lacks) (f : Config) (told : Told) (new : Served) : Type
   pub promises : KeepsPromises f occurrences new.world.state.broker (seen_of (events_of occurrences) new.world)
   -- what arrived for a connection is what its socket gave and took
   pub joined : AreJoined deeds
-  -- what its socket took is a prefix of what was put out for it
+  -- what a socket took is a prefix of what was put out for its connection
   pub written : AreBeginnings deeds occurrences
-  -- if the wire knows how many bytes a socket gave and took, as many arrived and were taken
+  -- for each socket, the totals that the wire knows are the number of bytes that arrived for its connection, and the number taken from that connection's output
   pub counted : AreCounted deeds new.told
 
 -- ---- one call of `serve`
@@ -60,21 +60,21 @@ pub record IsServed (L : Lacks) (f : Config) (told : Told) (new : Served) : Type
 abbrev pub IsOf : List (Option Peer) → List Deed → Peer → Type 0
 IsOf ps deeds p = ((i : ℕ) × At ps i p) ⊎ IsIn p (all_met deeds)
 
--- what its socket takes continues with the output that was not written yet, and then with what is put out meanwhile
+-- what the peer's socket takes is a prefix of these bytes: the output that was not written yet, followed by what is put out meanwhile
 abbrev pub TakesOn : Served → List Deed → List Occurrence → Peer → Type 0
 TakesOn old deeds os p = (rest : List ℕ)
     × (flat_map (written_to p.socket) (flat_map calls deeds) ++ rest ≡ (old.world.wire p.connection).output ++ put_out p.connection (events_of os))
 
--- What a server does continues where it stopped:
+-- A call of `serve` continues where the server stopped.
 pub record GoesOn (L : Lacks) (old new : Served) : Type 0 where
   pub deeds : List Deed
   pub occurrences : List Occurrence
   pub story : Story L old deeds occurrences new
   -- these are all calls of the wire, with their answers
   pub asked : Tells old.told (flat_map calls deeds) new.told
-  -- these are all arrivals: commands continue with bytes that were not performed yet, and then with what is fed
+  -- the arrivals of these deeds are all arrivals: commands are read from the bytes that were not performed yet, and then from those that are fed
   pub arrives : Attempts L old.world (arrived deeds) occurrences new.world
   -- what arrived for a connection is what its socket gave and took
   pub joined : (p : Peer) → IsOf old.peers deeds p → IsJoined p (flat_map calls deeds) (arrived deeds)
-  -- what its socket took continues with the output that was not written yet
+  -- what a socket took is a prefix of these bytes: the output that was not written yet, followed by what was put out meanwhile
   pub written : (p : Peer) → IsOf old.peers deeds p → TakesOn old deeds occurrences p

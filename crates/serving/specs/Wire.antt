@@ -23,7 +23,7 @@ pub data Call : Type 0 where
   Parted : (socket : ℕ) → Call
   Rested : Call
 
--- what was asked, without the answer: an accept, a read, a write of these bytes; closes, welcomes, farewells and rests are left out
+-- an accept, a read or a write without its answer; other calls have no `Ask`
 pub data Ask : Type 0 where
   To_accept : Ask
   To_read : (socket : ℕ) → Ask
@@ -50,7 +50,7 @@ ask Rested = None
 abbrev pub asks : List Call → List Ask
 asks calls = filter_map ask calls
 
--- the answer is a failure
+-- whether a call's answer is a failure
 abbrev pub is_failed : Call → Bool
 is_failed Accept_failed = true
 is_failed (Read_failed s room) = true
@@ -66,12 +66,12 @@ pub record Totals : Type 0 where
 abbrev pub no_bytes : Totals
 no_bytes = record { got = 0; taken = 0 }
 
--- `n` more bytes were got
+-- the totals after `n` more bytes were got
 abbrev pub with_got : ℕ → Option Totals → Option Totals
 with_got n None = None
 with_got n (Some t) = Some (record { got = t.got + n; taken = t.taken })
 
--- `n` more bytes were taken
+-- the totals after `n` more bytes were taken
 abbrev pub with_taken : ℕ → Option Totals → Option Totals
 with_taken n None = None
 with_taken n (Some t) = Some (record { got = t.got; taken = t.taken + n })
@@ -83,7 +83,7 @@ total_after s t (Got r room bytes) = if r == s then with_got (length bytes) t el
 total_after s t (Took r offered taken) = if r == s then with_taken (length taken) t else t
 total_after s t call = t
 
--- the same after these calls
+-- the totals of socket s after these calls
 abbrev pub totals_after : ℕ → Option Totals → List Call → Option Totals
 totals_after s t [] = t
 totals_after s t (call ∷ more) = totals_after s (total_after s t call) more
@@ -94,17 +94,17 @@ pub record Told : Type 0 where
   pub calls : Option (List Call)
   -- how many of them failed
   pub failures : ℕ
-  -- whether a socket had this name
+  -- whether a socket has or had this name
   pub is_given : ℕ → Bool
-  -- what the socket of this name gave and took, or `None` if it doesn't know that
+  -- how many bytes the socket of this name gave and took, or `None` if the wire doesn't know that
   pub totals : ℕ → Option Totals
 
--- the known calls after these: those before and these; or none are known any longer
+-- what is known of all calls after the calls `more`: those known before, followed by `more`; or `None`, if the calls are no longer known
 abbrev pub Follows : Option (List Call) → List Call → Option (List Call) → Type 0
 Follows old more None = Unit {0}
 Follows old more (Some calls) = (before : List Call) × (old ≡ Some before) × (calls ≡ before ++ more)
 
--- What a wire knows after these calls.
+-- What a wire that knew `old` knows after the calls `more`.
 pub record Tells (old : Told) (more : List Call) (new : Told) : Type 0 where
   pub calls : Follows old.calls more new.calls
   pub failures : new.failures ≡ old.failures + count_by is_failed more
@@ -112,21 +112,21 @@ pub record Tells (old : Told) (more : List Call) (new : Told) : Type 0 where
   pub kept : (s : ℕ) → old.is_given s ≡ true → new.is_given s ≡ true
   -- the name of an accepted socket is given
   pub given : (s : ℕ) → IsIn (Accepted s) more → new.is_given s ≡ true
-  -- if totals are known, they are those before with what these calls gave and took
+  -- totals that are known are those known before, with the bytes that these calls gave and took added
   pub totals : (s : ℕ) (t : Totals) → new.totals s ≡ Some t → totals_after s (old.totals s) more ≡ Some t
 
--- the length in bytes that a read is said to be offered if the wire knows that nothing comes
+-- the buffer length, in bytes, that counts as offered to a read that the wire answers by itself (`pass_silent`)
 abbrev pub least_room : ℕ
 least_room = 16
 
--- the first n of these slots are taken, and a read of their sockets was asked one after another, and each had nothing
+-- the first n of these slots are taken, and a read of each one's socket, in order, got nothing
 abbrev pub AllWait : ℕ → List (Option Peer) → Told → Told → Type 0
 AllWait zero ps old new = new ≡ old
 AllWait (suc n) [] old new = ⊥
 AllWait (suc n) (None ∷ ps) old new = ⊥
 AllWait (suc n) (Some p ∷ ps) old new = (mid : Told) × Tells old (Nothing_got p.socket least_room ∷ []) mid × AllWait n ps mid new
 
--- the socket took nothing of these bytes; it was not asked if there are none
+-- socket `s` was offered these bytes and took none; without bytes it was not asked
 abbrev pub TakesNothing : ℕ → List ℕ → Told → Told → Type 0
 TakesNothing s [] old new = new ≡ old
 TakesNothing s (byte ∷ bytes) old new = Tells old (Nothing_taken s (byte ∷ bytes) ∷ []) new

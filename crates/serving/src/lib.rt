@@ -1,8 +1,8 @@
 //! A server: each accepted socket is a connection of a machine, whose bytes are read, fed and written back.
 //!
 //! Start at [`Server`] and [`serve`]. A server works in rounds over any [`Wire`]: one accept, a read of each connection that is neither paused
-//! nor over, deliveries, a write of each that has output, and the end of those that are over with an empty output. The wire's ghost has what it
-//! was asked and answered, so the contracts say which arrivals at the machine the answers became.
+//! nor over, deliveries, a write of each that has output, and a close of those that are over with an empty output. The wire's ghost has its calls
+//! with their answers, so the contracts say which arrivals at the machine the answers became.
 #![tactic(auto)]
 
 mod offers;

@@ -1,9 +1,11 @@
 //! Decides how many bytes a read of each slot is offered.
 //!
-//! All clients wait for a round to end, so a round is short even if a client floods: a read is offered room for a part of the commands that one
-//! round performs, by the bytes that its client's commands took so far. A slot that gave all that it was offered is greedy. Greedy slots share
-//! [`GREEDY_COMMANDS`], and all others share [`COMMANDS`]; together that is as much as a round delivers. A consumer is offered room for its
-//! acknowledgements, too, so that they don't make it greedy. A connection that fills a queue that lags is offered less. Only the bounds are promised.
+//! All clients wait for a round to end, so a round has to be short even if a client floods. A read is offered as many bytes as the slot's share of
+//! the round's commands would take, by the size of the commands at its last read. A slot is greedy if its last read got all bytes that it was
+//! offered, or if more than [`BURST`] commands came since its last read that got less; any other slot is modest. Modest slots share [`COMMANDS`].
+//! Greedy slots share [`BESIDE_COMMANDS`] if a modest slot gave bytes in the last [`BESIDE_ROUNDS`] rounds, so that it waits for short rounds, and
+//! otherwise [`ALONE_COMMANDS`], so that fewer rounds are needed. A consumer is offered more for its acknowledgements, so that they don't make it
+//! greedy. A connection whose messages enter queues that lag is offered less. Only the bounds are promised.
 
 ghost use Rattle.std.specs.Prelude.{◌≤◌};
 ghost use Rattle.serving.specs.Story.{IsOffer, read_room};
@@ -11,35 +13,47 @@ ghost use Rattle.serving.specs.Story.{IsOffer, read_room};
 use crate::peers::SLOTS;
 use std::alloc::{AllocError, Global};
 
-/// The least and the greatest offer, in bytes.
+/// The least offer, in bytes.
 const LEAST: usize = 256;
 
+/// The greatest offer, in bytes.
 const MOST: usize = 65_536;
 
 /// The greatest offer, in bytes, to a socket whose connection is not running yet.
 const LOGIN: usize = 512;
 
-/// The number of commands that all greedy slots together are offered room for in a round.
-const GREEDY_COMMANDS: usize = 64;
+/// The number of commands that all greedy slots together are offered room for in a round, beside modest ones.
+const BESIDE_COMMANDS: usize = 32;
 
-/// The number of commands that all other slots together are offered room for in a round.
-const COMMANDS: usize = 192;
+/// The number of commands that all greedy slots together are offered room for in a round, if they are alone.
+const ALONE_COMMANDS: usize = 128;
 
-/// The bytes that a slot is offered for each delivery that it has got since its last read: an acknowledgement takes 21.
+/// The number of rounds for which greedy slots are beside a modest one after it was heard.
+const BESIDE_ROUNDS: usize = 16;
+
+/// The number of commands that all modest slots together are offered room for in a round.
+const COMMANDS: usize = 256;
+
+/// The most commands that a modest slot gives at once.
+const BURST: usize = 256;
+
+/// How many bytes more a slot is offered for each delivery that it has got since its last read: an acknowledgement takes 21.
 const ANSWER: usize = 32;
 
 /// What is known of a slot.
 #[derive(Clone, Copy, Drop)]
 struct Offer {
-    /// The greatest offer, in bytes, by whether its reads filled queues that lag.
+    /// The greatest offer, in bytes: a read whose messages entered queues that lag halves it, any other raises it.
     room: usize,
-    /// The bytes that a command of its last read took.
+    /// The average size in bytes of a command at its last read.
     size: usize,
-    /// The number of deliveries that it has got since then.
+    /// The number of deliveries that the slot has got since its last read.
     delivered: usize,
-    /// Whether its connection was running at its last read.
+    /// Whether its connection was running before its last read.
     runs: bool,
-    /// Whether it gave all that it was offered at its last read.
+    /// The number of commands that came since its last read that got less than it was offered.
+    burst: usize,
+    /// Whether its last read got all bytes that it was offered, or ended a burst of more than [`BURST`] commands.
     is_greedy: bool,
 }
 
@@ -49,18 +63,19 @@ const FIRST: Offer = Offer {
     size: MOST,
     delivered: 0,
     runs: false,
+    burst: 0,
     is_greedy: false,
 };
 
 /// The outcome of a read that got bytes.
 #[derive(Clone, Copy, Drop)]
 pub(crate) struct Heard {
-    /// The number of bytes, and the number that was offered.
+    /// The number of bytes that were got, and the number that was offered.
     pub(crate) bytes: usize,
     pub(crate) room: usize,
-    /// The number of turns that the connection took for them.
+    /// The number of turns that the connection took for these bytes.
     pub(crate) turns: usize,
-    /// Whether the connection was running before.
+    /// Whether the connection was running before the read.
     pub(crate) has_run: bool,
     /// Whether messages entered queues that lag.
     pub(crate) has_filled: bool,
@@ -69,8 +84,7 @@ pub(crate) struct Heard {
 /// Commands of a round, shared by the slots that gave bytes in the rounds before.
 #[derive(Clone, Copy, Drop)]
 struct Share {
-    commands: usize,
-    /// The number of slots that share them.
+    /// The number of slots that share the commands.
     among: usize,
     /// The number of commands for each.
     each: usize,
@@ -82,17 +96,16 @@ impl Share {
     /// Makes a share of `commands` for a single slot.
     fn new(commands: usize) -> Share {
         Share {
-            commands,
             among: 1,
             each: commands,
             given: 0,
         }
     }
 
-    /// Begins a round. If fewer slots gave bytes than before, the number of those that share falls by one only.
-    fn pass(&mut self) {
+    /// Begins a round in which `commands` are shared by as many slots as gave bytes in the last round, but this number falls by at most one a round.
+    fn pass(&mut self, commands: usize) {
         self.among = self.given.max(self.among.saturating_sub(1));
-        self.each = self.commands / self.among.max(1);
+        self.each = commands / self.among.max(1);
         self.given = 0;
     }
 
@@ -101,7 +114,7 @@ impl Share {
         self.given = self.given.saturating_add(1);
     }
 
-    /// Returns the bytes of one slot's part, if its commands take `size` bytes.
+    /// Returns how many bytes one slot's share of the commands takes, if each takes `size` bytes.
     fn room(&self, size: usize) -> usize {
         size.saturating_mul(self.each)
     }
@@ -112,7 +125,9 @@ impl Share {
 pub(crate) struct Offers {
     offers: Vec<Offer>,
     greedy: Share,
-    others: Share,
+    modest: Share,
+    /// The number of rounds since a modest slot was heard that stays modest.
+    alone: usize,
 }
 
 impl Offers {
@@ -120,15 +135,17 @@ impl Offers {
     pub(crate) fn new(alloc: Global) -> Result<Offers, AllocError> {
         Ok(Offers {
             offers: vec![in alloc; FIRST; SLOTS]?,
-            greedy: Share::new(GREEDY_COMMANDS),
-            others: Share::new(COMMANDS),
+            greedy: Share::new(BESIDE_COMMANDS),
+            modest: Share::new(COMMANDS),
+            alone: 0,
         })
     }
 
     /// Begins a round.
     pub(crate) fn pass(&mut self) {
-        self.greedy.pass();
-        self.others.pass();
+        self.alone = self.alone.saturating_add(1);
+        self.greedy.pass(greedy_commands(self.alone));
+        self.modest.pass(COMMANDS);
     }
 
     /// Resets the offer of `slot`, which a new socket has.
@@ -158,14 +175,14 @@ impl Offers {
         }
     }
 
-    /// Returns the most bytes that a slot is offered in this round.
+    /// Returns the most bytes that a slot with this `offer` gets in this round.
     fn most(&self, offer: Offer) -> usize
         ensures { result ≤ read_room }
     {
         let part = if offer.is_greedy {
             self.greedy.room(offer.size)
         } else {
-            self.others.room(offer.size)
+            self.modest.room(offer.size)
         };
         let answers = offer.delivered.saturating_mul(ANSWER);
         part.saturating_add(answers)
@@ -184,19 +201,40 @@ impl Offers {
     pub(crate) fn learn(&mut self, slot: usize, heard: Heard) {
         if slot < self.offers.len() {
             let old = self.offers[slot];
-            if old.is_greedy {
-                self.greedy.count();
-            } else {
-                self.others.count();
-            }
+            let is_full = heard.bytes >= heard.room;
+            let burst = old.burst.saturating_add(heard.turns);
+            let is_greedy = is_full || burst > BURST;
             self.offers[slot] = Offer {
                 room: room_after(old.room, heard.has_filled),
                 size: heard.bytes / heard.turns.max(1),
                 delivered: 0,
                 runs: heard.has_run,
-                is_greedy: heard.bytes >= heard.room,
+                burst: if is_full { burst } else { 0 },
+                is_greedy,
             };
+            self.count(old.is_greedy, is_greedy);
         }
+    }
+
+    /// Counts a slot that gave bytes, by whether it was greedy before, and whether it is now.
+    fn count(&mut self, was_greedy: bool, is_greedy: bool) {
+        if was_greedy {
+            self.greedy.count();
+            return;
+        }
+        self.modest.count();
+        if !is_greedy {
+            self.alone = 0;
+        }
+    }
+}
+
+/// Returns the number of commands that greedy slots share if no modest one was heard for `alone` rounds.
+fn greedy_commands(alone: usize) -> usize {
+    if alone > BESIDE_ROUNDS {
+        ALONE_COMMANDS
+    } else {
+        BESIDE_COMMANDS
     }
 }
 

@@ -1,6 +1,6 @@
 //! Peers: which connection has which socket.
 
-/// The least number of slots: as many as there can be connections that are not gone.
+/// The number of slots of a server, at least: as many as there can be connections that are not gone.
 pub(crate) const SLOTS: usize = 1_024;
 
 /// A connection, and the socket that its bytes come from and go to.

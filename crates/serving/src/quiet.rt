@@ -14,7 +14,7 @@ const REMEMBERED: usize = 16_384;
 #[derive(Drop)]
 pub(crate) struct Quiet {
     marks: SlotMarks,
-    /// The slot of the connection that was remembered last, by the connection's number. A hint: connections share entries.
+    /// The slot of each connection, at its number modulo [`REMEMBERED`]. A hint: connections share entries, and the last one remembered counts.
     slots: Vec<u16>,
 }
 

@@ -35,7 +35,7 @@ pub struct Server<M: Machine> {
     buffer: Vec<u8>,
 }
 
-/// Written out so that a drop is one call.
+/// Not derived: a derived drop is expanded, and proved again, in each function that drops the value.
 impl<M: Machine + Drop> Drop for Server<M> {
     fn drop(self) {
         let Server {
@@ -116,7 +116,7 @@ impl<M: Machine> Server<M> {
         ensures told { TellsReload (M.world self.old.machine) (M.config setup) result (M.world self.new.machine) }
         ensures wants { IsMemory result → M.lacks (M.world self.old.machine) (To_reload (M.config setup)) }
         ensures peers { self.new.peers ≡ self.old.peers }
-        // What was served before is served after, over whatever a wire knew.
+        // `IsServed` is kept, whatever the wire knew.
         ensures served { (f : Config) (told now : Told)
             → IsServed M.lacks f told (served (M.world self.old.machine) self.old.peers now)
             → IsServed M.lacks f told (served (M.world self.new.machine) self.new.peers now) }
@@ -133,7 +133,7 @@ impl<M: Machine> Server<M> {
     }
 }
 
-/// Shows that a new server of a machine without connections is served: nothing was done yet. Does nothing at run time.
+/// Shows that `IsServed` holds of a new server whose machine has no connections: nothing was done yet. Does nothing at run time.
 pub fn ghost_new_is_served<M: Machine, W: Wire>(server: &Server<M>, wire: &W)
     ensures { (f : Config) → M.world server.now.machine ≡ new_world f → server.now.peers ≡ []
         → IsServed M.lacks f (W.told wire.now) (served (M.world server.now.machine) server.now.peers (W.told wire.now)) }
@@ -146,11 +146,11 @@ pub fn serve<M: Machine, W: Wire>(alloc: Global, server: &mut Server<M>, wire: &
     // The promise: exactly these rounds.
     ensures rounds { Rounds M.lacks turns (served (M.world server.old.machine) server.old.peers (W.told wire.old))
         (served (M.world server.new.machine) server.new.peers (W.told wire.new)) }
-    // What was served before is served after: all that arrived since the server was new, and certified delivery's promises of it.
+    // `IsServed` is kept: it has all that arrived since the server was new, and certified delivery's promises of it.
     ensures served { (f : Config) (told : Told)
         → IsServed M.lacks f told (served (M.world server.old.machine) server.old.peers (W.told wire.old))
         → IsServed M.lacks f told (served (M.world server.new.machine) server.new.peers (W.told wire.new)) }
-    // It continues where the server stopped: with bytes that were not performed yet, and with output that was not written yet.
+    // The call continues where the server stopped: with bytes that were not performed yet, and with output that was not written yet.
     ensures goes_on { (f : Config) (told : Told)
         → IsServed M.lacks f told (served (M.world server.old.machine) server.old.peers (W.told wire.old))
         → GoesOn M.lacks (served (M.world server.old.machine) server.old.peers (W.told wire.old))

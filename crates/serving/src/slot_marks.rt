@@ -1,4 +1,4 @@
-//! Marks of slots, of which the next without a mark is found without looking at each.
+//! Marks of slots. The next slot without a mark is found without looking at each.
 
 ghost use Rattle.std.specs.Prelude.{◌≡◌, ◌<◌, ◌≤◌, ◌*◌, ℕ, IfOk, cond, length, replicate, slice_index_or, slice_set, false, true};
 ghost use Rattle.marks.specs.Places.{Differs, bit_of};
@@ -103,6 +103,9 @@ impl SlotMarks {
     pub(crate) fn next_loud(&self, from: usize) -> usize
         ensures { IsNextLoud self.now from result }
     {
+        if !self.contains(from) {
+            return from;
+        }
         match self.loud.next(from) {
             Some(slot) => slot,
             None => from.max(self.marks.len()),

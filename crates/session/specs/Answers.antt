@@ -20,7 +20,7 @@ pub record Fits (m : Method) : Type 0 where
   pub method : IsMethod m
   pub size : length (method_bytes m) ≤ 4088
 
--- what every answer keeps: its limits are within the server's range, its method can be sent
+-- what holds of every answer: its frame length is within the server's range, or its method can be sent
 abbrev pub IsAnswer : OpeningAnswer → Type 0
 IsAnswer Nothing = ⊤
 IsAnswer (Tunes channel_max frame_max) = (4096 ≤ frame_max) × (frame_max ≤ 131072)

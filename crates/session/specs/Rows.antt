@@ -45,7 +45,7 @@ pub record OpeningFrames : Type 0 where
 
 -- the refusals of an opening
 pub record OpeningRefusals : Type 0 where
-  -- a frame length of 4,095, one over the server's, a channel over the server's, a heartbeat: reply code 530 for class 10, method 31
+  -- a frame length of 4,095, one over the server's, a channel-max over the server's, a heartbeat: reply code 530 for class 10, method 31
   pub small_frame : (opening_move 1 false new_session phase.Tune 0 (tune_ok 0 4095 0)).sends ≡ connection_close 1 530 (ids 10 31) ∷ []
   pub large_frame : (opening_move 1 false new_session phase.Tune 0 (tune_ok 0 131073 0)).sends ≡ connection_close 1 530 (ids 10 31) ∷ []
   pub large_channel : (opening_move 1 false new_session phase.Tune 0 (tune_ok 256 0 0)).sends ≡ connection_close 1 530 (ids 10 31) ∷ []

@@ -40,7 +40,7 @@ fn is_taken(tuning: &Tuning) -> bool
     tuning.channel_max <= limits::CHANNEL_MAX && in_range && tuning.heartbeat == 0
 }
 
-/// Returns the limits that an accepted tune-ok sets; a 0 stands for the server's own limit.
+/// Returns the limits that the accepted tune-ok `tuning` sets; a 0 in it means the server's own limit.
 fn tune_by(tuning: &Tuning) -> OpeningAnswer
     requires { said.is_taken tuning.now ≡ true }
     ensures is { (c : ℕ) (s : Session) → move_of c s result ≡ record { sends = []; next = said.tuned tuning.now } }

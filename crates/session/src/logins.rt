@@ -44,7 +44,7 @@ fn is_known(users: &[User], name: &[u8], password: &[u8]) -> bool
 pub fn accepts(users: &[User], mechanism: &[u8], response: &[u8]) -> bool
     // Only a login is accepted.
     ensures only { IsTrue result → IsLogin users.now mechanism.now response.now }
-    // Every login is.
+    // Every login is accepted.
     ensures every { IsFalse result → IsLogin users.now mechanism.now response.now → ⊥ }
 {
     if mechanism != b"PLAIN".as_slice() {

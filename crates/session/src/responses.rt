@@ -11,7 +11,7 @@ pub struct Credentials<'a> {
     pub password: &'a [u8],
 }
 
-/// Returns the index of the first NUL.
+/// Returns the index of the first NUL, if any.
 fn first_nul(text: &[u8]) -> Option<usize>
     ensures place { result ≡ position (λ b. b == 0) text.now }
     ensures within { IfSome result (λ place. place < length text.now) }

@@ -51,7 +51,7 @@ pub(crate) fn open_ok() -> Method
     }
 }
 
-/// Builds `connection.close` with reply code `code`, for the method `cause`; its ids are 0 and 0 if no method caused it.
+/// Builds `connection.close` with reply code `code`. `cause` has the ids of the method that caused the close, or 0 and 0 if none did.
 pub(crate) fn close(code: u16, cause: Ids) -> Method
     ensures is { (c : ℕ) → reply c 0 result ≡ connection_close c code (ids cause.class cause.method) }
     ensures fits { Fits result }

@@ -30,7 +30,7 @@ impl Model for Session {
     ghost invariant = { λ s. IsSession (record { phase = s.phase; channel_max = s.channel_max; frame_max = s.frame_max }) };
 }
 
-/// Returns the phase after `method` was sent, given that the sends after it lead to `after`.
+/// Returns the phase to which sending `method` leads, if it is a close or close-ok; otherwise `after`, the phase to which the sends behind it lead.
 fn after_method(method: &Method, after: Phase) -> Phase
     ensures { result ≡ said.after_method method.now after }
 {
@@ -41,7 +41,7 @@ fn after_method(method: &Method, after: Phase) -> Phase
     }
 }
 
-/// Returns the phase after `send`, given that the sends after it lead to `after`.
+/// Returns the phase after `send` and the sends behind it; `after` is the phase after the sends behind it alone.
 fn after_send(send: &Send, after: Phase) -> Phase
     ensures { (sends : List sent.Send) → after ≡ after_sends sends → result ≡ after_sends (send.now ∷ sends) }
 {
@@ -51,7 +51,7 @@ fn after_send(send: &Send, after: Phase) -> Phase
     }
 }
 
-/// Returns the phase of a running connection after `sends`: a close awaits close-ok, and a close-ok ends it.
+/// Returns the phase of a running connection after `sends`: a close awaits close-ok, and a close-ok ends the connection.
 fn phase_after(sends: &[Send]) -> Phase
     ensures { result ≡ after_sends sends.now }
 {

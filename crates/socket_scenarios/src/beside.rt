@@ -1,4 +1,4 @@
-//! A socket of the system that has no room, beside another that speaks.
+//! A socket of the system whose send buffer is full, beside another that has bytes to read.
 
 use crate::silent::{fill, got_in_the_end, listening, met, read_all};
 use scenario_outcomes::{Unmet, expect, expect_number, value_of};
@@ -9,11 +9,11 @@ use std::io;
 use std::io::Write as _;
 use std::net::Net;
 
-/// How often the socket is filled. Once the system may report its room late, on a machine that does other work.
+/// How often the socket is filled. On a busy machine the system may report its room late one of these times.
 const TIMES: u32 = 4;
 
-/// Returns whether a socket that has room again takes a write in the first round after a rest, which also names another socket. So no socket is
-/// asked only since it has its turn, except in each 16th round.
+/// Returns whether the socket `full`, which has room again, takes a write in the first round after a rest. The rest also names the socket `speaking`,
+/// so the round takes no turn unless its number is divisible by 16: the write doesn't succeed just because it is the socket's turn.
 fn is_written_at_once<S: io::Write>(
     sockets: &mut Sockets,
     full: u64,

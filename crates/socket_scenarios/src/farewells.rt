@@ -8,23 +8,23 @@ use std::alloc::Global;
 use std::net::SocketAddr;
 use std::time::Duration;
 
-/// The milliseconds that a socket has that was bidden farewell.
+/// The milliseconds that a socket may stay after its farewell.
 const TIME: u64 = 200;
 
 /// The rounds after which a scenario gives up, whatever else the machine does.
 const PATIENCE: u32 = 1_000;
 
-/// The writes that fill a socket that nobody reads, however much the system buffers.
+/// The number of writes that surely fill a socket that nobody reads, however much the system buffers.
 const MOST_WRITES: u32 = 100_000;
 
-/// Listens at a free port, with this patience.
+/// Listens at a free port, with a patience of [`TIME`].
 fn listening(rt: &HostRuntime, alloc: Global) -> Result<Sockets, Unmet> {
     let address = value_of("parse", "127.0.0.1:0".parse::<SocketAddr>())?;
     let sockets = value_of("Sockets::bind", Sockets::bind(rt, alloc, address))?;
     Ok(sockets.with_patience(rt, Duration::from_millis(TIME)))
 }
 
-/// Expects that reads of a socket fail in the end, in rounds that rest.
+/// Expects that a read of `socket` fails in one of [`PATIENCE`] rounds. Each read before it has to answer `Read::Wait`, and a rest follows that.
 fn expect_no_read(sockets: &mut Sockets, socket: u64) -> Result<(), Unmet> {
     for _ in 0..PATIENCE {
         match round(sockets, socket) {
@@ -36,8 +36,8 @@ fn expect_no_read(sockets: &mut Sockets, socket: u64) -> Result<(), Unmet> {
     Err(Unmet::Claim("a socket that was bidden farewell is ended"))
 }
 
-/// A socket that was welcomed and then bidden farewell is ended once the time is over that began with the farewell, and not before. One that was
-/// welcomed is not ended.
+/// A socket that was welcomed and then bidden farewell is ended once its time, which begins with the farewell, is over, and not before. A socket that
+/// was only welcomed is not ended.
 pub(crate) fn a_socket_that_was_bidden_farewell_is_ended(
     rt: &HostRuntime,
     alloc: Global,

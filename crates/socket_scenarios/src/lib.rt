@@ -1,5 +1,5 @@
-//! Scenarios of sockets of the system, without a server: which of them are asked, and when; how long they rest; and which they end.
-//! `cases` runs them: start at [`tell_all`].
+//! Scenarios of sockets of the system, without a server: which sockets the system is asked about, and when; how long a rest lasts; and which
+//! sockets are ended. `cases` runs them: start at [`tell_all`].
 #![tactic(auto)]
 
 mod beside;
@@ -54,7 +54,7 @@ fn tell_silent(sums: &mut Sums, rt: &HostRuntime) -> io::Result<()> {
     )
 }
 
-/// Runs the scenarios of where sockets listen, of those that have no room, and of the time that they have.
+/// Runs the scenarios of the address that sockets listen at, of full sockets, and of sockets that are ended since their time is over.
 fn tell_bounds(sums: &mut Sums, rt: &HostRuntime) -> io::Result<()> {
     let alloc = rt.alloc();
     sums.tell(
@@ -89,7 +89,7 @@ fn tell_bounds(sums: &mut Sums, rt: &HostRuntime) -> io::Result<()> {
     )
 }
 
-/// Runs the scenarios of when rests end, and when pieces are sent.
+/// Runs the scenarios about when rests end, and when pieces are sent.
 fn tell_times(sums: &mut Sums, rt: &HostRuntime) -> io::Result<()> {
     let alloc = rt.alloc();
     sums.tell(

@@ -13,7 +13,7 @@ use std::net::Net;
 /// The rounds after which a scenario gives up, whatever else the machine does.
 const PATIENCE: u32 = 100;
 
-/// The rounds without a rest in which a silent socket has its turn.
+/// The number of rounds without a rest within which a silent or full socket has its turn.
 const TURNS: u32 = 16;
 
 /// Returns the slots of two sockets, in this order.
@@ -29,7 +29,7 @@ fn two_slots(alloc: Global, first: u64, second: u64) -> Result<Slab<Peer>, Unmet
     Ok(peers)
 }
 
-/// Returns how many bytes the second socket gives once the first, which has nothing, is skipped and the second is not.
+/// Returns how many bytes the second socket gives, once `pass_silent` skips the first socket, which has nothing, and stops at the second.
 fn got_of_second(
     sockets: &mut Sockets,
     peers: &Slab<Peer>,
@@ -55,7 +55,7 @@ fn got_of_second(
     Err(Unmet::Claim("a silent socket is passed by, and one that has something is not"))
 }
 
-/// Expects that the first of these slots has its turn, and is not skipped then.
+/// Expects that the first slot of `peers` has its turn within [`TURNS`] rounds: `pass_silent` doesn't skip it then.
 fn expect_turn(sockets: &mut Sockets, peers: &Slab<Peer>) -> Result<(), Unmet> {
     for _ in 0..TURNS {
         sockets.accept();
@@ -66,7 +66,7 @@ fn expect_turn(sockets: &mut Sockets, peers: &Slab<Peer>) -> Result<(), Unmet> {
     Err(Unmet::Claim("a silent socket is asked in its turn"))
 }
 
-/// A socket that has nothing is skipped, up to another that an event named. Both have their turn once no round rests.
+/// A socket that has nothing is skipped, but not the next one, which an event named. If no round rests, the silent one is asked, too, in its turn.
 pub(crate) fn silent_sockets_are_passed_by_up_to_one_that_speaks<N: Net>(
     net: &N,
     alloc: Global,
@@ -84,7 +84,7 @@ pub(crate) fn silent_sockets_are_passed_by_up_to_one_that_speaks<N: Net>(
     Ok(())
 }
 
-/// Expects that the second socket takes bytes once the first, which is full, is skipped and the second is not.
+/// Expects that in some round the first socket, which is full, is skipped and the second is not, and that the second takes bytes.
 fn expect_taken_by_second(
     sockets: &mut Sockets,
     peers: &Slab<Peer>,
@@ -109,7 +109,7 @@ fn expect_taken_by_second(
     Err(Unmet::Claim("a full socket is passed by, and one that has room is not"))
 }
 
-/// Expects that all slots are skipped in a round behind a rest that named another socket.
+/// Expects that both slots are skipped in a round after a rest that named another socket.
 fn expect_all_full<S: io::Write>(
     sockets: &mut Sockets,
     peers: &Slab<Peer>,
@@ -126,7 +126,7 @@ fn expect_all_full<S: io::Write>(
     Err(Unmet::Claim("full sockets are passed by"))
 }
 
-/// Expects that the first of these slots has its turn, and is not skipped then.
+/// Expects that the first slot of `peers` has its turn within [`TURNS`] rounds: `pass_full` doesn't skip it then.
 fn expect_full_turn(sockets: &mut Sockets, peers: &Slab<Peer>) -> Result<(), Unmet> {
     for _ in 0..TURNS {
         sockets.accept();
@@ -137,7 +137,8 @@ fn expect_full_turn(sockets: &mut Sockets, peers: &Slab<Peer>) -> Result<(), Unm
     Err(Unmet::Claim("a full socket is asked in its turn"))
 }
 
-/// A socket that is full is skipped, up to another that an event named as one with room. The first has its turn once no round rests.
+/// A socket that is full is skipped, up to another that an event named as one with room. Afterwards the skipped one has its turn, within [`TURNS`]
+/// rounds without a rest.
 pub(crate) fn full_sockets_are_passed_by_up_to_one_with_room<N: Net>(
     net: &N,
     alloc: Global,

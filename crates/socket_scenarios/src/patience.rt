@@ -9,7 +9,7 @@ use std::io;
 use std::net::SocketAddr;
 use std::time::Duration;
 
-/// The milliseconds that a socket has until it has to be welcomed.
+/// The milliseconds within which a socket has to be welcomed.
 const TIME: u64 = 200;
 
 /// The rounds after which a scenario gives up, whatever else the machine does.
@@ -44,7 +44,7 @@ fn say<S: io::Write>(
     Ok(())
 }
 
-/// Expects that a socket fails in the end, in rounds that rest.
+/// Expects that reads of a socket fail in the end, in rounds that rest.
 fn expect_ended(sockets: &mut Sockets, socket: u64) -> Result<(), Unmet> {
     for _ in 0..PATIENCE {
         match round(sockets, socket) {
@@ -56,8 +56,8 @@ fn expect_ended(sockets: &mut Sockets, socket: u64) -> Result<(), Unmet> {
     Err(Unmet::Claim("a socket that is not welcomed is ended"))
 }
 
-/// A socket that says nothing in its time is ended, and so is one that says much. One that is welcomed is heard long after, though it said
-/// nothing.
+/// Checks that a socket that is not welcomed in its time is ended, whether its client wrote nothing or much, and that one that was welcomed
+/// is still read later, though its client had written nothing.
 pub(crate) fn a_socket_that_is_not_welcomed_is_ended(
     rt: &HostRuntime,
     alloc: Global,

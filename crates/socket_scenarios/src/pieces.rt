@@ -9,11 +9,11 @@ use std::io;
 use std::io::{Read as _, Write as _};
 use std::time::{Duration, Instant};
 
-/// The number of exchanges.
+/// The number of exchanges, in each of which a client asks and gets an answer in two pieces.
 const EXCHANGES: u32 = 16;
 
-/// The most milliseconds that the answer of an exchange takes, if its second piece doesn't wait. Otherwise it waits until the client's system
-/// acknowledges the first, which takes at least 40.
+/// The most milliseconds that the answer of an exchange takes if its second piece doesn't wait. A piece that waits is sent once the client's system
+/// acknowledges the first, which takes at least 40 milliseconds.
 const AT_ONCE: u64 = 20;
 
 /// Writes a piece of three bytes to a socket that has room.

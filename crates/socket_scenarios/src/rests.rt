@@ -1,5 +1,4 @@
-//! How long sockets of the system rest, by the clock. Other work on the machine makes a rest longer, and none shorter: so the shortest
-//! of a few is looked at.
+//! How long sockets of the system rest, by the clock. Other work on the machine can only make a rest longer: so the shortest of a few is looked at.
 
 use crate::silent::{accepted, got_in_the_end, listening, met, round};
 use scenario_outcomes::{Unmet, expect, expect_number, value_of};
@@ -13,16 +12,16 @@ use std::time::{Duration, Instant};
 /// The number of rests that are looked at.
 const RESTS: u32 = 4;
 
-/// The least milliseconds of the shortest rest, if nothing comes.
+/// The shortest rest in which nothing comes has at least this many milliseconds.
 const SHORTEST: u64 = 20;
 
-/// The most milliseconds of the shortest rest, if nothing comes: ten times as many as are promised.
+/// The shortest rest in which nothing comes has at most this many milliseconds: ten times as many as are promised.
 const LONGEST: u64 = 1_000;
 
-/// The most milliseconds of the shortest rest that has an event: half of what one lasts that has none.
+/// The most milliseconds that the shortest rest with an event may last: half as many as a rest without an event lasts.
 const AT_ONCE: u64 = 50;
 
-/// The number of clients that connect, one after another. The system may report one late, on a machine that does other work.
+/// The number of clients that connect, one after another. On a busy machine the system may report one of them late.
 const CLIENTS: u32 = 4;
 
 /// Returns how long a rest lasts.
@@ -80,7 +79,7 @@ pub(crate) fn a_rest_ends_once_a_client_writes(
     )
 }
 
-/// Returns whether a client that has connected is accepted in the round after the rest that it ended. All that the system reports of it is heard then.
+/// Returns whether a client that has connected is accepted in the round after the rest that it ended. All events of the client are reported by then.
 fn is_accepted_at_once(sockets: &mut Sockets) -> Result<bool, Unmet> {
     sockets.rest();
     let is_at_once = matches!(sockets.accept(), Accept::Socket(_));

@@ -13,7 +13,7 @@ const MANY: usize = 400;
 /// The most silent sockets that a round asks.
 const ASKED_AT_MOST: u64 = 8;
 
-/// The writes that fill a socket that nobody reads, however much the system buffers.
+/// The number of writes that surely fill a socket that nobody reads, however much the system buffers.
 const MOST_WRITES: u32 = 100_000;
 
 /// The rounds after which a scenario gives up, whatever else the machine does.
@@ -52,7 +52,7 @@ pub(crate) fn round(sockets: &mut Sockets, socket: u64) -> Read {
     sockets.read(socket, &mut buffer)
 }
 
-/// Returns how many bytes a socket gives, in rounds of which each that gets nothing rests.
+/// Returns how many bytes `socket` gives. Does rounds until it gives some; a round that gets nothing rests.
 pub(crate) fn got_in_the_end(sockets: &mut Sockets, socket: u64) -> Result<usize, Unmet> {
     for _ in 0..PATIENCE {
         match round(sockets, socket) {
@@ -193,7 +193,7 @@ pub(crate) fn a_rest_tells_of_one_among_many<N: Net>(net: &N, alloc: Global) -> 
     Ok(())
 }
 
-/// If no round rests many silent sockets are asked in turn, few in each round, and each that has something gives it.
+/// If no round rests, silent sockets are asked in turn, few in each round, and each that has something gives it.
 pub(crate) fn silent_sockets_are_asked_in_turn<N: Net>(
     net: &N,
     alloc: Global,

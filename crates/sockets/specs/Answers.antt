@@ -3,6 +3,6 @@ use Rattle.std.specs.Prelude.{◌≡◌, ◌⊎◌}
 use Rattle.std.specs.declared.io.ErrorKind.{ErrorKind}
 use Rattle.std.specs.declared.io.ErrorKind.TheVariants as kind
 
--- there is nothing now, but may be later: the call would have blocked, or a signal interrupted it
+-- the error only asks to try later: the call would have blocked, or a signal interrupted it
 abbrev pub IsLater : ErrorKind → Type 0
 IsLater k = (k ≡ kind.WouldBlock) ⊎ (k ≡ kind.Interrupted)

@@ -3,23 +3,23 @@ use Rattle.std.specs.Prelude.{◌≡◌, ◌*◌, ◌%◌, ℕ, List, [], ◌∷
 use Rattle.serving.specs.Wire.{Call, Totals, Told, is_failed, total_after}
 use Rattle.sockets.specs.declared.counts.Count.{Count}
 
--- the count, if it is that of socket `s`
+-- the totals in a count, if it is that of socket `s`
 abbrev pub totals_of : ℕ → Option Count → Option Totals
 totals_of s None = None
 totals_of s (Some c) = if c.name == s then Some (record { got = c.got; taken = c.taken }) else None
 
--- the count of socket s, which is at the index in its name
+-- the totals of socket `s`, whose count is at the index that its name has: `s` modulo 4,096
 abbrev pub totals_in : List (Option Count) → ℕ → Option Totals
 totals_in counts s = totals_of s (slice_index_or counts (s % 4096) None)
 
--- if totals are known after this call, they are those before with what the call gave or took
+-- any totals known after `call` are those known before, plus the bytes that it gave or took; a socket that it accepts begins at 0
 abbrev pub Counts : List (Option Count) → Call → List (Option Count) → Type 0
 Counts old call new = (s : ℕ) (t : Totals) → totals_in new s ≡ Some t → total_after s (totals_in old s) call ≡ Some t
 
--- what the sockets know: how many calls failed, which names were given (names ascend by 4,096 a socket), and the totals; no calls
+-- what the sockets know: how many calls failed, which names count as given (those below `given` * 4,096), and the totals; they know no calls
 abbrev pub told_with : ℕ → ℕ → List (Option Count) → Told
 told_with failures given counts = record { calls = None; failures = failures; is_given = λ s. nat_lt s (given * 4096); totals = totals_in counts }
 
--- 1 if this call failed, otherwise 0
+-- 1 if `call` failed, otherwise 0
 abbrev pub fails : Call → ℕ
 fails call = count_by is_failed (call ∷ [])

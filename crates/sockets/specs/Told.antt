@@ -7,15 +7,15 @@ use Rattle.sockets.specs.Counts.{told_with}
 use Rattle.sockets.specs.declared.counts.Totals.{Totals}
 use Rattle.sockets.specs.declared.sockets.Sockets.{Sockets}
 
--- failures, names and totals; no calls
+-- what the sockets `s` know: failures, names and totals; no calls
 abbrev pub told_by : Sockets → Told
 told_by s = told_with s.failures s.given s.counts.items
 
--- for how many nanoseconds a socket may stay whose connection is not running, if there is a clock
+-- how many nanoseconds a socket may stay while its connection is not running, if there is a clock
 abbrev pub patience_of : Sockets → Option ℕ
 patience_of s = option_map (λ clock. as_nanos s.watch.patience) s.watch.clock
 
--- these totals, as a wire has them
+-- `Totals` of this crate, as the `Totals` of a wire
 abbrev pub seen : Option Totals → Option Wire.Totals
 seen None = None
 seen (Some t) = Some (record { got = t.got; taken = t.taken })

@@ -1,4 +1,4 @@
-//! Counts the bytes that sockets gave and took, at the indices in their names.
+//! Counts the bytes that sockets gave and took, by the index in a socket's name.
 
 ghost use Rattle.std.specs.Prelude.{◌≡◌, ◌≤◌, ◌%◌, ℕ, List, length, Some, IfSome};
 ghost use Rattle.serving.specs.Wire.{Accepted, Got, Took, Totals as Told, with_got, with_taken};
@@ -28,7 +28,7 @@ pub struct Totals {
     pub taken: u64,
 }
 
-/// Returns the index in a name.
+/// Returns the index that `name` has: the remainder of a division by 4,096.
 pub(crate) fn place_in(name: u64) -> usize
     ensures { result ≡ name % 4096 }
 {
@@ -112,7 +112,7 @@ pub(crate) fn count_accept(counts: &mut Vec<Option<Count>>, answer: Accept)
     }
 }
 
-/// Counts what a read got.
+/// Counts the bytes that a read of `socket` got, if any.
 pub(crate) fn count_read(counts: &mut Vec<Option<Count>>, socket: u64, answer: Read)
     ensures { (room : ℕ) (buffer : List ℕ) → ((n : ℕ) → answer ≡ read.Got n → n ≤ length buffer)
         → Counts counts.old.items (read_call socket room answer buffer) counts.new.items }
@@ -125,7 +125,7 @@ pub(crate) fn count_read(counts: &mut Vec<Option<Count>>, socket: u64, answer: R
     }
 }
 
-/// Counts what a write took.
+/// Counts the bytes that a write to `socket` took, if any.
 pub(crate) fn count_write(counts: &mut Vec<Option<Count>>, socket: u64, answer: Write)
     ensures { (offered : List ℕ) → ((n : ℕ) → answer ≡ write.Took n → n ≤ length offered)
         → Counts counts.old.items (write_call socket answer offered) counts.new.items }
@@ -137,7 +137,7 @@ pub(crate) fn count_write(counts: &mut Vec<Option<Count>>, socket: u64, answer: 
     }
 }
 
-/// Returns the totals of the socket `name`, if they are counted.
+/// Returns the totals of the socket `name`, if its bytes are counted.
 pub(crate) fn totals_at(counts: &Vec<Option<Count>>, name: u64) -> Option<Totals>
     ensures { seen result ≡ totals_in counts.now.items name }
 {

@@ -3,6 +3,7 @@
 
 mod answers;
 mod counts;
+mod loud;
 mod sockets;
 mod turns;
 mod watch;

@@ -1,6 +1,6 @@
 //! A listening socket and those that it accepted, all non-blocking.
 
-ghost use Rattle.std.specs.Prelude.{◌≡◌, ◌≤◌, ◌<◌, ◌+◌, ◌*◌, ℕ, length};
+ghost use Rattle.std.specs.Prelude.{◌≡◌, ◌≤◌, ◌<◌, ◌+◌, ◌*◌, ℕ, None, is_some, length, slice_index_or, true};
 ghost use Rattle.serving.specs.Answered.{accept_call, read_call, write_call};
 ghost use Rattle.serving.specs.declared.wire.Accept.TheVariants as accept;
 ghost use Rattle.serving.specs.declared.wire.Read.TheVariants as read;
@@ -11,6 +11,7 @@ use crate::answers::{is_later, read_answer, write_answer};
 use crate::counts::{
     Count, PLACES, Totals, count_accept, count_read, count_write, place_in, totals_at,
 };
+use crate::loud::{LoudSlots, UNKNOWN, is_known};
 use crate::turns::{Rounds, Voice};
 use crate::watch::Watch;
 use mio::event::Event;
@@ -24,7 +25,7 @@ use std::net::{Net, SocketAddr};
 use std::rt::HostRuntime;
 use std::time::{Duration, Instant};
 
-/// The token of the listening socket. The others have their names, which are less than this.
+/// The token of the listening socket. The token of an accepted socket is its name, which is less.
 const LISTENER: Token = Token(usize::MAX);
 
 /// The greatest number of sockets that are ever accepted, so that each name is distinct, and none is the listener's token.
@@ -39,40 +40,44 @@ const MOST_EVENTS: usize = 1025;
 /// A socket that was accepted.
 #[derive(Drop)]
 struct Accepted {
-    /// How many were accepted before it, times `PLACES`, plus its index: a socket is found in constant time, and a later socket at the same index has
-    /// another name.
+    /// The number of sockets accepted before it, times `PLACES`, plus its index. So a socket is found in constant time, and a later socket at the
+    /// same index has another name.
     name: u64,
     stream: TcpStream,
     voice: Voice,
     /// The turn since which a write waits for room, if one does.
     full: Option<u64>,
-    /// Whether an event named room since the last write, which waited for it.
+    /// Whether it was full and an event has reported room since.
     has_room: bool,
-    /// When it is ended, if its connection is not running: by then that has to run, or to be over and all its output written.
+    /// The slot of its connection, or `UNKNOWN`.
+    slot: usize,
+    /// When its reads and writes begin to fail, unless its connection runs: by then the connection has to run, or to be over with all output written.
     ends: Option<Instant>,
     /// Whether its connection is not running.
     is_stranger: bool,
 }
 
 /// The sockets of a server: one that listens, and those that it accepted, with names that are never used again. None blocks
-/// except in `rest`, which waits at most 100 milliseconds for one of them to have something. A socket that had nothing, or gave
-/// less than was asked for, is silent, and one that took less than it was offered is full: the system is asked about it again in its turn, or once an
-/// event of a rest names it.
+/// except in `rest`, which waits at most 100 milliseconds for one of them to have something. A socket is silent if its last read didn't fill the
+/// buffer, and full if its last write took less than it was offered: the system is asked about it again in its turn, or once an event of a rest
+/// names it.
 #[derive(Drop)]
 pub struct Sockets {
     listener: TcpListener,
     poll: Poll,
     events: Events,
-    /// By the index in their names.
+    /// The accepted sockets, by the index in their names.
     accepted: Slab<Accepted>,
     /// The number of sockets that were accepted and kept.
     given: u64,
-    /// Whose turn it is to be asked.
+    /// Decides which sockets the system is asked about in a round.
     rounds: Rounds,
     /// The clock by which sockets are ended.
     watch: Watch,
-    /// Whether a new socket may have come.
+    /// Whether a client may be waiting to be accepted.
     voice: Voice,
+    /// The slots whose sockets are asked for a read in every round.
+    loud: LoudSlots,
     failures: u64,
     /// The bytes that each socket gave and took, by the index in their names.
     counts: Vec<Option<Count>>,
@@ -97,9 +102,38 @@ fn in_new_cycle(voice: Voice) -> Voice {
     }
 }
 
-/// Returns whether a full socket is asked for a write after an event: it has room, or never will, which the write then finds.
+/// Returns whether a full socket is written to again after `event`: it has room, or it was closed or failed, which the write then reports.
 fn has_room(event: &Event) -> bool {
     event.is_writable() || event.is_write_closed() || event.is_error()
+}
+
+/// Records at the slot of a socket whether it is asked for a read in every round: if it isn't silent, or may have to be ended.
+fn note(loud: &mut LoudSlots, accepted: &Accepted) {
+    let is_silent = matches!(accepted.voice, Voice::Silent(_)) && accepted.ends.is_none();
+    loud.put(accepted.slot, !is_silent);
+}
+
+/// Records the slot of a socket, if that was not known.
+fn learn_slot(loud: &mut LoudSlots, accepted: &mut Accepted, slot: usize) {
+    if !is_known(accepted.slot) && is_known(slot) {
+        accepted.slot = slot;
+        loud.remove_unknown();
+        note(loud, accepted);
+    }
+}
+
+/// Returns the first slot at or after `from` that is free: at most `end`.
+fn first_free(peers: &Slab<Peer>, from: usize, end: usize) -> usize
+    requires { from ≤ end }
+    ensures least { from ≤ result }
+    ensures most { result ≤ end }
+    ensures taken { (i : ℕ) → from ≤ i → i < result → is_some (slice_index_or peers.now.slots i None) ≡ true }
+{
+    let mut slot = from;
+    while slot < end && peers.get(slot).is_some() {
+        slot += 1;
+    }
+    slot
 }
 
 /// Returns the socket with this name, if it is still there.
@@ -144,6 +178,7 @@ impl Sockets {
             rounds: Rounds::new(),
             watch: Watch::none(),
             voice: Voice::Speaking,
+            loud: LoudSlots::new(alloc)?,
             failures: 0,
             counts: vec![in alloc; None; PLACES as usize]?,
         })
@@ -193,7 +228,7 @@ impl Sockets {
         true
     }
 
-    /// Keeps an accepted socket under a new name, and returns that. Closes the socket and returns `None` if it can't be kept.
+    /// Keeps an accepted socket under a new name, and returns the name. Closes the socket and returns `None` if it can't be kept.
     fn keep(&mut self, mut stream: TcpStream) -> Option<u64>
         ensures failures { self.new.failures ≡ self.old.failures }
         ensures counts { self.new.counts ≡ self.old.counts }
@@ -214,15 +249,17 @@ impl Sockets {
             voice: Voice::Speaking,
             full: None,
             has_room: false,
+            slot: UNKNOWN,
             ends: self.watch.ends(),
             is_stranger: true,
         };
         self.accepted.insert_reserved(accepted);
+        self.loud.add_unknown();
         self.given += 1;
         Some(name)
     }
 
-    /// Accepts a socket, unless it is known that none has come.
+    /// Begins a round. Accepts a socket, unless it is known that no client waits.
     fn ask(&mut self) -> Accept
         ensures failures { self.new.failures ≡ self.old.failures + fails (accept_call result) }
         ensures counts { self.new.counts ≡ self.old.counts }
@@ -264,7 +301,7 @@ impl Sockets {
         Read::End
     }
 
-    /// Returns the answer of a write that failed: a failure if it can be counted, otherwise that it has to wait.
+    /// Returns the answer for a write that failed: `Failed` if the failure can be counted, otherwise `Wait`.
     fn failed_write(&mut self) -> Write
         ensures failures { (s : ℕ) (bytes : List ℕ) → self.new.failures ≡ self.old.failures + fails (write_call s result bytes) }
         ensures counts { self.new.counts ≡ self.old.counts }
@@ -277,7 +314,7 @@ impl Sockets {
         Write::Wait
     }
 
-    /// Reads from `socket`. Fails if the socket's time is over.
+    /// Reads from `socket` if the system is to be asked about it in this round; otherwise returns `Wait`. Fails if the socket's time is over.
     fn read_from(&mut self, socket: u64, buffer: &mut [u8]) -> Read
         ensures failures { (s room : ℕ) → self.new.failures ≡ self.old.failures + fails (read_call s room result buffer.new) }
         ensures counts { self.new.counts ≡ self.old.counts }
@@ -299,10 +336,12 @@ impl Sockets {
                 accepted.voice = self
                     .rounds
                     .after_read(accepted.voice, count < room, accepted.is_stranger);
+                note(&mut self.loud, accepted);
                 Read::Got(count)
             }
             Read::Wait => {
                 accepted.voice = self.rounds.silent();
+                note(&mut self.loud, accepted);
                 Read::Wait
             }
             Read::End => Read::End,
@@ -310,7 +349,8 @@ impl Sockets {
         }
     }
 
-    /// Returns whether a read of a slot's socket is answered without a look at it: it is silent, it is not its turn, and its connection runs.
+    /// Returns whether a read of the socket in `slot` is answered with [`Read::Wait`] without asking the system: the socket is silent, it is not
+    /// its turn, and its connection runs.
     fn waits(&mut self, peers: &Slab<Peer>, slot: usize) -> bool
         ensures failures { self.new.failures ≡ self.old.failures }
         ensures counts { self.new.counts ≡ self.old.counts }
@@ -320,15 +360,14 @@ impl Sockets {
         let Some(peer) = peers.get(slot).copied() else {
             return false;
         };
-        match self.accepted.get(place_in(peer.socket)) {
-            Some(found) if found.name == peer.socket && found.ends.is_none() => {
-                self.rounds.passes(found.voice)
-            }
-            _ => false,
-        }
+        let Some(found) = named(&mut self.accepted, peer.socket) else {
+            return false;
+        };
+        learn_slot(&mut self.loud, found, slot);
+        found.ends.is_none() && self.rounds.passes(found.voice)
     }
 
-    /// Returns the first slot at or after `from` whose socket has to be asked: at most `end`.
+    /// Returns the first slot at or after `from` whose socket has to be asked, or `end` if there is none.
     fn first_asked(&mut self, peers: &Slab<Peer>, from: usize, end: usize) -> usize
         requires { from ≤ end }
         // The frame: what the sockets know is unchanged.
@@ -340,6 +379,9 @@ impl Sockets {
         ensures most { result ≤ end }
         ensures taken { (i : ℕ) → from ≤ i → i < result → is_some (slice_index_or peers.now.slots i None) ≡ true }
     {
+        if self.loud.are_known() && !self.rounds.takes_turn() {
+            return first_free(peers, from, self.loud.next(from, end));
+        }
         let mut slot = from;
         while slot < end && self.waits(peers, slot) {
             slot += 1;
@@ -347,7 +389,7 @@ impl Sockets {
         slot
     }
 
-    /// Returns whether a write of a slot's socket is answered without a look at it: no event has named room, and it is not its turn.
+    /// Returns whether `slot` needs no write now: it is empty; or no event has reported room at its socket, and the socket isn't full, or isn't due.
     fn stays_full(&mut self, peers: &Slab<Peer>, slot: usize) -> bool
         ensures failures { self.new.failures ≡ self.old.failures }
         ensures counts { self.new.counts ≡ self.old.counts }
@@ -364,7 +406,7 @@ impl Sockets {
         }
     }
 
-    /// Returns the first slot at or after `from` whose socket has to be asked for a write: at most `end`.
+    /// Returns the first slot at or after `from` whose socket has to be asked for a write, or `end` if there is none.
     fn first_with_room(&mut self, peers: &Slab<Peer>, from: usize, end: usize) -> usize
         requires { from ≤ end }
         // The frame: what the sockets know is unchanged.
@@ -384,7 +426,7 @@ impl Sockets {
         slot
     }
 
-    /// Writes to `socket`. Fails if the socket's time is over.
+    /// Writes to `socket` if the system is to be asked about it in this round; otherwise returns `Wait`. Fails if the socket's time is over.
     fn write_to(&mut self, socket: u64, bytes: &[u8]) -> Write
         ensures failures { (s : ℕ) → self.new.failures ≡ self.old.failures + fails (write_call s result bytes.now) }
         ensures counts { self.new.counts ≡ self.old.counts }
@@ -410,7 +452,7 @@ impl Sockets {
         }
     }
 
-    /// Updates the sockets that events of the last rest name, which are asked at once. If there was one, all others have nothing.
+    /// Updates the sockets that the events of the last rest name, so that they are asked at once. If there was an event, records that the others have nothing.
     fn hear(&mut self)
         ensures failures { self.new.failures ≡ self.old.failures }
         ensures counts { self.new.counts ≡ self.old.counts }
@@ -421,6 +463,7 @@ impl Sockets {
                 self.voice = Voice::Speaking;
             } else if let Some(accepted) = named(&mut self.accepted, event.token().0 as u64) {
                 accepted.voice = heard(event, accepted.voice);
+                note(&mut self.loud, accepted);
                 if accepted.full.is_some() && has_room(event) {
                     accepted.full = None;
                     accepted.has_room = true;
@@ -466,7 +509,8 @@ impl Wire for Sockets {
     }
 
     fn close(&mut self, socket: u64) {
-        if named(&mut self.accepted, socket).is_some() {
+        if let Some(accepted) = named(&mut self.accepted, socket) {
+            self.loud.forget(accepted.slot);
             self.accepted.try_remove(place_in(socket));
         }
     }
@@ -476,6 +520,7 @@ impl Wire for Sockets {
             accepted.ends = None;
             accepted.is_stranger = false;
             accepted.voice = in_new_cycle(accepted.voice);
+            note(&mut self.loud, accepted);
         }
     }
 
@@ -485,6 +530,7 @@ impl Wire for Sockets {
             accepted.ends = ends;
             accepted.is_stranger = true;
             accepted.voice = in_new_cycle(accepted.voice);
+            note(&mut self.loud, accepted);
         }
     }
 

@@ -1,4 +1,4 @@
-//! Decides when the system is asked again about sockets that had nothing to read, no room for a write, or more than they were asked for.
+//! Decides when the system is asked again about a socket that had nothing to read, had no room for a write, or may have more than the last read got.
 
 ghost use Rattle.std.specs.Prelude.{◌≡◌, ◌≢◌, ◌≤◌, ◌<◌, ◌+◌, ◌/◌, ◌%◌, ℕ, Some, None, cond, true, false};
 ghost use Rattle.serving.specs.declared.wire.Write.TheVariants as write;
@@ -9,14 +9,14 @@ use serving::Write;
 /// The most silent sockets that are asked in a round, and the most full ones.
 const MOST_ASKED: u64 = 8;
 
-/// The number of rounds after a rest that named a socket in which no turn is taken, since that rest spoke for all.
+/// The number of rounds that take no turn after a rest that named a socket: the rest would have named any other socket that had something.
 const TOLD_ROUNDS: u64 = 2;
 
 /// Every round whose number is divisible by this takes a turn, whatever rests named.
 const SURE: u64 = 16;
 
 /// The most greedy sockets of clients that have logged in that are asked in a round.
-const MOST_GREEDY: u64 = 2;
+const MOST_GREEDY: u64 = 1;
 
 /// The most greedy sockets of clients that have not logged in that are asked in a round.
 const MOST_STRANGERS: u64 = 1;
@@ -27,22 +27,23 @@ const LONGEST_REST: u64 = 100;
 /// Whether a socket may have something to read.
 #[derive(Clone, Copy, Drop)]
 pub(crate) enum Voice {
-    /// It may, and is asked: it was just accepted, or an event named it.
+    /// The socket may have something, and is asked: it was just accepted, or an event named it.
     Speaking,
-    /// It gave all that it was offered in this cycle, so it may have more. It is asked in a later cycle.
+    /// A read filled its buffer in this cycle, so the socket may have more. It is asked in a later cycle.
     Greedy(u64),
-    /// It has had nothing since this turn, and is asked in a later one.
+    /// It has had nothing to read since this turn, and is asked in a later turn.
     Silent(u64),
-    /// Its peer has ended it, of which no later event tells: it is asked until the end is read.
+    /// Its peer has ended it. It is asked until the end is read, since no later event reports that again.
     Ending,
 }
 
-/// Sockets that are asked in turn.
+/// The sockets that wait to be asked in their turn: the silent ones, or the full ones.
 #[derive(Clone, Copy, Drop)]
 struct Line {
-    /// How many of them there were in the round before.
+    /// The number of the line's sockets when they were last counted: the silent ones in the round before, the full ones in the last
+    /// round that took a turn.
     length: u64,
-    /// How many there were in this round so far.
+    /// How many were counted in this round so far.
     met: u64,
     /// How many of those were asked.
     asked: u64,
@@ -59,7 +60,7 @@ struct Cycle {
     asked: u64,
     /// Whether one that is owed its turn in this cycle was passed over in this round.
     is_owing: bool,
-    /// Whether any was passed over in this round.
+    /// Whether any greedy socket was passed over in this round.
     is_waiting: bool,
     ghost within: { asked ≤ most },
 }
@@ -69,7 +70,7 @@ struct Cycle {
 pub(crate) struct Rounds {
     /// The number of this round.
     number: u64,
-    /// The number of the last round before a rest that named a socket.
+    /// The number of the round before the last rest that named a socket.
     told: u64,
     /// Whether a turn is taken in this round.
     is_turn: bool,
@@ -79,13 +80,15 @@ pub(crate) struct Rounds {
     silent: Line,
     /// The sockets that had no room for all of a write.
     full: Line,
-    /// Whether an event has named room since this round began.
+    /// Whether an event has reported room at a full socket since this round began.
     names_room: bool,
-    /// Whether an event named room between the beginnings of the round before and of this one.
+    /// Whether an event reported room at a full socket between the beginning of the last round and that of this one.
     named_room: bool,
+    /// Whether a greedy socket waited for its turn in the round before.
+    is_pressed: bool,
     /// The greedy sockets of clients that have logged in.
     greedy: Cycle,
-    /// The greedy sockets of clients that have not.
+    /// The greedy sockets of clients that have not logged in.
     strangers: Cycle,
 }
 
@@ -103,7 +106,7 @@ impl Cycle {
         }
     }
 
-    /// Begins a round: in the same cycle if a socket is owed its turn in that, otherwise in the next one.
+    /// Begins a round: in the same cycle if that still owes a socket its turn, otherwise in the next cycle.
     fn begin(&mut self)
         // Nothing was asked in the new round.
         ensures asked { self.new.asked ≡ 0 }
@@ -122,7 +125,7 @@ impl Cycle {
         self.is_waiting = false;
     }
 
-    /// Returns whether a socket is asked in this round whose last cycle was `last`.
+    /// Returns whether a greedy socket that was last asked in cycle `last` is asked in this round.
     ///
     /// A socket that is owed its turn is passed over only if `most` others were asked in this round, and then the cycle goes on. So
     /// between two questions to one socket each other is asked at most twice, and each round asks `most` of them, or all that are owed.
@@ -169,7 +172,7 @@ impl Line {
         self.asked = 0;
     }
 
-    /// Begins a round. Counts those that wait anew only if it takes a turn.
+    /// Begins a round. Counts the waiting sockets anew only if the round takes a turn (`is_turn`).
     fn begin_turn(&mut self, is_turn: bool)
         ensures length { is_turn ≡ true → self.new.length ≡ self.old.met }
         ensures asked { self.new.asked ≡ 0 }
@@ -182,8 +185,8 @@ impl Line {
 
     /// Returns whether a socket that has waited since turn `since` is asked in turn `turn`.
     ///
-    /// It is if an eighth of their number of turns is over, and fewer than 8 were asked. So all are asked in turn: between two questions to one of
-    /// them each other is asked at most once, for which an eighth of their number of turns suffices.
+    /// It is asked if more than `length` / 8 turns have passed since then, and fewer than 8 sockets were asked in this turn. So all are asked in rotation:
+    /// between two questions to one socket each other is asked at most once, for which `length` / 8 turns suffice.
     fn asks(&mut self, turn: u64, since: u64) -> bool
         ensures asked { self.new.asked ≡ self.old.asked + cond result 1 0 }
         ensures due { since + self.old.length / 8 < turn → self.old.asked < 8 → result ≡ true }
@@ -205,7 +208,7 @@ impl Line {
         self.asked < MOST_ASKED && turn > since.saturating_add(self.length / MOST_ASKED)
     }
 
-    /// Counts one more that waits.
+    /// Counts one more waiting socket.
     fn meet(&mut self)
         ensures asked { self.new.asked ≡ self.old.asked }
         ensures length { self.new.length ≡ self.old.length }
@@ -226,12 +229,13 @@ impl Rounds {
             full: Line::new(),
             names_room: false,
             named_room: false,
+            is_pressed: false,
             greedy: Cycle::new(MOST_GREEDY),
             strangers: Cycle::new(MOST_STRANGERS),
         }
     }
 
-    /// Begins a round. It takes a turn if its number is divisible by 16, or if it isn't one of the two after a rest that named a socket.
+    /// Begins a round. The round takes a turn if its number is divisible by 16, or if it isn't one of the two rounds after a rest that named a socket.
     pub(crate) fn begin(&mut self)
         ensures silent { self.new.silent.asked ≡ 0 }
         ensures full { self.new.full.asked ≡ 0 }
@@ -239,6 +243,7 @@ impl Rounds {
         ensures sure { self.new.number % 16 ≡ 0 → self.new.is_turn ≡ true }
         ensures untold { self.old.told + 2 < self.new.number → self.new.is_turn ≡ true }
         ensures named { self.new.named_room ≡ self.old.names_room }
+        ensures pressed { self.old.greedy.is_waiting ≡ true → self.new.is_pressed ≡ true }
     {
         self.number = self.number.saturating_add(1);
         let is_told = self.number <= self.told.saturating_add(TOLD_ROUNDS);
@@ -246,15 +251,23 @@ impl Rounds {
         if self.is_turn {
             self.turn = self.turn.saturating_add(1);
         }
-        self.silent.begin();
+        self.silent.begin_turn(self.is_turn);
         self.full.begin_turn(self.is_turn);
         self.named_room = self.names_room;
         self.names_room = false;
+        self.is_pressed = self.greedy.is_waiting || self.strangers.is_waiting;
         self.greedy.begin();
         self.strangers.begin();
     }
 
-    /// Records that an event named room at a socket that was full.
+    /// Returns whether this round takes a turn.
+    pub(crate) fn takes_turn(&self) -> bool
+        ensures { result ≡ self.now.is_turn }
+    {
+        self.is_turn
+    }
+
+    /// Records that an event reported room at a socket that was full.
     pub(crate) fn free(&mut self)
         ensures silent { self.new.silent ≡ self.old.silent }
         ensures full { self.new.full ≡ self.old.full }
@@ -277,27 +290,41 @@ impl Rounds {
         Voice::Silent(self.turn)
     }
 
-    /// Returns the voice of a socket of which a read got bytes in this round. If it gave all that it was offered it is greedy. Otherwise it is
-    /// empty, and is not asked in the next turn: what comes later is a new event.
+    /// Returns the voice of a socket of which a read got bytes in this round; it was `voice` before. If the read filled its buffer the socket is greedy.
+    /// If not (`is_short`), the socket was emptied, and is not asked in the next turn unless greedy sockets wait: later bytes are a new event.
     pub(crate) fn after_read(&self, voice: Voice, is_short: bool, is_stranger: bool) -> Voice
         ensures ending { voice ≡ voices.Ending → result ≡ voices.Ending }
         ensures stranger { is_short ≡ false → voice ≢ voices.Ending → is_stranger ≡ true → result ≡ voices.Greedy self.now.strangers.number }
         ensures greedy { is_short ≡ false → voice ≢ voices.Ending → is_stranger ≡ false → result ≡ voices.Greedy self.now.greedy.number }
         ensures emptied { is_short ≡ true → voice ≢ voices.Ending → (since : ℕ) × (self.now.turn ≤ since) × (result ≡ voices.Silent since) }
+        ensures pressed { is_short ≡ true → voice ≢ voices.Ending → self.now.is_pressed ≡ true → result ≡ voices.Silent self.now.turn }
     {
         match voice {
             Voice::Ending => Voice::Ending,
-            _ if is_short => Voice::Silent(self.turn.saturating_add(1)),
+            _ if is_short => Voice::Silent(self.emptied()),
             _ if is_stranger => Voice::Greedy(self.strangers.number),
             _ => Voice::Greedy(self.greedy.number),
+        }
+    }
+
+    /// Returns the turn since which a socket is silent that a read of this round has emptied. It is not asked in the next turn, unless greedy sockets
+    /// waited in the round before: then no rest comes soon that tells of its next bytes.
+    fn emptied(&self) -> u64
+        ensures pressed { self.now.is_pressed ≡ true → result ≡ self.now.turn }
+        ensures least { self.now.turn ≤ result }
+    {
+        if self.is_pressed {
+            self.turn
+        } else {
+            self.turn.saturating_add(1)
         }
     }
 
     /// Returns the turn since which a socket is full after a write in this round, or `None` if it took all that it was offered.
     ///
     /// No wake-up is lost. If a write took less than it was offered, or nothing, the system reports room by an event after the
-    /// write, and events are fetched by a rest alone, which comes after this mark. If a signal interrupted the write no event need
-    /// come: then its turn does.
+    /// write, and only a rest fetches events, which comes after this mark. If a signal interrupted the write there may be no event:
+    /// the socket is then asked in its turn.
     pub(crate) fn after_write(&self, answer: Write, offered: usize) -> Option<u64>
         ensures all { answer ≡ write.Took offered → result ≡ None }
         ensures part { (n : ℕ) → answer ≡ write.Took n → n < offered → result ≡ Some self.now.turn }
@@ -311,7 +338,7 @@ impl Rounds {
         }
     }
 
-    /// Returns whether a socket is asked for a read in this round: one that speaks or ends is, a silent or a greedy one in its turn.
+    /// Returns whether a socket is asked for a read in this round: always if it speaks or ends, only when it is due if it is silent or greedy.
     pub(crate) fn asks_read(&mut self, voice: Voice, is_stranger: bool) -> bool
         ensures speaking { voice ≡ voices.Speaking → result ≡ true }
         ensures ending { voice ≡ voices.Ending → result ≡ true }
@@ -327,16 +354,19 @@ impl Rounds {
         }
     }
 
-    /// Returns whether a socket is asked that has been silent since turn `since`.
+    /// Returns whether a socket that has been silent since turn `since` is asked in this round.
     fn asks_silent(&mut self, since: u64) -> bool
         ensures silent { self.new.silent.asked ≡ self.old.silent.asked + cond result 1 0 }
         ensures full { self.new.full ≡ self.old.full }
     {
+        if !self.is_turn {
+            return false;
+        }
         self.silent.meet();
-        self.is_turn && self.silent.asks(self.turn, since)
+        self.silent.asks(self.turn, since)
     }
 
-    /// Returns whether a read of a socket is answered in this round without asking the system: it is silent, and it is not its turn.
+    /// Returns whether a read of a socket is answered in this round without asking the system: the socket is silent, and it is not its turn.
     pub(crate) fn passes(&mut self, voice: Voice) -> bool
         ensures only { result ≡ true → (since : ℕ) × (voice ≡ voices.Silent since) }
         ensures due { (since : ℕ) → voice ≡ voices.Silent since → self.old.is_turn ≡ true
@@ -347,7 +377,10 @@ impl Rounds {
         let Voice::Silent(since) = voice else {
             return false;
         };
-        if self.is_turn && self.silent.is_next(self.turn, since) {
+        if !self.is_turn {
+            return true;
+        }
+        if self.silent.is_next(self.turn, since) {
             return false;
         }
         self.silent.meet();
@@ -367,7 +400,7 @@ impl Rounds {
         }
     }
 
-    /// Returns whether a socket is asked for a write in this round: one that has been full since a turn in its turn, any other always.
+    /// Returns whether a socket is asked for a write in this round: always if it isn't full, only when it is due if it has been full since turn `since`.
     pub(crate) fn asks_write(&mut self, since: Option<u64>) -> bool
         ensures free { since ≡ None → result ≡ true }
         ensures full { (s : ℕ) → since ≡ Some s → self.new.full.asked ≡ self.old.full.asked + cond result 1 0 }
@@ -383,7 +416,8 @@ impl Rounds {
         self.full.asks(self.turn, since)
     }
 
-    /// Returns whether any socket that was full may be asked for a write in this round: if it takes a turn, or an event named room before it.
+    /// Returns whether any socket that was full may be asked for a write in this round: the round takes a turn, or an event reported room between
+    /// the beginning of the last round and that of this one.
     pub(crate) fn asks_full(&self) -> bool
         ensures turn { self.now.is_turn ≡ true → result ≡ true }
         ensures named { self.now.named_room ≡ true → result ≡ true }
@@ -391,7 +425,7 @@ impl Rounds {
         self.is_turn || self.named_room
     }
 
-    /// Returns whether a write to a socket is answered in this round without asking the system: it was not full, or it is not its turn.
+    /// Returns whether a write to a socket is answered in this round without asking the system: the socket was not full, or it is not due.
     pub(crate) fn passes_write(&mut self, since: Option<u64>) -> bool
         ensures due { (s : ℕ) → since ≡ Some s → self.old.is_turn ≡ true
             → s + self.old.full.length / 8 < self.old.turn → self.old.full.asked < 8 → result ≡ false }

@@ -1,4 +1,4 @@
-//! How long a socket may stay whose connection is not running.
+//! Limits how long a socket may stay while its connection is not running.
 
 ghost use Rattle.std.specs.Prelude.{◌≡◌, ◌≤◌, ◌+◌, ◌↔◌, Some, None, true, false, IfSome};
 ghost use Rattle.std.specs.Time.{instant_nanos};
@@ -28,7 +28,7 @@ impl Watch {
         }
     }
 
-    /// Makes a watch that gives each socket `patience` by this clock.
+    /// Makes a watch that gives each socket `patience` by `clock`.
     pub(crate) fn new(clock: HostRuntime, patience: Duration) -> Watch
         ensures clock { result.clock ≡ Some clock }
         ensures patience { result.patience ≡ patience }
@@ -50,7 +50,7 @@ impl Watch {
         };
     }
 
-    /// Returns when a socket is ended that was accepted or bidden farewell in this round, or `None` if there is no time.
+    /// Returns when a socket that is accepted or bidden farewell in this round is ended, or `None` if the clock has no time.
     pub(crate) fn ends(&self) -> Option<Instant>
         ensures timeless { self.now.time ≡ None → result ≡ None }
         ensures time { IfSome self.now.time (λ time. IfSome result (λ ends. instant_nanos ends ≡ instant_nanos time + as_nanos self.now.patience)) }
@@ -58,7 +58,7 @@ impl Watch {
         self.time?.checked_add(self.patience)
     }
 
-    /// Returns whether the time of a socket is over. It is not if the socket was welcomed, or if there is no time.
+    /// Returns whether the time `ends` of a socket has come. It has not if `ends` is `None` (the socket was welcomed), or if the clock has no time.
     pub(crate) fn is_over(&self, ends: Option<Instant>) -> bool
         ensures welcomed { ends ≡ None → result ≡ false }
         ensures timeless { self.now.time ≡ None → result ≡ false }

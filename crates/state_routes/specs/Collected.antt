@@ -15,16 +15,16 @@ use Rattle.model.specs.declared.topologies.Binding.{Binding}
 use Rattle.model.specs.declared.topologies.ExchangeKind.{ExchangeKind}
 use Rattle.model.specs.declared.topologies.ExchangeKind.TheVariants.{Direct, Fanout, Topic}
 
--- `ps`, with this pattern at the end unless it is there already
+-- `ps`, with the pattern of this kind and text appended unless `ps` has it
 abbrev pub onto_tracked : List Tracked → ExchangeKind → Text → List Tracked
 onto_tracked ps kind text = once_more same_tracked ps (record { kind = kind; text = text })
 
--- `ps` with the binding key of each binding from the exchange `name` added that was not there yet
+-- `ps`, with the binding key of each binding from the exchange `name` appended unless it is there
 abbrev pub keys_onto : List Tracked → ExchangeKind → Text → List Binding → List Tracked
 keys_onto ps kind name [] = ps
 keys_onto ps kind name (b ∷ bs) = keys_onto (if bytes_eq b.source name then onto_tracked ps kind b.key else ps) kind name bs
 
--- the same, except that a fanout exchange, which compares no key, adds none
+-- `ps`, with the binding keys of the exchange `name` appended (`keys_onto`); none for a fanout exchange, which compares no key
 abbrev pub keys_by_onto : List Tracked → ExchangeKind → Text → List Binding → List Tracked
 keys_by_onto ps Direct name bs = keys_onto ps Direct name bs
 keys_by_onto ps Topic name bs = keys_onto ps Topic name bs
@@ -44,7 +44,7 @@ topics_onto ps (e ∷ es) = topics_onto (onto_tracked ps Topic e) es
 abbrev pub names_if : Bool → List Tracked → List DeclaredQueue → List Tracked
 names_if met ps queues = if met then names_onto ps queues else ps
 
--- `ps` with the binding keys added of those exchanges whose node is marked
+-- `ps`, with the binding keys of each exchange whose node is marked appended
 abbrev pub met_onto : Topology → List Bool → List Tracked → List Exchange → List Tracked
 met_onto t marks ps [] = ps
 met_onto t marks ps (x ∷ xs) = met_onto t marks
@@ -56,7 +56,7 @@ abbrev pub collected : Topology → Text → List Text → List Bool → List Tr
 collected t pattern excepts marks = met_onto t marks (names_if (slice_index_or marks 2 false)
     (topics_onto (onto_tracked [] Topic pattern) excepts) t.queues) t.exchanges
 
--- `marks` are the nodes that a message may reach from exchange `x` with its own key, of a `never` also as a dead letter that keeps its key
+-- `marks` are the nodes that a message may reach from exchange `x` with its own key; for a `never` also as a dead letter that keeps its key
 abbrev pub AreInReach : Topology → Mode → Text → Text → List Bool → Type 0
 AreInReach t m x q marks = (deaths : List Gate) × AreEntered t [] (IsUnfixedEnd t) (dying m t.queues) deaths
     × AreReached (any_links t q ++ links_in deaths) (count t) (node t.exchanges x) marks

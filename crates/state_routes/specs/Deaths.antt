@@ -1,4 +1,4 @@
--- Dead letters as gates: for each way into a queue there is one with the same test that ends where the queue's dead letters go (RabbitMQ,
+-- Dead letters as gates: for each way into a queue there is a gate with the same test, which ends where the queue's dead letters go (RabbitMQ,
 -- "Dead Letter Exchanges").
 use Rattle.std.specs.Prelude.{◌≡◌, ℕ, List, [], ◌∷◌, ◌++◌, Bool, false, Option, Some, None, if◌then◌else◌}
 use Rattle.std.specs.Str.{bytes_eq}
@@ -27,34 +27,35 @@ abbrev pub is_into_queue : Place → Text → Bool
 is_into_queue (place.Exchange x) name = false
 is_into_queue (place.Queue p) name = bytes_eq p name
 
--- the gate of binding `b`, but to node `to`
+-- the gate of binding `b`, except that it ends at node `to`
 abbrev pub entry : List Exchange → List Tracked → ℕ → Binding → Gate
 entry exchanges ps to b = record { link = record { from = node exchanges b.source; to = to }; test = test_by ps (kind_at exchanges b.source) b.key }
 
--- the gate from the default exchange into queue `name`, but to node `to`
+-- the gate from the default exchange into queue `name`, except that it ends at node `to`
 abbrev pub default_entry : List Tracked → Text → ℕ → Gate
 default_entry ps name to = record { link = record { from = 2; to = to }; test = Pattern (tracked_index ps Direct name) }
 
--- the gates of all ways into queue `name`, but to node `to`
+-- the gates of all ways into queue `name`, except that they end at node `to`
 abbrev pub entries : List Exchange → List Tracked → Text → ℕ → List Binding → List Gate
 entries exchanges ps name to [] = default_entry ps name to ∷ []
 entries exchanges ps name to (b ∷ bs) =
     if is_into_queue b.to name then entry exchanges ps to b ∷ entries exchanges ps name to bs
     else entries exchanges ps name to bs
 
--- the same, or none if there is no such node
+-- the gates of all ways into queue `name`, except that they end at the given node; none if there is no node
 abbrev pub entries_through : List Exchange → List Tracked → Text → List Binding → Option ℕ → List Gate
 entries_through exchanges ps name bs None = []
 entries_through exchanges ps name bs (Some to) = entries exchanges ps name to bs
 
--- For each of the queues the gates of all ways into it, but to the node that `Ends` gives for its dead letters.
+-- For each of the queues, the gates of all ways into it, except that they end at the node that `Ends` gives for its dead letters;
+-- no gates for a queue for which it gives none.
 pub data AreEntered (t : Topology) (ps : List Tracked) (Ends : DeclaredQueue → Option ℕ → Type 0) : List DeclaredQueue → List Gate → Type 0 where
   none : AreEntered t ps Ends [] []
   next : {last : DeclaredQueue} {queues : List DeclaredQueue} {gates : List Gate} (end : Option ℕ)
       → Ends last end → AreEntered t ps Ends queues gates
       → AreEntered t ps Ends (last ∷ queues) (entries_through t.exchanges ps last.name t.bindings end ++ gates)
 
--- the links of these gates
+-- the links of the gates, in order
 abbrev pub links_in : List Gate → List Hop
 links_in [] = []
 links_in (g ∷ gs) = g.link ∷ links_in gs
@@ -72,7 +73,7 @@ unfixed_end exchanges None key = None
 unfixed_end exchanges (Some y) None = Some (node exchanges y)
 unfixed_end exchanges (Some y) (Some key) = None
 
--- `end` is the node to which dead letters of the queue go with the key that they have, if any
+-- `end` is the node of the queue's dead-letter exchange; `None` if it has none, or if the queue sets a dead-letter routing key
 abbrev pub IsUnfixedEnd : Topology → DeclaredQueue → Option ℕ → Type 0
 IsUnfixedEnd t last end = end ≡ unfixed_end t.exchanges last.dead_letter_exchange last.dead_letter_key
 
@@ -84,11 +85,11 @@ GoOn t q (Some y) None end = end ≡ Some (node t.exchanges y)
 GoOn t q (Some y) (Some key) (Some n) = (n ≡ 0) × Comes t (of_key key) None y q
 GoOn t q (Some y) (Some key) None = Comes t (of_key key) None y q → ⊥
 
--- `end` is the node to which dead letters of the queue go, as far as it matters to queue `q`
+-- `end` is the node to which dead letters of the queue `last` go, as far as that matters to queue `q` (`GoOn`)
 abbrev pub IsEnd : Topology → Text → DeclaredQueue → Option ℕ → Type 0
 IsEnd t q last end = GoOn t q last.dead_letter_exchange last.dead_letter_key end
 
--- `new` is `old` and the gates of the ways into one more queue, to the node that `Ends` gives for its dead letters
+-- `new` is `old` followed by the gates into the queue `last`, each leading on to the node where the dead letters of `last` go (by `Ends`)
 abbrev pub AreMore : Topology → List Tracked → (DeclaredQueue → Option ℕ → Type 0) → DeclaredQueue → List Gate → List Gate → Type 0
 AreMore t ps Ends last old new = (end : Option ℕ) × Ends last end × (new ≡ old ++ entries_through t.exchanges ps last.name t.bindings end)
 

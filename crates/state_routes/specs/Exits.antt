@@ -12,7 +12,7 @@ pub record Exit : Type 0 where
   pub gates : List Gate
   pub alternates : List Hop
 
--- the exit by which nothing leads on
+-- the exit of a node from which nothing leads on
 abbrev pub no_exit : Exit
 no_exit = record { gates = []; alternates = [] }
 
@@ -28,13 +28,13 @@ gates_from p gs = filter (λ (g : Gate). g.link.from == p) gs
 abbrev pub links_from : ℕ → List Hop → List Hop
 links_from p ls = filter (λ (l : Hop). l.from == p) ls
 
--- `exits` has an entry for each of `n` nodes, with those of the gates `gs` and of the links `ls` that start there
+-- `exits` has an entry for each of `n` nodes, with the gates of `gs` and the links of `ls` that start at the node
 pub record AreExits (gs : List Gate) (ls : List Hop) (n : ℕ) (exits : List Exit) : Type 0 where
   pub size : length exits ≡ n
   pub gates : (p : ℕ) → (exit_at exits p).gates ≡ gates_from p gs
   pub alternates : (p : ℕ) → (exit_at exits p).alternates ≡ links_from p ls
 
--- the links that are open from any node, by what the patterns accept
+-- the links that are open from any node; `acc` says which patterns accept the key
 abbrev pub open_through : Mode → List Exit → List Bool → List Hop
 open_through m [] acc = []
 open_through m (e ∷ es) acc = open_ways m e.gates e.alternates acc ++ open_through m es acc
@@ -43,7 +43,7 @@ open_through m (e ∷ es) acc = open_ways m e.gates e.alternates acc ++ open_thr
 abbrev pub LeadsFrom : ℕ → ℕ → Hop → Type 0
 LeadsFrom n p l = (l.from ≡ p) × (l.to < n)
 
--- each gate and link of the exit does so
+-- each gate and each link of the exit starts at node `p` and ends at one of `n` nodes
 pub record LeadFrom (n p : ℕ) (e : Exit) : Type 0 where
   pub gates : (g : Gate) → IsIn g e.gates → LeadsFrom n p g.link
   pub alternates : (l : Hop) → IsIn l e.alternates → LeadsFrom n p l
@@ -55,18 +55,18 @@ pub record IsBounded (exits : List Exit) (start : ℕ) : Type 0 where
 
 -- ---- while exits are built
 
--- there are `n` exits, by which nothing leads on
+-- there are `n` exits, and nothing leads on by any of them
 pub record AreEmpty (n : ℕ) (exits : List Exit) : Type 0 where
   pub size : length exits ≡ n
   pub none : (p : ℕ) → exit_at exits p ≡ no_exit
 
--- `new` is `old` with these gates added, each to the exit of the node where it starts
+-- `new` is `old` with the gates `gs` added, each to the exit of the node where it starts
 pub record AddsGates (gs : List Gate) (old new : List Exit) : Type 0 where
   pub size : length new ≡ length old
   pub gates : (p : ℕ) → (exit_at new p).gates ≡ (exit_at old p).gates ++ gates_from p gs
   pub alternates : (p : ℕ) → (exit_at new p).alternates ≡ (exit_at old p).alternates
 
--- `new` is `old` with these links to alternate exchanges added, each to the exit of the node where it starts
+-- `new` is `old` with the links `ls` to alternate exchanges added, each to the exit of the node where it starts
 pub record AddsAlternates (ls : List Hop) (old new : List Exit) : Type 0 where
   pub size : length new ≡ length old
   pub gates : (p : ℕ) → (exit_at new p).gates ≡ (exit_at old p).gates

@@ -5,7 +5,7 @@ use Rattle.exchange_graph.specs.Marks.{IsSet, unset}
 use Rattle.paths.specs.declared.reach.Hop.{Hop}
 use Rattle.paths.specs.Reach.{Chain}
 
--- The nodes where `links` end are marked, and those that were not yet are appended to `rest`, the nodes still to visit.
+-- The nodes where `links` end are marked, and the newly marked ones are appended to `rest`, the nodes still to visit.
 pub record Enters (links : List Hop) (marks : List Bool) (rest : List ℕ) (marks' : List Bool) (rest' : List ℕ) : Type 0 where
   pub size : length marks' ≡ length marks
   pub kept : (i : ℕ) → IsSet marks i → IsSet marks' i
@@ -15,8 +15,7 @@ pub record Enters (links : List Hop) (marks : List Bool) (rest : List ℕ) (mark
   pub marked : (i : ℕ) → IsIn i rest' → IsIn i rest ⊎ IsSet marks' i
   pub fewer : unset marks' + unset marks' + length rest' ≤ unset marks + unset marks + length rest
 
--- `start` is marked, only nodes are that chains reach from it, and from each marked node that is not in `rest` links lead only to marked
--- nodes.
+-- `start` is marked, each marked node is one that a chain reaches from `start`, and links from a marked node that is not in `rest` lead only to marked nodes.
 pub record Spreads (links : List Hop) (start : ℕ) (marks : List Bool) (rest : List ℕ) : Type 0 where
   pub begun : IsSet marks start
   pub sound : (i : ℕ) → IsSet marks i → Chain links start i

@@ -44,7 +44,7 @@ kind_at exchanges name = kind_or_direct (find (λ (x : Exchange). bytes_eq x.nam
 abbrev pub gate_of : List Exchange → Text → List Tracked → Binding → Gate
 gate_of exchanges queue ps b = record { link = link_of exchanges queue b; test = test_by ps (kind_at exchanges b.source) b.key }
 
--- these bindings as gates, in order
+-- the bindings as gates, in order
 abbrev pub binding_gates : List Exchange → Text → List Tracked → List Binding → List Gate
 binding_gates exchanges queue ps [] = []
 binding_gates exchanges queue ps (b ∷ bs) = gate_of exchanges queue ps b ∷ binding_gates exchanges queue ps bs
@@ -87,12 +87,12 @@ abbrev pub passes : Mode → Test → List Bool → Bool
 passes Reaches test acc = is_open test acc
 passes Never test acc = not (is_shut test acc)
 
--- the test stops a key, counted in the same way: for a `reaches` if it is known to fail, for a `never` unless it is known to pass
+-- the test stops a key, as a promise of this mode counts it: for a `reaches` if it is known to fail, for a `never` unless it is known to pass
 abbrev pub blocks : Mode → Test → List Bool → Bool
 blocks Reaches test acc = is_shut test acc
 blocks Never test acc = not (is_open test acc)
 
--- each gate from node `from` stops a key
+-- each gate from node `from` stops a key (`blocks`)
 abbrev pub all_block : Mode → List Gate → ℕ → List Bool → Bool
 all_block m [] from acc = true
 all_block m (g ∷ gs) from acc = (not (g.link.from == from) || blocks m g.test acc) && all_block m gs from acc
@@ -107,6 +107,6 @@ abbrev pub open_alternates : Mode → List Gate → List Hop → List Bool → L
 open_alternates m gs [] acc = []
 open_alternates m gs (l ∷ ls) acc = if all_block m gs l.from acc then l ∷ open_alternates m gs ls acc else open_alternates m gs ls acc
 
--- all links by which a key is counted to go on, if only what the patterns accept is known of it
+-- all links by which a key may go on in this mode, if it is only known which patterns accept it
 abbrev pub open_ways : Mode → List Gate → List Hop → List Bool → List Hop
 open_ways m gs alternates acc = open_links m gs acc ++ open_alternates m gs alternates acc

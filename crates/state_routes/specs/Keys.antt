@@ -6,7 +6,7 @@ use Rattle.model.specs.Tracking.{Tracked}
 use Rattle.model.specs.declared.topologies.ExchangeKind.{ExchangeKind}
 use Rattle.model.specs.declared.topologies.ExchangeKind.TheVariants.{Direct, Fanout, Topic}
 
--- texts for each kind
+-- a list of texts for each kind of exchange
 pub record ByKind : Type 0 where
   pub direct : List Text
   pub fanout : List Text
@@ -18,7 +18,7 @@ texts_by keys Direct = keys.direct
 texts_by keys Fanout = keys.fanout
 texts_by keys Topic = keys.topic
 
--- the same with one more text of a kind
+-- `keys` with `text` appended to the texts of one kind
 abbrev pub with_text : ByKind → ExchangeKind → Text → ByKind
 with_text keys Direct text = record keys { direct = keys.direct ++ text ∷ [] }
 with_text keys Fanout text = record keys { fanout = keys.fanout ++ text ∷ [] }

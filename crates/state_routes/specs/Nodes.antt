@@ -11,7 +11,7 @@ use Rattle.model.specs.declared.topologies.Place.TheVariants as place
 use Rattle.exchange_graph.specs.Fans.{exchange_index}
 use Rattle.paths.specs.declared.reach.Hop.{Hop}
 
--- the node of the exchange of this name; a name that no exchange has is the node behind the last exchange
+-- the node of the exchange of this name; for a name that no exchange has, the node after that of the last exchange
 abbrev pub node : List Exchange → Text → ℕ
 node exchanges [] = 2
 node exchanges (b ∷ bs) = exchange_index exchanges (b ∷ bs) + 3
@@ -29,7 +29,7 @@ end_node exchanges queue (place.Queue name) = if bytes_eq name queue then 0 else
 abbrev pub link_of : List Exchange → Text → Binding → Hop
 link_of exchanges queue b = record { from = node exchanges b.source; to = end_node exchanges queue b.to }
 
--- the same for each of these bindings, in order
+-- the nodes that each of the bindings connects, in order
 abbrev pub links_of : List Exchange → Text → List Binding → List Hop
 links_of exchanges queue [] = []
 links_of exchanges queue (b ∷ bs) = link_of exchanges queue b ∷ links_of exchanges queue bs
@@ -39,7 +39,7 @@ abbrev pub alternate_link : List Exchange → Text → Option Text → List Hop
 alternate_link exchanges name None = []
 alternate_link exchanges name (Some other) = record { from = node exchanges name; to = node exchanges other } ∷ []
 
--- the same for each of these exchanges, in order
+-- the nodes that the alternate exchange of each exchange connects, in order
 abbrev pub alternate_links : List Exchange → List Exchange → List Hop
 alternate_links exchanges [] = []
 alternate_links exchanges (x ∷ xs) = alternate_link exchanges x.name x.alternate ++ alternate_links exchanges xs

@@ -69,8 +69,7 @@ impl Exits {
     }
 }
 
-/// Appends the links of `gates` and to `alternates` that are open if exactly the `accepted` patterns accept.
-/// Fails only if an allocation fails.
+/// Appends those of the links of `gates` and of `alternates` that are open if exactly the `accepted` patterns accept. Fails only if an allocation fails.
 fn add_ways(
     mode: Mode,
     links: &mut Vec<Hop>,
@@ -85,7 +84,7 @@ fn add_ways(
     Ok(())
 }
 
-/// Returns `count` exits by which nothing leads on. Fails only if an allocation fails.
+/// Returns `count` empty exits, without gates and without links. Fails only if an allocation fails.
 fn no_exits(alloc: Global, count: usize) -> Result<Vec<Exits>, AllocError>
     ensures { IfOk result (λ exits. AreEmpty count exits.items) }
 {
@@ -138,8 +137,7 @@ fn put_alternates(exits: &mut Vec<Exits>, alternates: &[Hop]) -> Result<(), Allo
     Ok(())
 }
 
-/// Returns the exits of `count` nodes:
-/// `gates` and links to alternate exchanges, each at the node where it starts. Fails only if an allocation fails.
+/// Returns the exits of `count` nodes: `gates` and links to alternate exchanges, each at the node where it starts. Fails only if an allocation fails.
 pub fn exits_of(
     alloc: Global,
     count: usize,

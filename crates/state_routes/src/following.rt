@@ -26,7 +26,7 @@ fn enter(link: Hop, marks: &mut [bool], rest: &mut Vec<usize>) -> Result<(), All
     Ok(())
 }
 
-/// Does the same for each of `links`. Fails only if an allocation fails.
+/// Marks the node where each of `links` ends, and appends the nodes that were not marked to `rest`. Fails only if an allocation fails.
 fn enter_all(links: &[Hop], marks: &mut [bool], rest: &mut Vec<usize>) -> Result<(), AllocError>
     requires { (l : Hop) → IsIn l links.now → l.to < length marks.old }
     ensures { OnOk result (Enters links.now marks.old rest.old.items marks.new rest.new.items) }

@@ -42,7 +42,7 @@ pub struct Gate {
     pub test: Test,
 }
 
-/// Returns whether two kinds are the same.
+/// Returns whether `one` and `other` are the same kind.
 fn same_kind(one: ExchangeKind, other: ExchangeKind) -> bool
     ensures { result ≡ same_kind one other }
 {
@@ -204,8 +204,8 @@ fn passes(mode: Mode, test: Test, accepted: &[bool]) -> bool
     }
 }
 
-/// Returns whether the test stops a key, counted in the same way: for a `reaches` if it is known to fail, for a `never` unless it is known
-/// to pass.
+/// Returns whether the test stops a key, as a promise of mode `mode` counts it: for a `reaches` if it is known to fail, for a `never` unless it is known to
+/// pass.
 fn blocks(mode: Mode, test: Test, accepted: &[bool]) -> bool
     ensures { result ≡ blocks mode test accepted.now }
 {

@@ -20,7 +20,7 @@ fn exchange_index(topology: &Topology, name: &[u8]) -> usize
     }
 }
 
-/// Returns the node of the exchange `name`: 2 for the default exchange, otherwise its index and 3.
+/// Returns the node of the exchange `name`: 2 for the default exchange, otherwise 3 more than its index.
 pub fn node(topology: &Topology, name: &[u8]) -> usize
     ensures is { result ≡ node topology.now.exchanges name.now }
     ensures within { result < length topology.now.exchanges + 4 }

@@ -38,8 +38,8 @@ fn death_end(topology: &Topology, last: &DeclaredQueue) -> usize {
     }
 }
 
-/// Returns where a message in queue `name` may go on: 0 for the guarantee's queue, and 1 if it goes nowhere that matters to a promise of
-/// mode `mode`.
+/// Returns the node to which a message in queue `name` may go on: 0 if `name` is `queue`, and 1 if the message goes nowhere that matters to a promise of mode
+/// `mode`.
 fn queue_end(topology: &Topology, mode: Mode, queue: &[u8], name: &[u8]) -> usize {
     if name == queue {
         return 0;
@@ -53,7 +53,7 @@ fn queue_end(topology: &Topology, mode: Mode, queue: &[u8], name: &[u8]) -> usiz
     }
 }
 
-/// Returns the nodes that `binding` may connect, with dead letters followed.
+/// Returns a hop from the node of the binding's source to the node of its destination: an exchange's own, or the [`queue_end`] of a queue.
 fn binding_way(topology: &Topology, mode: Mode, queue: &[u8], binding: &Binding) -> Hop {
     let to = match &binding.to {
         Place::Exchange(name) => node(topology, name.as_bytes()),
@@ -65,7 +65,7 @@ fn binding_way(topology: &Topology, mode: Mode, queue: &[u8], binding: &Binding)
     }
 }
 
-/// Returns the same for each binding, in the order of the file. Fails only if an allocation fails.
+/// Returns the [`binding_way`] of each binding, in the order of the file. Fails only if an allocation fails.
 fn binding_ways(
     alloc: Global,
     topology: &Topology,
@@ -103,7 +103,7 @@ fn mark_start(way: &Hop, marks: &mut [bool]) -> bool {
     is_new
 }
 
-/// Does the same for each of `ways`. Returns whether a mark is new.
+/// Marks the node where each of `ways` starts if the way ends at a marked one. Returns whether a mark is new.
 fn mark_starts(ways: &[Hop], marks: &mut [bool]) -> bool {
     let mut is_new = false;
     for way in ways {
@@ -125,7 +125,7 @@ fn leading(alloc: Global, ways: &[Hop], count: usize) -> Result<Vec<bool>, Alloc
     Ok(marks)
 }
 
-/// Returns whether the way at index `at` starts where a covered message may be, and ends where ways lead to the guarantee's queue.
+/// Returns whether the way at index `at` starts where a covered message may be, and ends at a node from which ways lead to the guarantee's queue.
 fn counts(ways: &[Hop], at: usize, met: &[bool], leading: &[bool]) -> bool {
     match ways.get(at) {
         Some(way) => is_marked(met, way.from) && is_marked(leading, way.to),
@@ -133,7 +133,7 @@ fn counts(ways: &[Hop], at: usize, met: &[bool], leading: &[bool]) -> bool {
     }
 }
 
-/// Adds the binding keys of the ways that count. Fails only if an allocation fails.
+/// Adds the binding keys of the ways for which `counts` holds. Fails only if an allocation fails.
 fn add_binding_keys(
     alloc: Global,
     keys: &mut Keys,
@@ -153,7 +153,7 @@ fn add_binding_keys(
     Ok(())
 }
 
-/// Adds the names of the queues whose ways count. Fails only if an allocation fails.
+/// Adds the names of the queues for whose ways `counts` holds. Fails only if an allocation fails.
 fn add_queue_names(
     alloc: Global,
     keys: &mut Keys,

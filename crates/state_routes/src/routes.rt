@@ -1,6 +1,6 @@
 //! Decides whether a promise is kept in a state. Start with [`Routes`].
 
-ghost use Rattle.std.specs.Prelude.{◌≡◌, IfOk, Decides};
+ghost use Rattle.std.specs.Prelude.{◌≡◌, IfOk, IfSome, Decides};
 ghost use Rattle.model.specs.Words.{Text};
 ghost use Rattle.model.specs.Topology.{Topology as Shown};
 ghost use Rattle.model.specs.declared.topologies.Mode.{Mode as Promise};
@@ -8,6 +8,7 @@ ghost use Rattle.model.specs.Certificates.{KeepsTo};
 ghost use Rattle.model.specs.Positions.{FitsEach};
 ghost use Rattle.state_routes.specs.Gates.{accepted};
 ghost use Rattle.state_routes.specs.Exits.{IsBounded, open_through};
+ghost use Rattle.paths.specs.Deaths.{AreDeaths};
 ghost use Rattle.paths.specs.Reach.{Chain};
 ghost use Rattle.certificate_laws.specs.Soundness.{AreOnce};
 ghost use Rattle.state_routes.specs.Known.{IsKeptBy, IsKnown, LeadsBy, keeps};
@@ -18,6 +19,7 @@ use crate::following::reached_through;
 use crate::nodes::{alternate_links, node};
 use exchange_graph::Topology;
 use model::Mode;
+use paths::Deaths;
 use std::alloc::{AllocError, Global};
 use std::marker::Model;
 use word_automata::{Letters, accepts};
@@ -80,20 +82,22 @@ fn keeps(mode: Mode, arrive: bool) -> bool
 
 impl Routes {
     /// Prepares the links of messages to `exchange`, as far as they matter to a promise of mode `mode` about `queue`.
-    /// Fails only if an allocation fails.
+    /// What dead letters reach is explored for a `never` unless `deaths` are given. Fails only if an allocation fails.
     pub fn new(
         alloc: Global,
         topology: &Topology,
+        deaths: Option<&Deaths>,
         mode: Mode,
         exchange: &[u8],
         queue: &[u8],
         letters: &Letters,
     ) -> Result<Routes, AllocError>
+        requires { IfSome deaths (λ d. AreDeaths topology.now d.now) }
         ensures { IfOk result (λ r. IsKnown topology.now mode exchange.now queue.now letters.now r) }
     {
         topology.ghost_is_well_formed();
         let exchanges = topology.exchanges();
-        let gates = all_gates(alloc, topology, mode, queue, letters.patterns())?;
+        let gates = all_gates(alloc, topology, deaths, mode, queue, letters.patterns())?;
         let alternates = alternate_links(alloc, topology, exchanges)?;
         let count = exchanges.len() + 4;
         Ok(Routes {
@@ -119,7 +123,7 @@ impl Routes {
         Ok(yes)
     }
 
-    /// Returns whether the promise is kept, by these links. Fails only if an allocation fails.
+    /// Returns whether the promise is kept, by whether the links that are open in `state` lead to the queue. Fails only if an allocation fails.
     fn keeps(&self, alloc: Global, letters: &Letters, state: &[u64]) -> Result<bool, AllocError>
         requires { FitsEach letters.now state.now }
         ensures { IfOk result (λ yes. Decides yes (IsKeptBy letters.now self.now state.now)) }

@@ -116,8 +116,8 @@ fn add_met(
     Ok(())
 }
 
-/// Returns a mark for each node: whether a message may reach it from `exchange` with its own key, of a `never` also as a dead letter that
-/// keeps its key. Fails only if an allocation fails.
+/// Returns a mark for each node: whether a message may reach it from `exchange` with its own key, or for a `never` also as a dead letter that keeps its key.
+/// Fails only if an allocation fails.
 pub fn met(
     alloc: Global,
     topology: &Topology,
@@ -156,9 +156,9 @@ fn collected(
     Ok(list.into_list())
 }
 
-/// Returns the patterns that a certificate tracks: that of `guarantee`, those of its `except`, the queue names if the default exchange may
-/// be reached, and the binding keys of each exchange that a covered message may reach, of a `never` also as a dead letter that keeps its
-/// key. Fails only if an allocation fails.
+/// Returns the patterns that a certificate tracks: that of `guarantee`, those of its `except`, the queue names if the default exchange may be reached, and
+/// the binding keys of each exchange that a covered message may reach; for a `never` also as a dead letter that keeps its key. Fails only if an allocation
+/// fails.
 pub fn tracked_patterns(
     alloc: Global,
     topology: &Topology,

@@ -10,7 +10,7 @@ pub record AreCounts (tokens : List Token) (words : List Text) (counts : List Bo
   pub size : length counts ≡ length words + 1
   pub each : (i : ℕ) → i ≤ length words → Decides (slice_index_or counts i false) (Matches tokens (take i words))
 
--- the same for the numbers from 0 to `n`, and `was` is what it says for `n`
+-- `counts` says for each number from 0 to `n` whether `tokens` match that many first words, and `was` says it for `n`
 pub record AreCountsTo (tokens : List Token) (words : List Text) (n : ℕ) (counts : List Bool) (was : Bool) : Type 0 where
   pub size : length counts ≡ n + 1
   pub each : (i : ℕ) → i ≤ n → Decides (slice_index_or counts i false) (Matches tokens (take i words))
@@ -22,20 +22,19 @@ stands_first (Word v) before = false
 stands_first One before = false
 stands_first Any before = before
 
--- `stands_after token w before_was was before_is`: tokens that end with `token` match the words up to and with `w`. `before_was` and
--- `before_is` say whether the tokens before it match the words without `w` and with it, `was` whether all of them match the words without
--- `w`
+-- `stands_after token w before_was was before_is`: whether tokens that end with `token` match words that end with `w`. Whether the tokens before `token`
+-- match is `before_was` for the words before `w`, and `before_is` for all words; `was` is whether all tokens match the words before `w`
 abbrev pub stands_after : Token → Text → Bool → Bool → Bool → Bool
 stands_after (Word v) w before_was was before_is = before_was && bytes_eq w v
 stands_after One w before_was was before_is = before_was
 stands_after Any w before_was was before_is = was || before_is
 
--- `HasSome counts answer`: `answer` is whether `counts` has a true one
+-- `HasSome counts answer`: `answer` is whether `counts` has a true entry
 abbrev pub HasSome : List Bool → Bool → Type 0
 HasSome counts true = (i : ℕ) × (i < length counts) × (slice_index_or counts i false ≡ true)
 HasSome counts false = (i : ℕ) → slice_index_or counts i false ≡ false
 
--- the number of true ones
+-- the number of true entries
 abbrev pub trues : List Bool → ℕ
 trues [] = 0
 trues (b ∷ bs) = (if b then 1 else 0) + trues bs

@@ -27,13 +27,13 @@ pub record IsFound (lists : List (List ℕ)) (met : List Met) (n p : ℕ) : Type
   pub matches : slice_index_or at.counts.items n false ≡ true
   pub ends : IsIn p (slice_index_or lists at.node [])
 
--- `found` has exactly the indices of such patterns, each once
+-- `found` has exactly the indices of the patterns that end at a node of `met` that matches `n` words (`IsFound`), each once
 pub record AreFound (lists : List (List ℕ)) (met : List Met) (n : ℕ) (found : List ℕ) : Type 0 where
   pub apart : AllApart found
   pub only : (p : ℕ) → IsIn p found → IsFound lists met n p
   pub all : (p : ℕ) → IsFound lists met n p → IsIn p found
 
--- `found` has exactly the indices of such patterns, in increasing order
+-- `found` has exactly the indices of the patterns that end at a node of `met` that matches `n` words (`IsFound`), in increasing order
 pub record AreRising (lists : List (List ℕ)) (met : List Met) (n : ℕ) (found : List ℕ) : Type 0 where
   pub rising : AllPairs (λ (i j : ℕ). i < j) found
   pub only : (p : ℕ) → IsIn p found → IsFound lists met n p

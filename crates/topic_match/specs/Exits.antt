@@ -1,4 +1,4 @@
--- By which kinds of tokens beginnings of patterns continue (own).
+-- The kinds of tokens by which beginnings of patterns continue (own).
 use Rattle.std.specs.Prelude.{◌≡◌, ◌<◌, ℕ, List, Bool, true, false, length, slice_index_or}
 use Rattle.model.specs.declared.texts.Token.{Token}
 use Rattle.model.specs.declared.texts.Token.TheVariants.{Word, One, Any}
@@ -6,7 +6,7 @@ use Rattle.topic_match.specs.Nodes.{node_at, last_token, IsDeep}
 use Rattle.topic_match.specs.declared.nodes.Node.{Node}
 use Rattle.topic_match.specs.declared.nodes.Exits.{Exits}
 
--- the value read for an index at which no node is
+-- the value read for an index that is no node's
 abbrev pub no_exit : Exits
 no_exit = record { word = false; one = false; any = false }
 
@@ -27,7 +27,7 @@ pub record AreDeep (patterns : List (List Token)) (nodes : List Node) : Type 0 w
   pub deep : (c : ℕ) → 0 < c → c < length nodes → IsDeep patterns (node_at nodes c)
   pub parent : (c : ℕ) → 0 < c → c < length nodes → (node_at nodes c).parent < c
 
--- `exits` has an entry for each node, and the last token of each of the first `n` nodes but the root is an exit of its parent
+-- `exits` has an entry for each node; for each of the first `n` nodes except the root, the parent's entry has the kind of the node's last token
 pub record AreExits (patterns : List (List Token)) (nodes : List Node) (n : ℕ) (exits : List Exits) : Type 0 where
   pub size : length exits ≡ length nodes
   pub each : (c : ℕ) → 0 < c → c < n → has_exit (slice_index_or exits (node_at nodes c).parent no_exit) (last_token patterns (node_at nodes c)) ≡ true

@@ -5,7 +5,7 @@ use Rattle.model.specs.declared.texts.Token.{Token}
 use Rattle.model.specs.declared.texts.Token.TheVariants.{Word, One, Any}
 use Rattle.topic_match.specs.declared.nodes.Node.{Node}
 
--- the value read for an index at which no node is
+-- the value read for an index that is no node's
 abbrev pub no_node : Node
 no_node = record { parent = 0; pattern = 0; depth = 0 }
 
@@ -21,13 +21,13 @@ beginning patterns n = take n.depth (slice_index_or patterns n.pattern [])
 abbrev pub beginning_at : List (List Token) → List Node → ℕ → List Token
 beginning_at patterns nodes c = beginning patterns (node_at nodes c)
 
--- the last of these tokens
+-- the last token of a node
 abbrev pub last_token : List (List Token) → Node → Token
 last_token patterns n = slice_index_or (slice_index_or patterns n.pattern []) (n.depth - 1) Any
 
 -- ---- marks. Correctness needs only that equal tokens have equal marks
 
--- `number`, with these bytes mixed into it
+-- `number` with `bytes` mixed into it: a 32-bit hash
 abbrev pub mixed : ℕ → Text → ℕ
 mixed number [] = number
 mixed number (b ∷ bs) = mixed ((number * 31 + b) % 4294967296) bs
@@ -52,11 +52,11 @@ heads_of nodes slots = length slots - 2 * length nodes
 abbrev pub first_slot : ℕ → ℕ → ℕ → ℕ
 first_slot heads parent mark = ((parent % 4294967296) * 31 + mark % 4294967296) % heads
 
--- a parent and a mark as one number, whose bits, lowest first, lead on from the first slot
+-- a parent and a mark as one number: its bits, lowest first, choose the way from slot to slot behind the first one
 abbrev pub bits_of : ℕ → ℕ → ℕ
 bits_of parent mark = (parent % 4294967296) * 4294967296 + mark % 4294967296
 
--- the slot behind `node` that the lowest bit chooses
+-- the slot behind `node` that the lowest bit of `bits` chooses
 abbrev pub slot_behind : ℕ → ℕ → ℕ → ℕ
 slot_behind heads node bits = heads + 2 * node + bits % 2
 
@@ -74,7 +74,7 @@ IsFoundBy heads slots parent token c = Found heads slots (first_slot heads paren
 abbrev pub KeepNodes : List ℕ → List ℕ → Type 0
 KeepNodes old new = (s : ℕ) → 0 < slice_index_or old s 0 → slice_index_or new s 0 ≡ slice_index_or old s 0
 
--- a beginning of at least one token, of a pattern that exists and has that many
+-- the node is a beginning of a pattern that exists, of at least one token and no more than the pattern has
 pub record IsDeep (patterns : List (List Token)) (n : Node) : Type 0 where
   pub pattern : n.pattern < length patterns
   pub some : 0 < n.depth
@@ -85,15 +85,14 @@ pub record IsLast (patterns : List (List Token)) (n : Node) (parent : ℕ) (toke
   pub origin : n.parent ≡ parent
   pub token_is : last_token patterns n ≡ token
 
--- node `c`, which is not the root, has the beginning of its parent and one token more, and is found from there
+-- node `c`, which is not the root, has the tokens of its parent and one more, and is found from its parent
 pub record IsNode (patterns : List (List Token)) (nodes : List Node) (slots : List ℕ) (c : ℕ) : Type 0 where
   pub deep : IsDeep patterns (node_at nodes c)
   pub parent : (node_at nodes c).parent < c
   pub behind : beginning_at patterns nodes c ≡ beginning_at patterns nodes (node_at nodes c).parent ++ last_token patterns (node_at nodes c) ∷ []
   pub is_found : IsFoundBy (heads_of nodes slots) slots (node_at nodes c).parent (last_token patterns (node_at nodes c)) c
 
--- The nodes are beginnings of these patterns, no two the same, and each but the root is found from its parent. A slot behind a node has a
--- later node or none.
+-- The nodes are different beginnings of the patterns, and each but the root is found from its parent. A slot behind a node has a later node or none.
 pub record AreLinked (patterns : List (List Token)) (nodes : List Node) (slots : List ℕ) : Type 0 where
   pub some : 0 < length nodes
   pub root : (node_at nodes 0).depth ≡ 0
@@ -103,13 +102,13 @@ pub record AreLinked (patterns : List (List Token)) (nodes : List Node) (slots :
   pub each : (c : ℕ) → 0 < c → c < length nodes → IsNode patterns nodes slots c
   pub apart : (c d : ℕ) → c < length nodes → d < length nodes → beginning_at patterns nodes c ≡ beginning_at patterns nodes d → c ≡ d
 
--- node `c` is the one behind node `at` by `token`
+-- node `c` is the child of node `at` by `token`: its parent is `at`, and its last token is `token`
 pub record IsChild (patterns : List (List Token)) (nodes : List Node) (at : ℕ) (token : Token) (c : ℕ) : Type 0 where
   pub some : 0 < c
   pub within : c < length nodes
   pub last : IsLast patterns (node_at nodes c) at token
 
--- Slot `s` has the node behind `at` by `token`; or it is empty, there is no such node, and one that is put there is found.
+-- Slot `s` has the child of `at` by `token`; or there is no such child, and `s` is the empty slot in which it will be found.
 pub record IsPlace (patterns : List (List Token)) (nodes : List Node) (slots : List ℕ) (at : ℕ) (token : Token) (s : ℕ) : Type 0 where
   pub within : s < length slots
   pub child : 0 < slice_index_or slots s 0 → IsChild patterns nodes at token (slice_index_or slots s 0)

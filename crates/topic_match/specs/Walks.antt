@@ -21,13 +21,13 @@ pub record AreSteps (steps : List Token) (words : List Text) : Type 0 where
 abbrev pub GoesOn : List Token → List Token → List Token → Type 0
 GoesOn b steps ts = (t : Token) × (rest : List Token) × IsIn t steps × (ts ≡ b ++ t ∷ rest)
 
--- the nodes of these entries
+-- the nodes of the entries, in order
 abbrev pub nodes_of : List Met → List ℕ
 nodes_of [] = []
 nodes_of (m ∷ ms) = m.node ∷ nodes_of ms
 
--- `met` has exactly the nodes whose beginnings are `Such` and match some first words, each once, with the numbers of words that they match.
--- It may also have a node that is `Such` and matches none.
+-- `met` has exactly the nodes whose beginnings have the property `Such` and match the first `n` words for some `n`, each once, with these `n`. It may also
+-- have a node that has the property and matches for no `n`.
 pub record AreMet (patterns : List (List Token)) (nodes : List Node) (words : List Text) (Such : List Token → Type 0) (met : List Met) : Type 0 where
   pub apart : AllApart (nodes_of met)
   pub within : (m : Met) → IsIn m met → m.node < length nodes
@@ -36,13 +36,14 @@ pub record AreMet (patterns : List (List Token)) (nodes : List Node) (words : Li
   pub all : (c i : ℕ) → c < length nodes → i ≤ length words → Matches (beginning_at patterns nodes c) (take i words)
       → Such (beginning_at patterns nodes c) → IsIn c (nodes_of met)
 
--- `new` is `old` and these nodes behind it
+-- `new` is `old`, followed by the nodes whose beginnings have the property `Such` (`AreMet`)
 pub record AreAdded (patterns : List (List Token)) (nodes : List Node) (words : List Text) (Such : List Token → Type 0) (old new : List Met) : Type 0 where
   pub more : List Met
   pub is_added : new ≡ old ++ more
   pub are : AreMet patterns nodes words Such more
 
--- `next` is a later node, whose beginning is that of `at` and `token`, and `counts` says how many words it matches
+-- `next` is a later node, whose beginning is that of `at` followed by `token`; `counts` says for each `n` whether this beginning matches the first `n`
+-- words
 pub record IsStep (patterns : List (List Token)) (nodes : List Node) (words : List Text) (at : ℕ) (token : Token) (next : ℕ) (counts : List Bool) : Type 0 where
   pub later : at < next
   pub within : next < length nodes
@@ -55,7 +56,7 @@ IsBarren patterns nodes words at token = (c i : ℕ) (rest : List Token) → c <
     → beginning_at patterns nodes c ≡ beginning_at patterns nodes at ++ token ∷ rest → Matches (beginning_at patterns nodes c) (take i words)
     → i ≤ length words → ⊥
 
--- how many numbers of words match, over all these nodes
+-- the number of true entries in the counts of all the nodes
 abbrev pub told_in : List Met → ℕ
 told_in [] = 0
 told_in (m ∷ ms) = trues m.counts.items + told_in ms

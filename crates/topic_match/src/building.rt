@@ -11,8 +11,7 @@ use crate::patterns::Pattern;
 use crate::steps::Step;
 use std::alloc::{AllocError, Global};
 
-/// Adds the node of the first `depth + 1` tokens of pattern `pattern` behind `parent`, into slot `place`.
-/// Fails only if an allocation fails.
+/// Adds the node of the first `depth + 1` tokens of pattern `pattern` as a child of `parent`, in slot `place`. Fails only if an allocation fails.
 fn add_node(
     patterns: &[Pattern],
     nodes: &mut Vec<Node>,
@@ -22,7 +21,7 @@ fn add_node(
     pattern: usize,
     depth: usize,
 ) -> Result<usize, AllocError>
-    // The parent has the first `depth` tokens of the pattern, which has one more.
+    // `parent` has the first `depth` tokens of the pattern, and the pattern has more than `depth`.
     requires linked { AreLinked patterns.now nodes.old.items slots.old.items }
     requires parent { parent < length nodes.old.items }
     requires pattern { pattern < length patterns.now }
@@ -32,7 +31,7 @@ fn add_node(
     // Slot `place` is the one for the node, and empty.
     requires place { IsPlace patterns.now nodes.old.items slots.old.items parent (slice_index_or (slice_index_or patterns.now pattern []) depth Any) place }
     requires empty { slice_index_or slots.old.items place 0 ≡ 0 }
-    // The nodes stay linked and keep their beginnings, and the result is the node of one token more.
+    // The nodes stay linked and keep their beginnings, and the result is the node of the first `depth + 1` tokens.
     ensures linked { OnOk result (AreLinked patterns.now nodes.new.items slots.new.items) }
     ensures grown { OnOk result (AreGrown patterns.now nodes.old.items nodes.new.items) }
     ensures made { IfOk result (λ c. (c < length nodes.new.items)
@@ -50,8 +49,8 @@ fn add_node(
     Ok(node)
 }
 
-/// Returns the node of the first `depth + 1` tokens of pattern `pattern`, and adds it behind `parent` if there is none yet.
-/// Fails only if an allocation fails.
+/// Returns the node of the first `depth + 1` tokens of pattern `pattern`. Adds it as a child of `parent` if there is none yet. Fails only if an allocation
+/// fails.
 fn node_behind(
     patterns: &[Pattern],
     nodes: &mut Vec<Node>,
@@ -60,13 +59,13 @@ fn node_behind(
     pattern: usize,
     depth: usize,
 ) -> Result<usize, AllocError>
-    // The parent has the first `depth` tokens of the pattern, which has one more.
+    // `parent` has the first `depth` tokens of the pattern, and the pattern has more than `depth`.
     requires linked { AreLinked patterns.now nodes.old.items slots.old.items }
     requires parent { parent < length nodes.old.items }
     requires pattern { pattern < length patterns.now }
     requires depth { depth < length (slice_index_or patterns.now pattern []) }
     requires before { beginning_at patterns.now nodes.old.items parent ≡ take depth (slice_index_or patterns.now pattern []) }
-    // The nodes stay linked and keep their beginnings, and the result is the node of one token more.
+    // The nodes stay linked and keep their beginnings, and the result is the node of the first `depth + 1` tokens.
     ensures linked { OnOk result (AreLinked patterns.now nodes.new.items slots.new.items) }
     ensures grown { OnOk result (AreGrown patterns.now nodes.old.items nodes.new.items) }
     ensures made { IfOk result (λ c. (c < length nodes.new.items)
@@ -86,7 +85,7 @@ fn node_behind(
     add_node(patterns, nodes, slots, place, parent, pattern, depth)
 }
 
-/// Returns the node of the whole pattern `pattern`, and adds those that are missing. Fails only if an allocation fails.
+/// Returns the node of the whole pattern `pattern`. Adds it and those before it if they are missing. Fails only if an allocation fails.
 fn node_of(
     patterns: &[Pattern],
     nodes: &mut Vec<Node>,

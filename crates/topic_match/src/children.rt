@@ -32,7 +32,7 @@ pub fn mixed(bytes: &[u8]) -> u64
     number
 }
 
-/// Returns the slot, below `heads`, at which to begin to look for the node behind `parent` by a token with mark `mark`.
+/// Returns the slot, below `heads`, at which the search for the child of `parent` by a token with mark `mark` begins.
 fn first_slot(heads: usize, parent: usize, mark: u64) -> usize
     requires { 0 < heads }
     ensures is { result ≡ first_slot heads parent mark }
@@ -92,8 +92,8 @@ fn is_behind(patterns: &[Pattern], node: &Node, parent: usize, token: &Step<'_>)
     node.parent == parent && ends_with(patterns, node, token)
 }
 
-/// Returns the slot of the node behind `at` by `token`, or the empty slot for it if there is none.
-/// At most 64 nodes on the way have other bits; the rest are behind the same node, by tokens with the same mark.
+/// Returns the slot of the child of `at` by `token`, or the empty slot for it if there is none. With fewer than 2^32 nodes, it passes at most 64 nodes
+/// that have another parent than `at` or another mark than that of `token`.
 pub fn place_of(
     patterns: &[Pattern],
     nodes: &[Node],
@@ -117,7 +117,7 @@ pub fn place_of(
     slot
 }
 
-/// Returns the node behind `at` by `token`, or `None`.
+/// Returns the child of `at` by `token`, or `None` if there is none.
 pub fn child(
     patterns: &[Pattern],
     nodes: &[Node],

@@ -12,7 +12,7 @@ use std::alloc::{AllocError, Global};
 /// For each number of words, from 0, whether some tokens match that many first words of a key. Up to 31 words need no allocation.
 pub type Counts = SmallVec<bool, 32>;
 
-/// Returns the counts of some tokens with `token` behind them, from their counts `before`. Fails only if an allocation fails.
+/// Returns the counts of some tokens followed by `token`; `before` has the counts of those tokens alone. Fails only if an allocation fails.
 pub fn counts_after(
     alloc: Global,
     token: &Step<'_>,

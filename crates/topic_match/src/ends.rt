@@ -76,7 +76,7 @@ fn found_at(
     Ok(found)
 }
 
-/// Returns the same indices in increasing order. Fails only if an allocation fails.
+/// Returns the indices of the patterns that end at a node of `met` and match `count` words, in increasing order. Fails only if an allocation fails.
 pub fn rising_at(
     alloc: Global,
     lists: &[Places],

@@ -1,4 +1,5 @@
-//! By which kinds of tokens beginnings continue. A walk looks for no node behind one that has no such exit.
+//! The exits of a node: the kinds (word, `*` or `#`) of its children's last tokens. A walk looks for a child by a token only if the node has an exit
+//! of the token's kind.
 
 ghost use Rattle.std.specs.Prelude.{◌≡◌, ◌<◌, length, IfOk, slice_index_or, slice_set};
 ghost use Rattle.topic_match.specs.Exits.{AreDeep, AreExits, no_exit, with_exit};

@@ -156,9 +156,8 @@ impl<'a> Step<'a> {
         }
     }
 
-    /// Returns whether tokens that end with this one match the words up to and with `word`.
-    /// `before_was` and `before_is` say whether the tokens before it match the words without `word` and with it, `was` whether all match
-    /// the words without it.
+    /// Returns whether the tokens up to this one match the words up to `word`. `before_was` and `before_is` say whether the tokens before this one match the
+    /// words before `word`, and the words up to it; `was` says whether the tokens up to this one match the words before `word`.
     pub fn stands_after(
         &self,
         word: &KeyWord<'_>,

@@ -35,7 +35,7 @@ fn first_counts(alloc: Global, words: &[KeyWord<'_>]) -> Result<Counts, AllocErr
     Ok(counts)
 }
 
-/// Returns how many numbers of words match, over all nodes of `met`.
+/// Returns the number of true entries in the counts of all nodes of `met`.
 fn told_in(met: &[Met]) -> u128
     ensures { result ≡ told_in met.now }
 {
@@ -46,7 +46,7 @@ fn told_in(met: &[Met]) -> u128
     count
 }
 
-/// Returns the nodes whose beginnings match some of the first words. Fails only if an allocation fails.
+/// Returns the nodes whose beginnings match the first `n` words for some `n`. Fails only if an allocation fails.
 fn met_by(
     alloc: Global,
     patterns: &[Pattern],
@@ -75,7 +75,7 @@ fn met_by(
     Ok(met)
 }
 
-/// A matcher that keeps each beginning of its patterns once, and visits only those that match some first words of a key.
+/// A matcher that keeps each beginning of its patterns once, and visits only those that match the first `n` words of a key for some `n`.
 #[derive(Drop)]
 pub struct Trie {
     patterns: Vec<Pattern>,
@@ -102,8 +102,8 @@ impl Model for Trie {
 }
 
 impl Trie {
-    /// Returns the indices of the patterns that match `key`, in increasing order, and the number of pairs of a beginning of a pattern and a
-    /// number of first words of the key that it matches. Fails only if an allocation fails.
+    /// Returns the indices of the patterns that match `key`, in increasing order; and how many pairs there are of a beginning of a pattern and a number `n`
+    /// such that the beginning matches the first `n` words of the key. Fails only if an allocation fails.
     pub fn matches_counted(
         &self,
         alloc: Global,

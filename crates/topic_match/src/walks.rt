@@ -1,4 +1,4 @@
-//! Walks over the beginnings that match some of the first words of a key. Start with `walk`.
+//! Walks over the beginnings that match the first `n` words of a key for some `n`. Start with `walk`.
 
 ghost use Rattle.std.specs.Prelude.{◌≡◌, ◌<◌, length, IfOk, IfSome, IfNone, OnOk};
 ghost use Rattle.topic_match.specs.Counts.{AreCounts};
@@ -15,7 +15,7 @@ use crate::pieces::KeyWord;
 use crate::steps::Step;
 use std::alloc::{AllocError, Global};
 
-/// Returns the node behind `from` by the token `by` if its beginning matches some of the first words. Fails only if an allocation fails.
+/// Returns the child of `from` by the token `by` if its beginning matches the first `n` words for some `n`. Fails only if an allocation fails.
 fn step(
     alloc: Global,
     patterns: &[Pattern],
@@ -29,7 +29,7 @@ fn step(
     requires exits { AreExits patterns.now links.now.nodes.now (length links.now.nodes.now) links.now.exits.now }
     requires within { from.now.node < length links.now.nodes.now }
     requires counted { AreCounts (beginning_at patterns.now links.now.nodes.now from.now.node) words.now from.now.counts.items }
-    // Either no beginning behind `from` by this token matches any first words, or the result is the node behind it.
+    // The result is the child of `from` by this token; or it is `None`, and no beginning that continues this way matches any first words.
     ensures none { IfOk result (λ o. IfNone o (IsBarren patterns.now links.now.nodes.now words.now from.now.node by.now)) }
     ensures next { IfOk result (λ o. IfSome o (λ next.
         IsStep patterns.now links.now.nodes.now words.now from.now.node by.now next.node next.counts.items)) }
@@ -47,7 +47,7 @@ fn step(
     Ok(Some(Met { node, counts }))
 }
 
-/// Appends `from` and each node behind it whose beginning matches some of the first words. Fails only if an allocation fails.
+/// Appends `from` and each of its descendants whose beginning matches the first `n` words for some `n`. Fails only if an allocation fails.
 pub fn walk(
     alloc: Global,
     patterns: &[Pattern],
@@ -57,7 +57,7 @@ pub fn walk(
     from: Met,
     met: &mut Vec<Met>,
 ) -> Result<(), AllocError>
-    // `from` is a node, with the numbers of first words that its beginning matches, and `steps` has each token that can go on.
+    // `from` is a node, with the numbers of first words that its beginning matches, and `steps` has each token that can match one of the words.
     requires linked { AreLinked patterns.now links.now.nodes.now links.now.slots.now }
     requires exits { AreExits patterns.now links.now.nodes.now (length links.now.nodes.now) links.now.exits.now }
     requires within { from.node < length links.now.nodes.now }

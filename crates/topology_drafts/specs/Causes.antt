@@ -12,17 +12,17 @@ use Rattle.topic_match.specs.Patterns.{IsPattern}
 use Rattle.topology_drafts.specs.declared.bad.BadTopology.{BadTopology}
 use Rattle.topology_drafts.specs.declared.bad.BadTopology.TheVariants.{Repeated, Absent, Argument, Worded, TooMany, NoExchange, Memory}
 
--- the queues have distinct names, and the exchanges have
+-- no two queues have the same name, and no two exchanges
 pub record NamesApart (t : Topology) : Type 0 where
   pub queues : AreApart (queue_names t.queues)
   pub exchanges : AreApart (exchange_names t.exchanges)
 
--- `name` is one of these exchanges, and not empty: the default exchange isn't one of them
+-- `name` is one of `exchanges`, and not empty: the default exchange doesn't count
 pub record IsExchange (exchanges : List Text) (name : Text) : Type 0 where
   pub some : name ≡ [] → ⊥
   pub there : IsIn name exchanges
 
--- the place is one of these exchanges or queues
+-- the place is one of `exchanges` or one of `queues`
 abbrev pub IsPlace : List Text → List Text → Place → Type 0
 IsPlace exchanges queues (place.Exchange name) = IsExchange exchanges name
 IsPlace exchanges queues (place.Queue name) = IsIn name queues
@@ -49,7 +49,7 @@ pub record IsNamed (x : Exchange) : Type 0 where
   pub some : x.name ≡ [] → ⊥
   pub short : length x.name ≤ 255
 
--- a queue's name is a topic pattern and not empty, and its dead-letter key is a topic pattern
+-- a queue's name is a topic pattern and not empty, and its dead-letter key, if it has one, is a topic pattern
 pub record IsWorded (q : DeclaredQueue) : Type 0 where
   pub some : q.name ≡ [] → ⊥
   pub name : IsPattern q.name
@@ -67,15 +67,15 @@ pub record IsSmall (t : Topology) : Type 0 where
   pub queues : length t.queues ≤ 256
   pub bindings : length t.bindings ≤ 4096
 
--- the alternate exchange, if there is one, is one of these
+-- the alternate exchange, if there is one, is one of `exchanges`
 abbrev pub AlternateIsThere : List Text → Exchange → Type 0
 AlternateIsThere exchanges x = (other : Text) → x.alternate ≡ Some other → IsIn other exchanges
 
--- the dead-letter exchange, if there is one, is one of these or the default one
+-- the dead-letter exchange, if there is one, is one of `exchanges` or the default one
 abbrev pub DeadLettersLead : List Text → DeclaredQueue → Type 0
 DeadLettersLead exchanges q = (x : Text) → q.dead_letter_exchange ≡ Some x → (x ≡ []) ⊎ IsIn x exchanges
 
--- every alternate and dead-letter exchange exists, or is the default one if it is for dead letters
+-- every alternate exchange exists, and every dead-letter exchange exists or is the default one
 pub record NamesLead (t : Topology) : Type 0 where
   pub alternates : All (AlternateIsThere (exchange_names t.exchanges)) t.exchanges
   pub dead : All (DeadLettersLead (exchange_names t.exchanges)) t.queues
@@ -89,7 +89,7 @@ pub record IsBuildable (t : Topology) : Type 0 where
   pub small : IsSmall t
   pub lead : NamesLead t
 
--- this is the first condition that the topology doesn't meet; an allocation failure is no such condition
+-- the topology meets all conditions that are checked before that of the refusal, but not that one; `Memory` has no condition, and is never a reason
 abbrev pub StandsAgainst : BadTopology → Topology → Type 0
 StandsAgainst Repeated t = NamesApart t → ⊥
 StandsAgainst Absent t = NamesApart t × (AllJoin t → ⊥)

@@ -1,4 +1,4 @@
-//! Looks up exchanges and queues by name: [`Names`] is an index, [`Directory`] works without memory, too.
+//! Looks up exchanges and queues by name: [`Names`] is an index, [`Directory`] works also if an index can't be allocated.
 
 ghost use Rattle.std.specs.Prelude.{◌≡◌, ◌<◌, [], List, ℕ, length, Decides, IfOk, IfSome, MatchOption, OnErr, map, position};
 ghost use Rattle.std.specs.Str.{bytes_eq};
@@ -39,7 +39,7 @@ pub struct Names {
     set: IndexSet<Vec<u8>>,
 }
 
-/// Written out, so that dropping is one call.
+/// Not derived: a derived drop is expanded, and proved again, in each function that drops the value.
 impl Drop for Names {
     fn drop(self) {
         let Names { set: _ } = self;
@@ -64,8 +64,8 @@ impl Names {
         }
     }
 
-    /// Adds `name` after the others, unless it is there already. Returns whether it was new. Fails only if an allocation
-    /// fails; nothing has changed then.
+    /// Adds `name` after the others, unless it is in the list already. Returns whether it was new. Fails only if an allocation fails; nothing has changed
+    /// then.
     pub fn enter(&mut self, alloc: Global, name: &[u8]) -> Result<bool, AllocError>
         ensures entered { IfOk result (λ new. EntersName name.now self.old self.new new) }
         ensures same { OnErr result (self.new ≡ self.old) }
@@ -100,7 +100,7 @@ impl Names {
         }
     }
 
-    /// Returns the index of `name`, from 0, if it is there.
+    /// Returns the index of `name`, from 0, or `None` if it is not in the list.
     pub fn place(&self, name: &[u8]) -> Option<usize>
         ensures place { result ≡ position (λ k. bytes_eq name.now k) self.now }
         ensures within { IfSome result (λ i. i < length self.now) }
@@ -108,7 +108,7 @@ impl Names {
         self.set.get_index_of(name)
     }
 
-    /// Returns whether `name` is there.
+    /// Returns whether `name` is in the list.
     pub fn has(&self, name: &[u8]) -> bool
         ensures { Decides result (IsIn name.now self.now) }
     {
@@ -151,7 +151,7 @@ pub struct Directory<'a, N: Named> {
     apart: bool,
 }
 
-/// Written out, so that dropping is one call.
+/// Not derived: a derived drop is expanded, and proved again, in each function that drops the value.
 impl<'a, N: Named> Drop for Directory<'a, N> {
     fn drop(self) {
         let Directory {
@@ -174,7 +174,7 @@ impl<'a, N: Named> Model for Directory<'a, N> {
 }
 
 impl<'a, N: Named> Directory<'a, N> {
-    /// Returns the directory of `entries`. Never fails: without memory for an index its calls take longer.
+    /// Returns the directory of `entries`. Never fails: if the index can't be allocated, calls take longer.
     pub fn of(alloc: Global, entries: &'a [N]) -> Directory<'a, N>
         ensures { result ≡ map N.named entries.entry.now }
     {

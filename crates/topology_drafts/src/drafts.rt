@@ -25,8 +25,7 @@ use model::{Binding, DeclaredQueue, Exchange};
 use std::alloc::Global;
 use std::marker::Model;
 
-/// Exchanges, queues and bindings whose conditions can be checked one by one. It uses memory for indexes if there is some,
-/// and returns the same without.
+/// Exchanges, queues and bindings whose conditions can be checked one by one. It has indexes to be fast; if one can't be allocated, the results are the same.
 pub struct Draft<'a> {
     exchanges: &'a [Exchange],
     queues: &'a [DeclaredQueue],
@@ -35,7 +34,7 @@ pub struct Draft<'a> {
     queue_names: Directory<'a, DeclaredQueue>,
 }
 
-/// Written out, so that dropping is one call.
+/// Not derived: a derived drop is expanded, and proved again, in each function that drops the value.
 impl<'a> Drop for Draft<'a> {
     fn drop(self) {
         let Draft {
@@ -78,7 +77,7 @@ impl<'a> Draft<'a> {
         }
     }
 
-    /// Returns whether all exchanges have distinct names, and all queues have.
+    /// Returns whether no two exchanges have the same name, and no two queues.
     pub fn is_apart(&self) -> bool
         ensures { Decides result (NamesApart self.now) }
     {
@@ -160,8 +159,8 @@ impl<'a> Draft<'a> {
     }
 }
 
-/// Returns the first reason why these lists can't be built as a topology, if there is one. Never returns
-/// [`BadTopology::Memory`]: without memory it only takes longer.
+/// Returns the first reason why these lists can't be built as a topology, if there is one. Never returns [`BadTopology::Memory`]: if an allocation fails it
+/// only takes longer.
 pub fn judge(
     alloc: Global,
     exchanges: &[Exchange],

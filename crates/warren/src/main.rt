@@ -15,7 +15,7 @@ fn words(rt: &HostRuntime) -> io::Result<Vec<String>> {
     Ok(words)
 }
 
-/// Reports why there are no words, and returns the exit status: 4 after an allocation failure, 3 otherwise.
+/// Reports why the command line's words could not be read, and returns the exit status: 4 after an allocation failure, 3 otherwise.
 fn refuse<W: Write>(err: &mut W, error: &io::Error) -> u8 {
     if error.kind() == io::ErrorKind::OutOfMemory {
         let _ = writeln!(err, "warren: memory");

@@ -14,7 +14,7 @@ from guarantees import guarantee_causes  # noqa: E402
 class Families(unittest.TestCase):
     def sizes(self, family):
         """How many exchanges, queues, bindings and guarantees a family has, of which no file is refused."""
-        definitions, guarantees = family()
+        definitions, guarantees, *_ = family()
         self.assertEqual(causes_in(definitions), [])
         self.assertEqual(guarantee_causes({"guarantees": guarantees}, definitions), [])
         return [len(definitions[it]) for it in ("exchanges", "queues", "bindings")] + [len(guarantees)]
@@ -22,7 +22,9 @@ class Families(unittest.TestCase):
     def test_each_is_within_the_limits(self):
         self.assertEqual(self.sizes(families.chain_of_own_keys), [256, 256, 255, 1])
         self.assertEqual(self.sizes(families.ring_of_own_keys), [256, 256, 3825, 1])
+        self.assertEqual(self.sizes(families.ring_of_many), [256, 256, 3825, 64])
         self.assertEqual(self.sizes(families.broken_through_the_ring), [256, 256, 3826, 1])
+        self.assertEqual(self.sizes(lambda: families.many_listed(2, 2)), [256, 3, 3572, 2])
         self.assertEqual(self.sizes(families.many_letters), [1, 2, 62, 1])
         self.assertEqual(self.sizes(families.letters_that_all_lead), [1, 2, 62, 1])
         self.assertEqual(self.sizes(families.undecided_by_states), [1, 1, 63, 1])
@@ -33,6 +35,11 @@ class Families(unittest.TestCase):
         self.assertEqual(self.sizes(families.many_through_exchanges), [202, 73, 309, 64])
         self.assertEqual(self.sizes(lambda: families.one_slot(100)), [1, 1, 100, 0])
         self.assertEqual(self.sizes(families.same_marks), [1, 1, 4096, 0])
+
+    def test_listed_states_rise(self):
+        _, _, [certificate, another] = families.many_listed(2, 2)
+        self.assertEqual((certificate["queue"], another["queue"]), ("z0", "z1"))
+        self.assertEqual(certificate["states"], [[2, 2], [2, 6], [2, 10], [2, 14], [2, 18], [2, 22], [2, 26], [2, 30], [3, 3]])
 
     def test_marks_are_the_same(self):
         definitions, _ = families.same_marks()

@@ -17,7 +17,7 @@ pub enum Order {
 /// The linear coefficient of the polynomial that gives the pseudo-random order.
 const PLACE: u64 = 7_919;
 
-/// Its quadratic coefficient.
+/// The quadratic coefficient of the same polynomial.
 const SQUARE: u64 = 12_370;
 
 /// A load: messages that are all delivered to a consumer, and then acknowledged one by one.
@@ -31,14 +31,14 @@ pub struct AckLoad {
 }
 
 impl AckLoad {
-    /// Returns a number below `outstanding`, another one for each `place` below it.
+    /// Returns a number below `outstanding`, a different one for each `place` below `outstanding`.
     fn at_random(&self, place: u64) -> u64 {
         let outstanding = self.outstanding.max(1);
         let factor = SQUARE.saturating_mul(place).saturating_add(PLACE) % outstanding;
         factor.saturating_mul(place) % outstanding
     }
 
-    /// Returns the delivery tag that is acknowledged after `others` others.
+    /// Returns the delivery tag that is acknowledged after `others` other ones.
     fn tag_behind(&self, others: u64) -> u64 {
         match self.order {
             Order::Backward => self.outstanding.saturating_sub(others),
@@ -53,7 +53,7 @@ impl AckLoad {
         }
     }
 
-    /// Appends `count` acks, after `others` others.
+    /// Appends `count` acks, the first of which comes after `others` other ones.
     pub fn put_acks(&self, out: &mut Written, others: u64, count: u64) {
         for place in 0..count {
             put_ack(out, self.tag_behind(others.saturating_add(place)));

@@ -40,7 +40,7 @@ impl DeliveryLoad {
         Shape::Keyed(self.queues)
     }
 
-    /// Returns the routing keys of its messages.
+    /// Returns the routing keys of the load's messages.
     pub fn keys(&self) -> Keys {
         if self.bindings != 0 {
             return Keys::Fresh;

@@ -45,7 +45,7 @@ pub fn plain(name: &'static str, shape: Shape, publishes: u64, body: usize) -> L
     }
 }
 
-/// Returns a load of `connections` connections in turn.
+/// Returns a load in which `connections` connections publish in turn.
 fn by(name: &'static str, connections: u64) -> Load {
     Load {
         connections,
@@ -69,7 +69,7 @@ fn pieces(name: &'static str, piece: usize, publishes: u64) -> Load {
     }
 }
 
-/// Returns a load whose contents have these properties.
+/// Returns a load whose contents have the properties `properties`.
 fn with_properties(name: &'static str, properties: &'static [u8]) -> Load {
     Load {
         properties,

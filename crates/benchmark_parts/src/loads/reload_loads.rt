@@ -8,7 +8,7 @@ pub struct ReloadLoad {
     pub name: &'static str,
     /// The topology, before and after.
     pub shape: Shape,
-    /// The number of guarantees in force afterwards. Each forbids a queue, the shape's forbidden queues in turn.
+    /// The number of guarantees in force afterwards. Each forbids one of the shape's forbidden queues: the first, the second and so on, cyclically.
     pub guarantees: u32,
     /// The topic pattern of the guarantees.
     pub pattern: &'static str,
@@ -28,7 +28,7 @@ pub const WAITING: u64 = 1_000_000;
 /// The number of ready messages in each of many queues.
 const WAITING_EACH: u64 = 400;
 
-/// The number of keys that come in turn.
+/// The number of routing keys, which the publishes use cyclically.
 const KEYS: u32 = 1_000;
 
 /// The number of connections that hold messages.
@@ -61,7 +61,7 @@ pub fn same(name: &'static str) -> ReloadLoad {
     }
 }
 
-/// Returns a load with one guarantee, whose dead letters get this key, or keep their own.
+/// Returns a load with one guarantee. Dead letters get the routing key `key`, or keep their own if it is `None`.
 fn guarded(name: &'static str, key: Option<&'static str>) -> ReloadLoad {
     ReloadLoad {
         shape: Shape::Lettered {

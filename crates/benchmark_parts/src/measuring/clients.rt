@@ -46,7 +46,7 @@ fn put_publish(out: &mut Written, key: &[u8]) {
     out.put(END.as_slice());
 }
 
-/// Appends a content header with these flags and values.
+/// Appends the content header of a body of `size` bytes, with the flags and values `properties`.
 fn put_header(out: &mut Written, size: u64, properties: &[u8]) {
     put_head(out, 2, properties.len().saturating_add(12));
     out.put(&[0, 60, 0, 0]);
@@ -87,7 +87,7 @@ impl Client {
         Client::with_properties(alloc, body, keys, NO_PROPERTIES)
     }
 
-    /// Returns a client whose bodies have `body` bytes, and whose content headers have these flags and values.
+    /// Returns a client whose bodies have `body` bytes, and whose content headers have the flags and values `properties`.
     pub fn with_properties(
         alloc: Global,
         body: usize,

@@ -24,6 +24,11 @@ impl Measured {
         Measured::new(alloc, checked, users)
     }
 
+    /// Stops keeping notes, as the served broker does.
+    pub fn drop_notes(&mut self) {
+        self.engine.drop_notes();
+    }
+
     /// Starts an engine over what was admitted. Returns `None` if an allocation fails.
     pub fn new(alloc: Global, checked: Checked, users: Vec<User>) -> Option<Measured> {
         let engine = Engine::new(alloc, checked, users).ok()?;
@@ -96,7 +101,7 @@ impl Measured {
         }
     }
 
-    /// Loads this configuration. Returns whether it is in force.
+    /// Loads `checked` and `users`. Returns whether they are in force.
     pub fn reload(&mut self, checked: Checked, users: Vec<User>) -> bool {
         match self.engine.reload(self.alloc, checked, users) {
             Ok(()) => true,
@@ -113,7 +118,7 @@ impl Measured {
         self.engine.lose(connection);
     }
 
-    /// Makes a delivery if one can be made, and returns whether it was.
+    /// Makes a delivery if one can be made, and returns whether one was made.
     fn delivered(&mut self) -> bool {
         match self.engine.pump(self.alloc) {
             Ok(delivered) => delivered.is_some(),

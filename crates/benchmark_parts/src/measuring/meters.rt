@@ -5,6 +5,9 @@ use std::{fs, io};
 /// The size of a page of memory, in bytes.
 const PAGE: u64 = 4_096;
 
+/// The unit of `/proc/self/status`, in bytes.
+const KIBIBYTE: u64 = 1_024;
+
 /// Returns the number at index `place` of a line, or 0 if there is none.
 fn number_at(line: &str, place: usize) -> u64 {
     match line.split_whitespace().nth(place) {
@@ -23,4 +26,16 @@ pub fn processor_time(rt: &HostRuntime) -> io::Result<u64> {
 pub fn resident_bytes(rt: &HostRuntime) -> io::Result<u64> {
     let line = fs::read_to_string(rt, "/proc/self/statm")?;
     Ok(number_at(line.as_str(), 1).saturating_mul(PAGE))
+}
+
+/// Returns the most bytes of addresses that this process has had at once (Linux: `VmPeak` in `/proc/self/status`), or 0 if that is not told.
+/// What is reserved counts, too, before it is written to.
+pub fn greatest_bytes(rt: &HostRuntime) -> io::Result<u64> {
+    let status = fs::read_to_string(rt, "/proc/self/status")?;
+    for line in status.lines() {
+        if line.starts_with("VmPeak:") {
+            return Ok(number_at(line, 1).saturating_mul(KIBIBYTE));
+        }
+    }
+    Ok(0)
 }

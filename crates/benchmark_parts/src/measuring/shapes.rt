@@ -11,14 +11,14 @@ pub enum Shape {
     Topic(u32),
     /// A direct exchange among this number of exchanges.
     Exchanges(u32),
-    /// A direct exchange with one queue among this number of queues.
+    /// A direct exchange, bound to one of this number of queues.
     Queues(u32),
-    /// The same, where that queue has the largest limit in bytes.
+    /// The same as `Queues`, except that the queue to which the exchange is bound has the largest limit in bytes.
     Limited(u32),
     /// A direct exchange with this number of queues, `q0`, `q1` .., each bound with a key of its own, `k.0`, `k.1` ..
     Keyed(u32),
-    /// A topic exchange with `queues` queues, `q0`, `q1` .., bound with `k.#`. Their dead letters go to the topic exchange `d`,
-    /// under `key` if there is one, which is bound to `forbidden` queues, `f0`, `f1` .., with `d.#`. These have `limit` messages at most.
+    /// A topic exchange with `queues` queues, `q0`, `q1` .., bound with `k.#`. Their dead letters go, under `key` if there is one, to the topic exchange
+    /// `d`, which is bound to `forbidden` queues, `f0`, `f1` .., with `d.#`. Each of the forbidden queues has at most `limit` ready messages.
     Lettered {
         queues: u32,
         forbidden: u32,

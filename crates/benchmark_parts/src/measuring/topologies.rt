@@ -32,7 +32,7 @@ impl Plan {
         self.put_backed(name, kind, None);
     }
 
-    /// Adds an exchange with this alternate exchange.
+    /// Adds an exchange with the alternate exchange `alternate`, if there is one.
     fn put_backed(&mut self, name: Text, kind: ExchangeKind, alternate: Option<Text>) {
         let exchange = Exchange {
             name,
@@ -49,7 +49,7 @@ impl Plan {
         self.put_limited(name, None);
     }
 
-    /// Adds a queue with this limit in bytes.
+    /// Adds a queue with the limit `byte_limit` in bytes, if there is one.
     fn put_limited(&mut self, name: Text, byte_limit: Option<u32>) {
         self.put_declared(DeclaredQueue {
             name,
@@ -187,7 +187,7 @@ fn lettered_queue(plan: &mut Plan, number: u32, key: Option<&str>) {
     plan.bind_to("x", queue, "k.#");
 }
 
-/// Adds forbidden queue `number` with this limit, bound to `d` with `d.#`.
+/// Adds forbidden queue `number` with the limit `limit`, bound to `d` with `d.#`.
 fn forbidden_queue(plan: &mut Plan, number: u32, limit: Option<u32>) {
     let name = plan.texts.numbered("f", number);
     plan.put_declared(DeclaredQueue {
@@ -201,7 +201,7 @@ fn forbidden_queue(plan: &mut Plan, number: u32, limit: Option<u32>) {
     plan.bind_to("d", queue, "d.#");
 }
 
-/// Adds the topic exchange `x` with queues whose dead letters go to the topic exchange `d`, and that one with forbidden queues.
+/// Adds the topic exchange `x` with queues whose dead letters go to the topic exchange `d`, and `d` with forbidden queues.
 fn lettered(plan: &mut Plan, queues: u32, forbidden: u32, key: Option<&str>, limit: Option<u32>) {
     plan.exchange("x", ExchangeKind::Topic);
     plan.exchange("d", ExchangeKind::Topic);
@@ -253,7 +253,7 @@ fn among_queues(plan: &mut Plan, count: u32) {
     direct(plan);
 }
 
-/// Adds what [`direct`] adds, among `count` queues, where `q` has the largest limit in bytes.
+/// Adds what [`direct`] adds, and `count - 1` queues to which nothing leads. The queue `q` has the largest limit in bytes.
 fn limited(plan: &mut Plan, count: u32) {
     put_others(plan, count);
     plan.exchange("x", ExchangeKind::Direct);
@@ -367,7 +367,7 @@ fn bind_last(plan: &mut Plan, place: u32) {
     plan.put_binding(source, Place::Queue(queue), key);
 }
 
-/// Binds an exchange of a chain to this queue with a key of its own.
+/// Binds exchange `number` of a chain to queue `queue` with a key of its own.
 fn bind_aside(plan: &mut Plan, number: u32, queue: u32, place: u32) {
     let mut key = plan.key();
     key.put_text("other.");
@@ -439,7 +439,7 @@ fn built_of(alloc: Global, plan: Plan) -> Option<Topology> {
     Topology::build(alloc, plan.exchanges, plan.queues, plan.bindings).ok()
 }
 
-/// Builds a topology of this shape. Returns `None` if it is refused, or if an allocation fails.
+/// Builds a topology of the shape `shape`. Returns `None` if it is refused, or if an allocation fails.
 pub fn built(alloc: Global, shape: Shape) -> Option<Topology> {
     let mut plan = Plan::new(alloc);
     put_shape(&mut plan, shape);

@@ -12,15 +12,15 @@ use commands::{Core, Pick, Taking};
 /// What a pick finds at a waiter in the round of a queue that has a ready message.
 #[derive(Clone, Copy, PartialEq, Eq, Debug, Drop)]
 pub(crate) enum Found {
-    /// It is awake, and a delivery can be made to its consumer.
+    /// The waiter is awake, and a delivery can be made to its consumer.
     Able,
-    /// It is awake, and its consumer can't take a message now.
+    /// The waiter is awake, and its consumer can't take a message now.
     Unable,
-    /// It can be passed over: it sleeps, or its consumer is gone or takes from another queue.
+    /// The waiter can be passed over: it sleeps, or its consumer is gone or takes from another queue.
     Over,
 }
 
-/// Returns whether a delivery can be made.
+/// Returns whether a delivery can be made to the waiter's consumer.
 pub(crate) fn is_able(found: Found) -> bool
     ensures { result ≡ is_able found }
 {

@@ -5,13 +5,14 @@
 //! waiter that is woken or made there sets it. So a queue that lacks one of the two costs nothing.
 
 ghost use Rattle.std.specs.Prelude.{◌≡◌, ◌<◌, ◌≤◌, ◌*◌, [], ℕ, List, None, true, IfSome, IfOk, OnOk, length};
+ghost use Rattle.model.specs.Topology.{IsIn};
 ghost use Rattle.marks.specs.Places.{bit_of};
 ghost use Rattle.depot.specs.Store.{HasReady};
 ghost use Rattle.commands.specs.State.{Kept, broker_of, topology_kept};
 ghost use Rattle.commands.specs.Picked.{IsPickFrom};
 ghost use Rattle.broker.specs.Rounds.{round_at, rounds_of, is_of, order, AllAreNoted, IsAwake, IsAsleep, QueuesAreMarked, IsNextMarked, KeepRounds};
-ghost use Rattle.broker.specs.Rounds.{AllAddTheirOwn, LeaveLine, LeaveLines, HasRoom, KeepsWaiters, ListsMore, AllWaken, NoneInRound, NoneBetween, NonePassed};
-ghost use Rattle.broker.specs.Rounds.{PicksFrom, SameOrders};
+ghost use Rattle.broker.specs.Rounds.{AllAddTheirOwn, LosesWaiter, LeaveLine, LeaveLines, HasRoom, KeepsWaiters, ListsMore, AllWaken};
+ghost use Rattle.broker.specs.Rounds.{NoneInRound, NoneBetween, NonePassed, PicksFrom, SameOrders};
 ghost use Rattle.broker.specs.Moving.{IsMoved, IsOfEither, LinesCome, ArePlacesApart, RoundsAreMoved};
 ghost use Rattle.commands.specs.declared.picks.Pick.{Pick as Consumer};
 
@@ -62,11 +63,12 @@ fn reserve_at(rounds: &mut [Round], queue: usize) -> Result<(), AllocError>
     rounds[queue].reserve()
 }
 
-/// Adds the waiter of `consumer`, awake, to the round of the queue at index `queue`, which has capacity for it. All others stay. Never
-/// allocates.
-fn join_at(rounds: &mut [Round], awake: &mut PlaceMarks, queue: usize, consumer: Pick)
+/// Adds the waiter of `consumer`, awake, to the round of the queue at index `queue`, which has capacity for it, and returns its index there. All
+/// others stay. Never allocates.
+fn join_at(rounds: &mut [Round], awake: &mut PlaceMarks, queue: usize, consumer: Pick) -> usize
     requires within { queue < length rounds.old }
     requires room { HasRoom (round_at rounds.old queue) }
+    requires absent { IsIn consumer (order (round_at rounds.old queue)) → ⊥ }
     requires marked { QueuesAreMarked rounds.old awake.old }
     // The waiter is added, all others stay, and the bits are right.
     ensures joined { IsAwake (round_at rounds.new queue) consumer }
@@ -75,7 +77,7 @@ fn join_at(rounds: &mut [Round], awake: &mut PlaceMarks, queue: usize, consumer:
     ensures marked { QueuesAreMarked rounds.new awake.new }
 {
     awake.set(queue);
-    rounds[queue].join(consumer);
+    rounds[queue].join(consumer)
 }
 
 /// Wakes the waiter of `consumer` in the round of the queue at index `queue`. Looks at index `guess` first.
@@ -90,8 +92,8 @@ fn wake_at(rounds: &mut [Round], awake: &mut PlaceMarks, queue: usize, consumer:
     rounds[queue].wake(consumer, guess);
 }
 
-/// Returns the index of the first queue at or after `from` with a ready message and a bit that is 1. Steps over the two sets in turn, so that
-/// it looks at no queue that is in one of them alone.
+/// Returns the index of the first queue at or after `from` with a ready message and a bit that is 1. Searches the two sets alternately, so a run of
+/// queues that are all missing from one of the sets is passed in one step.
 fn next_both(core: &Core, awake: &PlaceMarks, from: usize) -> Option<usize>
     ensures { IsNextMarked core.now awake.now from result }
 {
@@ -106,7 +108,7 @@ fn next_both(core: &Core, awake: &PlaceMarks, from: usize) -> Option<usize>
     None
 }
 
-/// Picks from the queue at index `queue`, which has a ready message and whose bit is 1.
+/// Picks from the queue at index `queue`, which has a ready message and whose bit is 1. Clears the bit if it picks none.
 fn pick_at(
     rounds: &mut [Round],
     awake: &mut PlaceMarks,
@@ -210,7 +212,7 @@ fn first_from(
     }
 }
 
-/// Sets the bit of the queue at index `place` if picks look at a waiter of `round`, which is going to be there.
+/// Sets the bit of the queue at index `place` if picks look at a waiter of `round`, which is or becomes the round of that queue.
 fn mark_round(awake: &mut PlaceMarks, round: &Round, place: usize)
     requires { place < length awake.old * 64 }
     ensures len { length awake.new ≡ length awake.old }
@@ -220,6 +222,23 @@ fn mark_round(awake: &mut PlaceMarks, round: &Round, place: usize)
     if round.has_awake() {
         awake.set(place);
     }
+}
+
+/// Removes the waiter of `consumer` from the round of the queue at index `queue`. Looks at index `guess` first.
+fn remove_at(
+    rounds: &mut [Round],
+    awake: &mut PlaceMarks,
+    queue: usize,
+    consumer: Pick,
+    guess: usize,
+)
+    requires within { queue < length rounds.old }
+    requires marked { QueuesAreMarked rounds.old awake.old }
+    ensures loses { LosesWaiter queue consumer rounds.old rounds.new }
+    ensures marked { QueuesAreMarked rounds.new awake.new }
+{
+    rounds[queue].remove(consumer, guess);
+    mark_round(awake, &rounds[queue], queue);
 }
 
 /// Removes the waiters of those consumers of `connection` that are gone from the round of the queue at index `queue`. The order of the others is
@@ -233,7 +252,7 @@ fn leave_at(
 )
     requires within { queue < length rounds.old }
     requires marked { QueuesAreMarked rounds.old awake.old }
-    // Those of existing consumers stay, the others of this connection are removed, and the bits are right.
+    // The waiters of existing consumers stay, the others of this connection are removed, and the bits are right.
     ensures kept { KeepRounds core.now rounds.old rounds.new }
     ensures here { LeaveLine core.now queue connection (round_at rounds.old queue) (round_at rounds.new queue) }
     ensures others { (i : ℕ) → (i ≡ queue → ⊥) → round_at rounds.new i ≡ round_at rounds.old i }
@@ -243,7 +262,7 @@ fn leave_at(
     mark_round(awake, &rounds[queue], queue);
 }
 
-/// Does the same in each round.
+/// Removes the waiters of those consumers of `connection` that are gone from each round. The order of the others is unchanged.
 fn leave_each(rounds: &mut [Round], awake: &mut PlaceMarks, core: &Core, connection: u64)
     requires { QueuesAreMarked rounds.old awake.old }
     ensures kept { KeepRounds core.now rounds.old rounds.new }
@@ -270,7 +289,7 @@ fn take_round(rounds: &mut [Round], awake: &mut PlaceMarks, place: usize, round:
     swap(&mut rounds[place], round);
 }
 
-/// Does the same if there is such a queue.
+/// If there is a queue at index `place`, swaps its round with `round`, as [`take_round`] does.
 fn move_round(rounds: &mut [Round], awake: &mut PlaceMarks, place: usize, round: &mut Round)
     requires { QueuesAreMarked rounds.old awake.old }
     ensures moved { place < length rounds.old → IsMoved round.old (round_at rounds.new place) }
@@ -288,7 +307,7 @@ fn move_rounds(rounds: &mut [Round], awake: &mut PlaceMarks, old: &mut [Round], 
     requires len { length places.now ≡ length old.old }
     requires apart { ArePlacesApart places.now (length rounds.old) }
     requires marked { QueuesAreMarked rounds.old awake.old }
-    // Each round is at its new index, nothing else is, and the bits are right.
+    // Each round is at its new index, no other round has a new order, and the bits are right.
     ensures moved { RoundsAreMoved places.now old.old rounds.new }
     ensures came { LinesCome places.now old.old rounds.old rounds.new }
     ensures marked { QueuesAreMarked rounds.new awake.new }
@@ -305,7 +324,7 @@ pub(crate) struct QueueRounds {
     awake: PlaceMarks,
 }
 
-/// Written out so that a drop is one call.
+/// Not derived: a derived drop is expanded, and proved again, in each function that drops the value.
 impl Drop for QueueRounds {
     fn drop(self) {
         let QueueRounds {
@@ -328,10 +347,12 @@ impl Model for QueueRounds {
 
 impl QueueRounds {
     ghost use Rattle.std.specs.Prelude.{◌≡◌, ◌<◌, ◌+◌, ◌^◌, ℕ, None, true, IfSome, IfOk, OnOk, length};
+    ghost use Rattle.model.specs.Topology.{IsIn};
     ghost use Rattle.commands.specs.State.{Kept, broker_of, topology_kept};
     ghost use Rattle.commands.specs.Picked.{IsPickFrom};
-    ghost use Rattle.broker.specs.Rounds.{round_at, rounds_of, is_of, AllAreNoted, IsAwake, IsAsleep, HasRoom, KeepRounds, AllAddTheirOwn};
-    ghost use Rattle.broker.specs.Rounds.{LeaveLines, KeepsWaiters, ListsMore, AllWaken, NoneBetween, NonePassed, PicksFrom, SameOrders, AllAreEmpty};
+    ghost use Rattle.broker.specs.Rounds.{round_at, rounds_of, is_of, order, AllAreNoted, IsAwake, IsAsleep, HasRoom, KeepRounds, AllAddTheirOwn};
+    ghost use Rattle.broker.specs.Rounds.{LosesWaiter, LeaveLines, KeepsWaiters, ListsMore, AllWaken, NoneBetween, NonePassed};
+    ghost use Rattle.broker.specs.Rounds.{PicksFrom, SameOrders, AllAreEmpty};
     ghost use Rattle.broker.specs.Moving.{ArePlacesApart, RoundsAreMoved, LinesCome};
 
     /// Makes empty rounds for `queues` queues. Fails only if an allocation fails.
@@ -354,18 +375,30 @@ impl QueueRounds {
         reserve_at(&mut self.rounds, queue)
     }
 
-    /// Adds the waiter of `consumer`, awake, to the round of the queue at index `queue`, which has capacity for it. All others stay. Never
-    /// allocates.
-    pub fn join(&mut self, queue: usize, consumer: Pick)
+    /// Adds the waiter of `consumer`, awake, to the round of the queue at index `queue`, which has capacity for it, and returns its index there. All
+    /// others stay. Never allocates.
+    pub fn join(&mut self, queue: usize, consumer: Pick) -> usize
         requires within { queue < length self.old }
         requires room { HasRoom (round_at self.old queue) }
+        requires absent { IsIn consumer (order (round_at self.old queue)) → ⊥ }
         // The waiter is added, and all others stay.
         ensures joined { IsAwake (round_at self.new queue) consumer }
         ensures kept { (k : Kept) → KeepRounds k self.old self.new }
         ensures adds { (k : Kept) → is_of k queue consumer ≡ true → AllAddTheirOwn k self.old self.new }
         ensures len { length self.new ≡ length self.old }
     {
-        join_at(&mut self.rounds, &mut self.awake, queue, consumer);
+        join_at(&mut self.rounds, &mut self.awake, queue, consumer)
+    }
+
+    /// Removes the waiter of `consumer` from the round of the queue at index `queue`, if it is there. Looks at index `guess` first. The order of the
+    /// others is unchanged. Never allocates.
+    pub fn remove(&mut self, queue: usize, consumer: Pick, guess: usize)
+        ensures loses { LosesWaiter queue consumer self.old self.new }
+        ensures len { length self.new ≡ length self.old }
+    {
+        if queue < self.rounds.len() {
+            remove_at(&mut self.rounds, &mut self.awake, queue, consumer, guess);
+        }
     }
 
     /// Removes the waiters of those consumers of `connection` that are gone. The order of the others is unchanged. Never allocates.
@@ -389,8 +422,8 @@ impl QueueRounds {
         }
     }
 
-    /// Moves each round of `old`, its waiters awake, to the index that `indices` has for it. Those of a round whose new index is past the end are
-    /// removed. Never allocates.
+    /// Moves each round of `old`, its waiters awake, to the index that `indices` has for it. The waiters of a round whose new index is past the end
+    /// are removed. Never allocates.
     pub fn take_over(&mut self, old: QueueRounds, indices: &[usize])
         requires len { length indices.now ≡ length old }
         requires apart { ArePlacesApart indices.now (length self.old) }
@@ -418,7 +451,7 @@ impl QueueRounds {
         ensures fits { IfSome result (λ f. f.queue + 1 < 2 ^ 64) }
         ensures some { IfSome result (λ f. IsPickFrom core.now f.queue f.pick) }
         ensures none { result ≡ None → NoneBetween core.now (rounds_of self.old sleepers.old.entries) 0 (length self.old) }
-        // Nothing comes before it in the order.
+        // No delivery can be made from a queue that comes before the found one in the cyclic order from `next`. If none is found no order changes.
         ensures passed { IfSome result (λ f. NonePassed core.now (rounds_of self.old sleepers.old.entries) next f.queue) }
         ensures told { IfSome result (λ f. PicksFrom core.now sleepers.old.entries self.old self.new f.queue f.pick) }
         ensures same { result ≡ None → SameOrders self.old self.new }

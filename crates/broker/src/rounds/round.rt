@@ -1,23 +1,23 @@
 //! The consumers of one queue, over which its deliveries go round-robin.
 //!
-//! Each consumer of the queue has a waiter in the round. When consumers of a connection may have left, the waiters are checked, and those of
-//! consumers that are gone are removed. A pick looks at one waiter after another, starting behind the one picked last. A waiter whose consumer
-//! can't take a message falls asleep, and is passed over until it is woken. Picks look at the waiters whose bit is 1. The bit of a waiter that
-//! sleeps may be 1, too: after others were removed, until a pick looks at it.
+//! Each consumer of the queue has a waiter in the round, which is removed with it. A pick looks at one waiter after another, starting behind the
+//! one picked last. A waiter whose consumer can't take a message falls asleep, and is passed over until it is woken. Picks look at the waiters
+//! whose bit is 1. If a waiter is added or removed, the bits of those behind it follow. If several are removed at once, all bits are set: a pick
+//! clears those of waiters that sleep.
 
 ghost use Rattle.std.specs.Prelude.{◌≡◌, ◌<◌, ◌≤◌, ◌+◌, ◌*◌, ◌⊎◌, ◌++◌, ◌∷◌, [], ℕ, true, false};
-ghost use Rattle.std.specs.Prelude.{None, IfSome, OnOk, length, count_by, filter, min, slice_index_or, vec_len, vec_capacity};
+ghost use Rattle.std.specs.Prelude.{None, IfSome, OnOk, length, if◌then◌else◌, count_by, filter, min, slice_index_or, vec_len, vec_capacity};
 ghost use Rattle.std.specs.List.{position_from};
 ghost use Rattle.model.specs.Topology.{IsIn};
-ghost use Rattle.marks.specs.Places.{bit_of};
+ghost use Rattle.marks.specs.Places.{bit_of, Differs};
 ghost use Rattle.depot.specs.Store.{HasReady};
 ghost use Rattle.commands.specs.State.{Kept, broker_of, topology_kept};
 ghost use Rattle.commands.specs.Picked.{CannotTake, IsPickFrom};
 ghost use Rattle.commands.specs.declared.picks.Pick.{Pick as Consumer};
 ghost use Rattle.broker.specs.declared.rounds.waiters.Waiter.{Waiter as InRound};
 ghost use Rattle.broker.specs.Lines.{turned, AreDistinct};
-ghost use Rattle.broker.specs.Rounds.{round_of, picks, is_consumer, is_able, is_waiter_of, remains, has_remained, listing};
-ghost use Rattle.broker.specs.Rounds.{AllAreNoted, FindsWaiter, IsNoted, IsAwakeAt, IsAwake, IsAsleep, StaysAt};
+ghost use Rattle.broker.specs.Rounds.{round_of, picks, is_consumer, is_other, is_able, is_waiter_of, bit_for, remains, has_remained, listing};
+ghost use Rattle.broker.specs.Rounds.{AllAreNoted, FindsWaiter, IsNoted, IsAwakeAt, IsAwake, IsAsleep, StaysAt, OthersStay};
 ghost use Rattle.broker.specs.Rounds.{KeepsIn, KeepsRound, NoneAwake, NoneAwakePassed, ListsMore, Wakens};
 ghost use Rattle.broker.specs.Moving.{all_awake};
 
@@ -29,7 +29,7 @@ use marks::{Flat, Over, Places};
 use std::alloc::{AllocError, Global};
 use std::marker::Model;
 
-/// Returns the index of the first waiter of `consumer`.
+/// Returns the index of the first waiter of `consumer`, if it has one.
 fn search(waiters: &[Waiter], consumer: Pick) -> Option<usize>
     ensures is { result ≡ position_from (is_waiter_of consumer) 0 waiters.now }
     ensures within { IfSome result (λ i. i < length waiters.now) }
@@ -64,22 +64,15 @@ fn wake_up(waiters: &mut [Waiter], awake: &mut PlaceMarks, place: usize)
     awake.set(place);
 }
 
-/// Wakes the waiter of `consumer`, and returns whether there is one. Looks at index `guess` first.
-fn wake_waiter(waiters: &mut [Waiter], awake: &mut PlaceMarks, consumer: Pick, guess: usize) -> bool
+/// Wakes the waiter of `consumer`, if it is there. Looks at index `guess` first.
+fn wake_waiter(waiters: &mut [Waiter], awake: &mut PlaceMarks, consumer: Pick, guess: usize)
     requires { length waiters.old ≤ length awake.old * 64 }
-    // Whether there is a waiter, and that others stay.
     ensures len { length awake.new ≡ length awake.old }
-    ensures yes { result ≡ true → IsAwake (round_of waiters.new awake.new) consumer }
-    ensures no { result ≡ false → IsAsleep (round_of waiters.old awake.old) consumer → ⊥ }
-    ensures absent { result ≡ false → IsIn consumer (picks waiters.new) → ⊥ }
+    ensures woken { IsAsleep (round_of waiters.old awake.old) consumer → IsAwake (round_of waiters.new awake.new) consumer }
     ensures wakens { Wakens (round_of waiters.old awake.old) (round_of waiters.new awake.new) }
 {
-    match place_of(waiters, consumer, guess) {
-        Some(place) => {
-            wake_up(waiters, awake, place);
-            true
-        }
-        None => false,
+    if let Some(place) = place_of(waiters, consumer, guess) {
+        wake_up(waiters, awake, place);
     }
 }
 
@@ -123,7 +116,7 @@ fn staying(waiters: &[Waiter], core: &Core, queue: usize, connection: u64) -> us
 /// Reserves capacity for one more waiter and its bit. Fails only if an allocation fails.
 fn grow(waiters: &mut Vec<Waiter>, awake: &mut PlaceMarks) -> Result<(), AllocError>
     requires { length waiters.old.items ≤ length awake.old * 64 }
-    // The capacity after it; waiters and bits are unchanged.
+    // The capacity after the call; waiters and bits are unchanged.
     ensures room { OnOk result (length waiters.new.items < vec_capacity waiters.new) }
     ensures mark { OnOk result (length waiters.new.items + 1 ≤ length awake.new * 64) }
     ensures marks { length waiters.new.items ≤ length awake.new * 64 }
@@ -134,8 +127,59 @@ fn grow(waiters: &mut Vec<Waiter>, awake: &mut PlaceMarks) -> Result<(), AllocEr
     waiters.reserve(1)
 }
 
+/// Puts `place` into the set, or takes it out if the waiter there sleeps.
+fn fit(awake: &mut PlaceMarks, place: usize, asleep: bool)
+    requires { place < length awake.old * 64 }
+    ensures len { length awake.new ≡ length awake.old }
+    ensures fits { Differs (bit_of awake.old) (bit_of awake.new) place (bit_for asleep) }
+{
+    if asleep {
+        awake.clear(place);
+    } else {
+        awake.set(place);
+    }
+}
+
+/// Gives each waiter at or after index `from` its bit: 1 if it is awake.
+fn refit(waiters: &[Waiter], awake: &mut PlaceMarks, from: usize)
+    requires { length waiters.now ≤ length awake.old * 64 }
+    ensures len { length awake.new ≡ length awake.old }
+    ensures before { (i : ℕ) → i < from → bit_of awake.new i ≡ bit_of awake.old i }
+    ensures fits { (i : ℕ) (d : InRound) → from ≤ i → i < length waiters.now → bit_of awake.new i ≡ bit_for (slice_index_or waiters.now i d).asleep }
+{
+    for place in from..waiters.len() {
+        fit(awake, place, waiters[place].asleep);
+    }
+}
+
+/// Removes the waiter at index `place`. The order of the others is unchanged, and picks look at those of them that are awake. Never allocates.
+fn remove_waiter(
+    waiters: &mut Vec<Waiter>,
+    awake: &mut PlaceMarks,
+    next: &mut usize,
+    place: usize,
+    consumer: Pick,
+)
+    // What the caller knows of the waiter: it is the consumer's only one.
+    requires within { place < length waiters.old.items }
+    requires there { (d : InRound) → (slice_index_or waiters.old.items place d).pick ≡ consumer }
+    requires once { AreDistinct (picks waiters.old.items) }
+    requires room { length waiters.old.items ≤ length awake.old * 64 }
+    // It is removed, and all others stay.
+    ensures room { length waiters.new.items ≤ length awake.new * 64 }
+    ensures stay { OthersStay consumer (round_of waiters.old.items awake.old) (round_of waiters.new.items awake.new) }
+    ensures once { AreDistinct (picks waiters.new.items) }
+    ensures line { turned next.new (picks waiters.new.items) ≡ filter (is_other consumer) (turned next.old (picks waiters.old.items)) }
+{
+    waiters.remove(place);
+    refit(waiters, awake, place);
+    if place < *next {
+        *next -= 1;
+    }
+}
+
 /// Removes the waiters of those consumers of `connection` that are gone or take from another queue than that at index `queue`. The order of the
-/// others is unchanged, and picks look at them. Never allocates.
+/// others is unchanged; if one was removed, picks look at each of them. Never allocates.
 fn remove_gone(
     waiters: &mut Vec<Waiter>,
     awake: &mut PlaceMarks,
@@ -170,9 +214,14 @@ fn line_end(next: usize, count: usize) -> usize
     next.min(count)
 }
 
-/// Adds a waiter for `consumer`, awake, at the end of the order that begins at `next`. There is capacity for it. Picks look at it, and at all
-/// whose indices change. Never allocates.
-fn add_waiter(waiters: &mut Vec<Waiter>, awake: &mut PlaceMarks, next: &mut usize, consumer: Pick)
+/// Adds a waiter for `consumer`, awake, at the end of the order that begins at `next`, and returns its index. There is capacity for it. Picks look
+/// at it, and at those behind it that are awake. Never allocates.
+fn add_waiter(
+    waiters: &mut Vec<Waiter>,
+    awake: &mut PlaceMarks,
+    next: &mut usize,
+    consumer: Pick,
+) -> usize
     requires room { length waiters.old.items < vec_capacity waiters.old }
     requires mark { length waiters.old.items + 1 ≤ length awake.old * 64 }
     // The waiter is last in order and awake, and all others stay.
@@ -188,11 +237,12 @@ fn add_waiter(waiters: &mut Vec<Waiter>, awake: &mut PlaceMarks, next: &mut usiz
         asleep: false,
     };
     let _ = waiters.insert(place, waiter);
-    mark_between(awake, place, count + 1);
+    refit(waiters, awake, place);
     *next = place + 1;
+    place
 }
 
-/// Returns whether picks look at a waiter at an index below `count`.
+/// Returns whether the bit of an index below `count` is 1, so that picks look at the waiter there.
 fn any_marked(awake: &PlaceMarks, count: usize) -> bool
     ensures yes { result ≡ true → (i : ℕ) × (i < count) × (bit_of awake.now i ≡ 1) }
     ensures no { result ≡ false → (i : ℕ) → i < count → bit_of awake.now i ≡ 0 }
@@ -223,7 +273,7 @@ fn put_to_sleep(
     ensures len { length awake.new ≡ length awake.old }
     ensures kept { KeepsIn core.now queue sleepers.old.entries sleepers.new.entries (round_of waiters.old awake.old) (round_of waiters.new awake.new) }
     ensures more { ListsMore sleepers.old.entries sleepers.new.entries }
-    // Picks pass over this one, and over no other.
+    // Picks pass over the waiter at `place`, and over no other that was awake.
     ensures others { (i : ℕ) → (i ≡ place → ⊥) → StaysAt (round_of waiters.old awake.old) (round_of waiters.new awake.new) i }
     ensures passed { bit_of awake.new place ≡ 0 }
     ensures fewer { (i : ℕ) → bit_of awake.old i ≡ 0 → bit_of awake.new i ≡ 0 }
@@ -254,7 +304,7 @@ fn rest(
     ensures len { length awake.new ≡ length awake.old }
     ensures kept { KeepsIn core.now queue sleepers.old.entries sleepers.new.entries (round_of waiters.old awake.old) (round_of waiters.new awake.new) }
     ensures more { ListsMore sleepers.old.entries sleepers.new.entries }
-    // Picks pass over this one, and over no other.
+    // Picks pass over the waiter at `place`, and over no other that was awake.
     ensures others { (i : ℕ) → (i ≡ place → ⊥) → StaysAt (round_of waiters.old awake.old) (round_of waiters.new awake.new) i }
     ensures passed { bit_of awake.new place ≡ 0 }
     ensures fewer { (i : ℕ) → bit_of awake.old i ≡ 0 → bit_of awake.new i ≡ 0 }
@@ -295,7 +345,7 @@ fn first_between(
     ensures passed { IfSome result (λ i. NoneAwake core.now queue (round_of waiters.old awake.old) from i) }
     ensures least { IfSome result (λ i. from ≤ i) }
     ensures below { IfSome result (λ i. i < to) }
-    // Picks look at none of those that were passed.
+    // Picks look at none of the waiters that were passed.
     ensures rested { result ≡ None → (i : ℕ) → from ≤ i → i < to → bit_of awake.new i ≡ 0 }
     ensures fewer { (i : ℕ) → bit_of awake.old i ≡ 0 → bit_of awake.new i ≡ 0 }
     ensures same { picks waiters.new ≡ picks waiters.old }
@@ -350,13 +400,14 @@ fn first_from(
 /// The waiters of the consumers of one queue.
 pub(crate) struct Round {
     waiters: Vec<Waiter>,
-    /// A bit for each waiter, 1 if picks look at it: if it is awake, and after others were removed until a pick has looked at it.
+    /// A bit for each waiter, 1 if picks look at it. An awake waiter has 1. A sleeping one may have 1 after several waiters were removed at once, until
+    /// a pick looks at it.
     awake: PlaceMarks,
     /// The index behind the waiter picked last.
     next: usize,
 }
 
-/// Written out so that a drop is one call.
+/// Not derived: a derived drop is expanded, and proved again, in each function that drops the value.
 impl Drop for Round {
     fn drop(self) {
         let Round {
@@ -380,14 +431,15 @@ impl Model for Round {
 }
 
 impl Round {
-    ghost use Rattle.std.specs.Prelude.{◌≡◌, ◌<◌, [], ℕ, true, false, None, IfSome, OnOk, length};
+    ghost use Rattle.std.specs.Prelude.{◌≡◌, ◌<◌, ◌++◌, ◌∷◌, [], ℕ, true, false, None, IfSome, OnOk, length};
+    ghost use Rattle.model.specs.Topology.{IsIn};
     ghost use Rattle.marks.specs.Places.{bit_of};
     ghost use Rattle.depot.specs.Store.{HasReady};
     ghost use Rattle.commands.specs.State.{Kept, broker_of, topology_kept};
     ghost use Rattle.commands.specs.declared.picks.Pick.{Pick as Consumer};
     ghost use Rattle.commands.specs.Picked.{IsPickFrom};
     ghost use Rattle.broker.specs.Rounds.{order, AllAreNoted, IsAwake, IsAsleep, KeepsIn, KeepsRound};
-    ghost use Rattle.broker.specs.Rounds.{NoneInRound, GoesLast, AddsOne, LeaveLine, HasRoom, ListsMore, Wakens};
+    ghost use Rattle.broker.specs.Rounds.{NoneInRound, GoesLast, LosesOne, LeaveLine, HasRoom, ListsMore, Wakens};
     ghost use Rattle.broker.specs.Moving.{AllRoused};
 
     /// Makes an empty round. Never allocates.
@@ -410,18 +462,31 @@ impl Round {
         grow(&mut self.waiters, &mut self.awake)
     }
 
-    /// Adds a waiter for `consumer`, awake, at the end of the order. If it has one already, wakes that where it is. There is capacity for it.
-    /// Never allocates.
-    pub fn join(&mut self, consumer: Pick)
-        requires { HasRoom self.old }
+    /// Adds a waiter for `consumer`, which has none, awake, at the end of the order, and returns its index. There is capacity for it. Never
+    /// allocates.
+    pub fn join(&mut self, consumer: Pick) -> usize
+        requires room { HasRoom self.old }
+        requires absent { IsIn consumer (order self.old) → ⊥ }
         ensures joined { IsAwake self.new consumer }
         ensures kept { (k : Kept) (queue : ℕ) → KeepsRound k queue self.old self.new }
-        ensures adds { AddsOne consumer self.old self.new }
+        ensures line { order self.new ≡ order self.old ++ consumer ∷ [] }
     {
-        if wake_waiter(&mut self.waiters, &mut self.awake, consumer, 0) {
-            return;
+        add_waiter(&mut self.waiters, &mut self.awake, &mut self.next, consumer)
+    }
+
+    /// Removes the waiter of `consumer`, if it is there. Looks at index `guess` first. The order of the others is unchanged. Never allocates.
+    pub fn remove(&mut self, consumer: Pick, guess: usize)
+        ensures { LosesOne consumer self.old self.new }
+    {
+        if let Some(place) = place_of(&self.waiters, consumer, guess) {
+            remove_waiter(
+                &mut self.waiters,
+                &mut self.awake,
+                &mut self.next,
+                place,
+                consumer,
+            );
         }
-        add_waiter(&mut self.waiters, &mut self.awake, &mut self.next, consumer);
     }
 
     /// Removes the waiters of those consumers of `connection` that are gone or take from another queue than that at index `queue`. The order of the
@@ -440,7 +505,7 @@ impl Round {
         );
     }
 
-    /// Wakes the waiter of `consumer`, if it is there. Looks at index `guess` first.
+    /// Wakes the waiter of `consumer`, if the round has one. Looks at index `guess` first.
     pub fn wake(&mut self, consumer: Pick, guess: usize)
         ensures woken { IsAsleep self.old consumer → IsAwake self.new consumer }
         ensures wakens { Wakens self.old self.new }
@@ -465,9 +530,8 @@ impl Round {
         any_marked(&self.awake, self.waiters.len())
     }
 
-    /// Picks the first consumer to which a delivery can be made from the queue at index `queue`, which has a ready message, starting behind the
-    /// waiter picked last. Waiters that it looks at before, and whose consumer can't take a message, fall asleep. Never
-    /// allocates.
+    /// Picks the first consumer, starting behind the waiter picked last, to which a delivery can be made from the queue at index `queue`, which has a
+    /// ready message. Returns `None` if there is none. Waiters that are passed because their consumer can't take a message fall asleep. Never allocates.
     pub fn pick(&mut self, core: &Core, sleepers: &mut Sleepers, queue: usize) -> Option<Pick>
         requires placed { queue < length (topology_kept core.now).queues }
         requires ready { HasReady core.now.store queue }

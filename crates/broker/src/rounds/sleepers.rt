@@ -1,5 +1,6 @@
 //! The waiters of consumers, by connection and channel, and which of them sleep, so that an event finds those that it wakes.
 
+mod leaving;
 mod moving;
 mod waking;
 
@@ -14,8 +15,9 @@ ghost use Rattle.broker.specs.Rounds.{MakesNoList, NotesStay, ListsStay, SameLis
 ghost use Rattle.broker.specs.Rounds.{KeepsListings, KeepListingsOn, KeepLists, SleepMore, ListsMore};
 
 use crate::rounds::finding::is_of;
-use crate::rounds::waiters::{PlaceMarks, is_same, mark_between};
+use crate::rounds::waiters::{PlaceMarks, is_same};
 use commands::{Core, Pick};
+pub(crate) use leaving::{leave_lists, leave_waiters};
 use marks::{Flat, Over, Places};
 pub(crate) use moving::move_sleepers;
 use std::alloc::{AllocError, Global};
@@ -31,7 +33,7 @@ pub(crate) type Sleepers = HashMap<u64, ConnectionSleepers>;
 pub(crate) struct Listed {
     queue: usize,
     consumer: Pick,
-    /// The index in the round that it had when it fell asleep.
+    /// The index in the round that the waiter had when it was added, or when it last fell asleep.
     place: usize,
 }
 
@@ -47,25 +49,25 @@ impl Listed {
     ghost use Rattle.std.specs.Prelude.{◌≡◌};
     ghost use Rattle.broker.specs.Rounds.{is_listing, is_listed_there, listing};
 
-    /// Lists the waiter of `consumer` in the round of the queue at index `queue`.
-    fn new(queue: usize, consumer: Pick) -> Listed
+    /// Lists the waiter of `consumer` at index `place` in the round of the queue at index `queue`.
+    fn new(queue: usize, consumer: Pick, place: usize) -> Listed
         ensures { result ≡ listing queue consumer }
     {
         Listed {
             queue,
             consumer,
-            place: 0,
+            place,
         }
     }
 
-    /// Returns whether it is the listing of `consumer` in the round of `queue`.
+    /// Returns whether this is the listing of `consumer` in the round of `queue`.
     fn is(&self, queue: usize, consumer: Pick) -> bool
         ensures { result ≡ is_listing (listing queue consumer) self.now }
     {
         queue == self.queue && is_same(consumer, self.consumer)
     }
 
-    /// Returns whether its consumer exists and takes from the queue.
+    /// Returns whether the listed consumer exists and takes from the listed queue.
     fn is_there(&self, core: &Core) -> bool
         ensures { result ≡ is_listed_there core.now self.now }
     {
@@ -142,33 +144,10 @@ fn mark_in(
     }
 }
 
-/// Removes the listings whose consumer is gone or takes from another queue.
-fn sweep(listed: &mut Vec<Listed>, core: &Core)
-    ensures listed { listed.new.items ≡ filter (is_listed_there core.now) listed.old.items }
-    ensures capacity { vec_capacity listed.new ≡ vec_capacity listed.old }
-{
-    listed.retain(|one| one.is_there(core));
-}
-
-/// Removes the listings whose consumer is gone. If there are any, all that are left are marked as sleeping, so that they are woken. Never
-/// allocates.
-fn remove_gone(listed: &mut Vec<Listed>, asleep: &mut PlaceMarks, core: &Core)
-    requires { length listed.old.items ≤ length asleep.old * 64 }
-    ensures marks { length listed.new.items ≤ length asleep.new * 64 }
-    ensures all { listed.new.items ≡ filter (is_listed_there core.now) listed.old.items }
-    ensures kept { KeepsListings core.now (listings_of listed.old.items asleep.old) (listings_of listed.new.items asleep.new) }
-{
-    let before = listed.len();
-    sweep(listed, core);
-    if listed.len() < before {
-        mark_between(asleep, 0, listed.len());
-    }
-}
-
 /// Reserves capacity for one more listing and its bit. Fails only if an allocation fails.
 fn make_room(listed: &mut Vec<Listed>, asleep: &mut PlaceMarks) -> Result<(), AllocError>
     requires { length listed.old.items ≤ length asleep.old * 64 }
-    // The capacity after it; listings and bits are unchanged.
+    // The capacity after the call; listings and bits are unchanged.
     ensures room { OnOk result (length listed.new.items < vec_capacity listed.new) }
     ensures mark { OnOk result (length listed.new.items + 1 ≤ length asleep.new * 64) }
     ensures marks { length listed.new.items ≤ length asleep.new * 64 }
@@ -182,11 +161,11 @@ fn make_room(listed: &mut Vec<Listed>, asleep: &mut PlaceMarks) -> Result<(), Al
 /// The listings of one channel's consumers.
 pub(crate) struct ChannelSleepers {
     listed: Vec<Listed>,
-    /// A bit for each, 1 if it sleeps.
+    /// A bit for each listing, 1 if its waiter sleeps.
     asleep: PlaceMarks,
 }
 
-/// Written out so that a drop is one call.
+/// Not derived: a derived drop is expanded, and proved again, in each function that drops the value.
 impl Drop for ChannelSleepers {
     fn drop(self) {
         let ChannelSleepers {
@@ -230,22 +209,16 @@ impl ChannelSleepers {
         make_room(&mut self.listed, &mut self.asleep)
     }
 
-    /// Appends the listing of `consumer` in the round of `queue`. There is capacity for it. Never allocates.
-    fn join(&mut self, queue: usize, consumer: Pick)
+    /// Appends the listing of `consumer` in the round of `queue`, whose waiter is at index `place` of the round. There is capacity for it. Never
+    /// allocates.
+    fn join(&mut self, queue: usize, consumer: Pick, place: usize)
         requires room { HasListRoom self.old }
         requires last { AreBelow self.old.all consumer.number }
         ensures all { self.new.all ≡ self.old.all ++ listing queue consumer ∷ [] }
         ensures stay { (l : Listing) → IsAsleepIn self.old l → IsAsleepIn self.new l }
     {
-        self.listed.push_reserved(Listed::new(queue, consumer));
-    }
-
-    /// Removes the listings whose consumer is gone. Never allocates.
-    fn leave(&mut self, core: &Core)
-        ensures all { self.new.all ≡ filter (is_listed_there core.now) self.old.all }
-        ensures kept { KeepsListings core.now self.old self.new }
-    {
-        remove_gone(&mut self.listed, &mut self.asleep, core);
+        self.listed
+            .push_reserved(Listed::new(queue, consumer, place));
     }
 
     /// Marks the listing of `consumer` in the round of `queue` as sleeping; its waiter is at index `place` of the round.
@@ -278,24 +251,14 @@ fn reserve_on(channels: &mut [ChannelSleepers], channel: u16) -> Result<(), Allo
     channels[channel as usize].reserve()
 }
 
-/// Appends the listing of `consumer` in the round of `queue` to the list of its channel.
-fn join_on(channels: &mut [ChannelSleepers], queue: usize, consumer: Pick)
+/// Appends the listing of `consumer` in the round of `queue` to the list of its channel; its waiter is at index `place` of the round.
+fn join_on(channels: &mut [ChannelSleepers], queue: usize, consumer: Pick, place: usize)
     requires within { consumer.channel < length channels.old }
     requires can { CanListOn channels.old consumer }
     ensures noted { IsNotedOn channels.new (listing queue consumer) }
     ensures adds { (h : ℕ) → AddsListing (listing queue consumer) h (listings_on channels.old h) (listings_on channels.new h) }
 {
-    channels[consumer.channel as usize].join(queue, consumer);
-}
-
-/// Removes the listings whose consumer is gone from each channel's list.
-fn leave_each(channels: &mut [ChannelSleepers], core: &Core)
-    ensures all { (h : ℕ) → (listings_on channels.new h).all ≡ filter (is_listed_there core.now) (listings_on channels.old h).all }
-    ensures kept { KeepListingsOn core.now channels.old channels.new }
-{
-    for place in 0..channels.len() {
-        channels[place].leave(core);
-    }
+    channels[consumer.channel as usize].join(queue, consumer, place);
 }
 
 /// Marks the listing of `consumer` in the round of `queue` as sleeping; its waiter is at index `place` of the round.
@@ -330,7 +293,7 @@ impl ConnectionSleepers {
     ghost use Rattle.broker.specs.Rounds.{listing, listings_on, is_listed_there, Listing, HasListRoom, CanListOn, AreBelow};
     ghost use Rattle.broker.specs.Rounds.{AddsListing, IsNotedOn, IsListedOn, KeepListingsOn, SleepMore};
 
-    /// Makes no list. Never allocates.
+    /// Makes the listings of a connection, without a list for any channel. Never allocates.
     fn new(alloc: Global) -> ConnectionSleepers
         ensures { result ≡ [] }
     {
@@ -348,21 +311,14 @@ impl ConnectionSleepers {
         reserve_on(&mut self.channels, channel)
     }
 
-    /// Appends the listing of `consumer` in the round of `queue` to the list of its channel. Never allocates.
-    fn join(&mut self, queue: usize, consumer: Pick)
+    /// Appends the listing of `consumer` in the round of `queue` to the list of its channel; its waiter is at index `place` of the round. Never
+    /// allocates.
+    fn join(&mut self, queue: usize, consumer: Pick, place: usize)
         requires { CanListOn self.old consumer }
         ensures noted { IsNotedOn self.new (listing queue consumer) }
         ensures adds { (h : ℕ) → AddsListing (listing queue consumer) h (listings_on self.old h) (listings_on self.new h) }
     {
-        join_on(&mut self.channels, queue, consumer);
-    }
-
-    /// Removes the listings whose consumer is gone. Never allocates.
-    fn leave(&mut self, core: &Core)
-        ensures all { (h : ℕ) → (listings_on self.new h).all ≡ filter (is_listed_there core.now) (listings_on self.old h).all }
-        ensures kept { KeepListingsOn core.now self.old self.new }
-    {
-        leave_each(&mut self.channels, core);
+        join_on(&mut self.channels, queue, consumer, place);
     }
 
     /// Marks the listing of `consumer` in the round of `queue` as sleeping; its waiter is at index `place` of the round.
@@ -402,8 +358,8 @@ pub(crate) fn reserve_listing(
     }
 }
 
-/// Lists the waiter of `consumer` in the round of `queue`. There is capacity for it. Never allocates.
-pub(crate) fn join_listing(sleepers: &mut Sleepers, queue: usize, consumer: Pick)
+/// Lists the waiter of `consumer` at index `place` in the round of `queue`. There is capacity for it. Never allocates.
+pub(crate) fn join_listing(sleepers: &mut Sleepers, queue: usize, consumer: Pick, place: usize)
     requires { CanList sleepers.old.entries consumer }
     // The waiter is listed; nothing else changes.
     ensures noted { IsNoted sleepers.new.entries (listing queue consumer) }
@@ -413,18 +369,7 @@ pub(crate) fn join_listing(sleepers: &mut Sleepers, queue: usize, consumer: Pick
     ensures none { MakesNoList sleepers.old.entries sleepers.new.entries }
 {
     if let Some(channels) = sleepers.get_mut(&consumer.connection) {
-        channels.join(queue, consumer);
-    }
-}
-
-/// Removes the listings of those consumers of `connection` that are gone. Never allocates.
-pub(crate) fn leave_lists(sleepers: &mut Sleepers, core: &Core, connection: u64)
-    ensures kept { KeepLists core.now sleepers.old.entries sleepers.new.entries }
-    ensures left { ListingsLeave core.now connection sleepers.old.entries sleepers.new.entries }
-    ensures none { MakesNoList sleepers.old.entries sleepers.new.entries }
-{
-    if let Some(channels) = sleepers.get_mut(&connection) {
-        channels.leave(core);
+        channels.join(queue, consumer, place);
     }
 }
 

@@ -15,7 +15,7 @@ pub(crate) type PlaceMarks = Over<Flat>;
 pub(crate) struct Waiter {
     /// Its consumer.
     pub pick: Pick,
-    /// Whether picks pass over it.
+    /// Whether picks pass over the waiter.
     pub asleep: bool,
 }
 

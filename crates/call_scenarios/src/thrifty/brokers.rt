@@ -64,7 +64,7 @@ fn expect_silence(alloc: Global, broker: &mut Broker, event: &Event) -> Result<(
     expect("nothing is sent", step.sends.is_empty())
 }
 
-/// Checks that the consumer can take nothing until it requeues its message, and then only while it isn't paused.
+/// Checks that the consumer can take nothing until it requeues its message, and after that only while its connection isn't paused.
 fn expect_broker(alloc: Global, broker: &mut Broker) -> Result<(), Unmet> {
     expect("the consumer has what it may", broker.pick().is_none())?;
     let reject = Method::BasicReject(Reject {
@@ -95,7 +95,7 @@ pub(crate) fn a_broker_with_a_consumer_takes_no_memory(
     outcome
 }
 
-/// Returns whether a consumer can take a message, picked in a process without memory.
+/// Returns whether a pick, made while no memory is left, finds a consumer that can take a message.
 fn finds_one(rt: &HostRuntime, alloc: Global, broker: &mut Broker) -> Result<bool, Unmet> {
     let room = Room::of_all(rt, alloc)?;
     let found = broker.pick().is_some();

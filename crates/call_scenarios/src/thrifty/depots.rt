@@ -90,7 +90,7 @@ fn expect_purged(
     expect_number("the number of purged messages", purged as u64, expected)
 }
 
-/// Checks everything. A purge of a queue without ready messages doesn't allocate either.
+/// Makes all checks of a depot. A purge of a queue without ready messages doesn't allocate either.
 fn expect_depot(depot: &mut Depot, notes: &mut Notes) -> Result<(), Unmet>
     requires { vec_len notes.old < vec_capacity notes.old }
 {
@@ -108,7 +108,7 @@ fn expect_emptied(alloc: Global) -> Result<(), Unmet> {
     expect_number("that is noted", notes.len() as u64, 1)
 }
 
-/// Returns notes with spare capacity for one.
+/// Returns notes with spare capacity for one note.
 fn roomy_notes(alloc: Global) -> Result<Notes, Unmet>
     ensures { IfOk result (λ notes. vec_len notes < vec_capacity notes) }
 {

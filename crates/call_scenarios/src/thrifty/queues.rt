@@ -62,7 +62,7 @@ fn expect_emptied(queue: &mut Indexed, numbers: &mut Vec<u64>) -> Result<(), Unm
     expect_number("the number of what is purged", purged, MESSAGES)
 }
 
-/// Checks everything. Keeps the removed message until the end, so that no memory is freed meanwhile.
+/// Makes all checks of a queue. Keeps the removed message until the end, so that no memory is freed meanwhile.
 fn expect_queue(queue: &mut Indexed, numbers: &mut Vec<u64>) -> Result<(), Unmet> {
     expect_told(&*queue)?;
     let held = expect_held(queue)?;

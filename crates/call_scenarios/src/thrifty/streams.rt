@@ -12,7 +12,7 @@ use std::alloc::Global;
 /// The length of the longest frame, in bytes.
 const FRAME_MAX: u32 = 131_072;
 
-/// Checks that a stream without input has no command, whatever is set.
+/// Checks that a stream without input has no command, whatever frame size is set.
 fn expect_stream(stream: &mut Stream) -> Result<(), Unmet> {
     stream.set_max(FRAME_MAX);
     stream.set_running(true);

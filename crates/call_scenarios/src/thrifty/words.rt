@@ -11,10 +11,10 @@ use scenario_parts::{Unmet, expect, value_of};
 use std::alloc::Global;
 use word_automata::{Letters, Positions, Tracked};
 
-/// The matched prefixes of `orders.#` before any word: none of its tokens.
+/// The bit set of `orders.#` before any word: only its empty prefix matches.
 const BEFORE_ANY: u64 = 1;
 
-/// The matched prefixes after the word `orders`: its first token, and all of them.
+/// The bit set after the word `orders`: the prefix of one token matches, and the whole pattern.
 const BEHIND_ORDERS: u64 = 6;
 
 /// Returns whether `numbers` has exactly one number, `expected`.

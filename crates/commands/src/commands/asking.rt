@@ -20,13 +20,13 @@ pub(crate) enum Left<'a> {
     OpenChannel,
     /// The client closes the channel.
     AnswerClose,
-    /// The client closes the channel, which the server has closed, too; it goes on awaiting close-ok.
+    /// The client closes the channel, on which the server has sent a close already. The server still awaits close-ok.
     AnswerClosing,
     /// The client agrees to the server's close of the channel.
     EndChannel,
     /// The client closes the connection.
     CloseConnection,
-    /// The client asks about the queue at this index, which exists. That is answered unless `no_wait` is set.
+    /// The client asks about the queue at this index, which exists. It gets a reply unless `no_wait` is set.
     FindQueue(usize, &'a QueueDeclare),
 }
 

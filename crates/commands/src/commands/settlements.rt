@@ -19,8 +19,8 @@ use model::{Ack, ChannelId, Nack, Reject};
 use replies::{Step, recover_ok};
 use std::alloc::Global;
 
-/// Acknowledges the deliveries that the tag settles: they leave their queues. Fails only if it is refused or an allocation fails; nothing has
-/// changed then.
+/// Acknowledges the deliveries that the tag settles: their messages leave their queues. Fails only if the tag is refused or an allocation fails;
+/// nothing has changed then.
 pub(crate) fn ack(
     alloc: Global,
     id: ChannelId,
@@ -45,7 +45,7 @@ pub(crate) fn ack(
     Ok(step)
 }
 
-/// Requeues the deliveries that the tag settles: each message is ready again in its place. Never allocates.
+/// Requeues the deliveries that `tag` settles: each message is ready again in its place. Fails only if the tag is refused. Never allocates.
 fn requeue(
     id: ChannelId,
     channel: &mut Channel,
@@ -69,9 +69,9 @@ fn requeue(
     Ok(())
 }
 
-/// Rejects the deliveries that the tag settles. If `requeue` is set they are requeued, which never allocates. Otherwise they leave their queues in
-/// the order of tags, and are dead-lettered if the queue has a dead-letter exchange. Fails only if it is refused or an allocation fails;
-/// nothing has changed then.
+/// Rejects the deliveries that the tag settles. If `requeue` is set they are requeued, which never allocates. Otherwise their messages leave their
+/// queues in the order of tags, and are dead-lettered if the queue has a dead-letter exchange. Fails only if the tag is refused or an allocation
+/// fails; nothing has changed then.
 pub(crate) fn nack(
     alloc: Global,
     id: ChannelId,
@@ -112,7 +112,8 @@ pub(crate) fn nack_of(reject: &Reject) -> Nack
     }
 }
 
-/// Requeues all deliveries of the channel, and replies with `basic.recover-ok`. Without requeue it is not implemented and refused.
+/// Requeues all unacknowledged deliveries of the channel, and replies with `basic.recover-ok`. Refuses a recover without `is_requeue`, which is
+/// not implemented.
 pub(crate) fn recover(
     alloc: Global,
     id: ChannelId,

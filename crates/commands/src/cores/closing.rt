@@ -54,7 +54,7 @@ impl Core {
         })
     }
 
-    /// Requeues what the channel held, and puts `channel` in its place.
+    /// Requeues the unacknowledged deliveries of the channel, and replaces it by `channel`, or removes it if that is `None`.
     fn clear(&mut self, connection: u64, number: u16, channel: Option<Channel>)
         // What the caller knows: the channel is open, and the new one holds nothing and has no consumer.
         requires agreed { IsAgreed (broker_of self.old) }
@@ -72,7 +72,7 @@ impl Core {
         self.connections.put(connection, number, channel);
     }
 
-    /// Sends `send`, a close, on the channel, which awaits close-ok then.
+    /// Sends `send`, a close, on the channel. The channel awaits close-ok then, and its unacknowledged messages are ready again.
     fn close_channel(
         &mut self,
         alloc: Global,
@@ -119,7 +119,7 @@ impl Core {
         Ok(step)
     }
 
-    /// Handles the client's `channel.close` on a channel that awaits close-ok: replies with close-ok. It goes on awaiting it.
+    /// Handles the client's `channel.close` on a channel that awaits close-ok: replies with close-ok. The channel still awaits the client's.
     pub(crate) fn answer_closing(
         &self,
         alloc: Global,

@@ -48,8 +48,8 @@ impl Core {
         }
     }
 
-    /// Delivers the first ready message of the consumer's queue to `pick`; such a delivery can be made. The message leaves the queue if it needs no
-    /// acknowledgement. Fails only if an allocation fails; nothing has changed then.
+    /// Delivers the first ready message of its queue to the consumer `pick`, to which a delivery can be made. The message leaves the queue if it needs
+    /// no acknowledgement. Fails only if an allocation fails; nothing has changed then.
     pub fn deliver(&mut self, alloc: Global, pick: Pick) -> Result<Step, AllocError>
         requires agreed { IsAgreed (broker_of self.old) }
         requires picked { IsPick (broker_of self.old) pick }

@@ -1,4 +1,4 @@
-//! Finds out whether what is about to be done ends consumers.
+//! Finds out whether an event is about to end consumers.
 
 use crate::cores::Core;
 use model::{ChannelId, Method};

@@ -1,4 +1,4 @@
-//! Numbers consumers: existing ones, and one that is about to be made.
+//! The consumer that an event is about to make: its numbers, and its queue.
 
 ghost use Rattle.std.specs.Prelude.{◌≡◌, option_map};
 ghost use Rattle.commands.specs.NewConsumers.{is_consume, consumed_by, consumed};
@@ -14,7 +14,7 @@ fn is_consume(method: &Method) -> bool
     matches!(method, Method::BasicConsume(_))
 }
 
-/// Returns the queue from which a method consumes.
+/// Returns the name of the queue from which `method` consumes, if it is a consume.
 fn consumed_by(method: &Method) -> Option<&Text>
     ensures { option_map (λ q. q.now) result ≡ consumed_by method.now }
 {
@@ -24,7 +24,7 @@ fn consumed_by(method: &Method) -> Option<&Text>
     }
 }
 
-/// Returns the queue from which an event consumes.
+/// Returns the name of the queue from which `event` consumes, if it is a consume.
 fn consumed(event: &Event) -> Option<&Text>
     ensures { option_map (λ q. q.now) result ≡ consumed event.now }
 {
@@ -40,7 +40,8 @@ impl Core {
     ghost use Rattle.commands.specs.State.{topology_kept};
     ghost use Rattle.commands.specs.NewConsumers.{next_consumer, consumer_to_make, IsConsumed, IsNewest};
 
-    /// Returns the numbers of this channel's next consumer, which are newer than all there. `None` if a consume does nothing there.
+    /// Returns the numbers of this channel's next consumer; each consumer of the channel has a smaller number. `None` if a consume does nothing:
+    /// the connection is not running, or the channel awaits close-ok.
     fn next_consumer(&self, connection: u64, channel: u16) -> Option<Pick>
         ensures seat { result ≡ next_consumer connection channel (running_in self.now.connections connection) }
         ensures newest { IfSome result (IsNewest self.now) }
@@ -54,7 +55,7 @@ impl Core {
         })
     }
 
-    /// Returns the numbers of the consumer that `event` is going to make, which are newer than all on its channel.
+    /// Returns the numbers of the consumer that `event` is going to make if it is a consume; each consumer of its channel has a smaller number.
     pub fn consumer_to_make(&self, event: &Event) -> Option<Pick>
         ensures seat { result ≡ consumer_to_make self.now event.now }
         ensures newest { IfSome result (IsNewest self.now) }

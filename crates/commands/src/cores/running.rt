@@ -11,8 +11,8 @@ impl Core {
     ghost use Rattle.model.specs.declared.events.Event.TheVariants as event_is;
     ghost use Rattle.commands.specs.State.{broker_of, topology_kept};
 
-    /// Makes `connection` a running one, with channels 1 to `channels` open and new. What an earlier connection of this number held is ready
-    /// again. Fails only if an allocation fails; nothing has changed then.
+    /// Makes `connection` a running one, with channels 1 to `channels` open and new. The unacknowledged messages of an earlier connection of this
+    /// number are ready again. Fails only if an allocation fails; nothing has changed then.
     pub fn open(
         &mut self,
         alloc: Global,
@@ -33,7 +33,7 @@ impl Core {
         Ok(())
     }
 
-    /// Removes the connection: what it held is ready again.
+    /// Removes the connection: its unacknowledged messages are ready again.
     pub(crate) fn go(&mut self, connection: u64)
         requires { IsAgreed (broker_of self.old) }
         ensures gone { Is (with_gone (broker_of self.old) connection) (broker_of self.new) }

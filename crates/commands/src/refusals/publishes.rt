@@ -29,7 +29,7 @@ fn check_access(access: Access) -> Result<(), Refusal>
     }
 }
 
-/// Refuses a publish if no number is left for it, or, if the channel confirms, for its confirm.
+/// Refuses a publish if no publish number is left, or, on a channel in confirm mode, no confirm number.
 fn check_counters(published: u64, channel: &Channel) -> Result<(), Refusal>
     ensures refusal { (b : Broker) (names : List Name) → b.published ≡ published → refused_by result ≡ said.refusal_of_count b (open_in names channel.now) }
     ensures published { OnOk result (published < greatest) }

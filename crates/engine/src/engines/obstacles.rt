@@ -1,4 +1,4 @@
-//! The obstacle to a reload, asked before it is done.
+//! Finds the obstacle to a reload before the reload is done.
 
 use crate::engines::Engine;
 use crate::setups::Setup;

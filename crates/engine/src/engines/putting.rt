@@ -17,7 +17,7 @@ use model::User;
 use runs::ReloadFault;
 use std::alloc::Global;
 
-/// Makes the broker run `topology`, unless there is an obstacle to it with `guarantees`.
+/// Makes the broker run `topology`, unless it and `guarantees` have an obstacle: then reports the first and changes nothing.
 fn put(
     alloc: Global,
     broker: &mut Broker,

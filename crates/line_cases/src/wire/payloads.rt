@@ -24,7 +24,7 @@ fn put_written_method(out: &mut LineAnswer, method: &Method, payload: &[u8]) {
     }
 }
 
-/// Appends `read` if the payload is a method that is written with the same bytes, or the reply code.
+/// Reads the payload as a method. Appends `read` if it is read and written again as the same bytes, or the reply code if it is refused.
 pub fn put_method(out: &mut LineAnswer, payload: &[u8]) {
     match read_method(out.alloc(), payload) {
         Ok(method) => put_written_method(out, &method, payload),
@@ -55,7 +55,7 @@ fn put_written_header(out: &mut LineAnswer, header: &Header, payload: &[u8]) {
     }
 }
 
-/// Appends `read` if the payload is a header that is written with the same bytes, or the reply code.
+/// Reads the payload as a header. Appends `read` if it is read and written again as the same bytes, or the reply code if it is refused.
 pub fn put_header(out: &mut LineAnswer, payload: &[u8]) {
     match read_header(out.alloc(), payload) {
         Ok(header) => put_written_header(out, &header, payload),
@@ -71,7 +71,7 @@ pub fn put_size(out: &mut LineAnswer, payload: &[u8]) {
     }
 }
 
-/// Appends the outcome of writing a header with these properties: `written`, or the reply code if nothing was appended.
+/// Appends the outcome of writing a header with `properties`: `written`, or the reply code if nothing was appended.
 fn put_outcome(out: &mut LineAnswer, properties: &Properties) {
     let mut written = Vec::new(out.alloc());
     match write_header(&mut written, 5, properties) {
@@ -82,7 +82,7 @@ fn put_outcome(out: &mut LineAnswer, properties: &Properties) {
     }
 }
 
-/// Appends the outcome of writing a header with this content type as its only property.
+/// Appends the outcome of writing a header with `content_type` as its only property.
 fn put_typed(out: &mut LineAnswer, content_type: Text) {
     let mut fields = Fields::none();
     fields.content_type = Some(content_type);
@@ -92,7 +92,7 @@ fn put_typed(out: &mut LineAnswer, content_type: Text) {
     }
 }
 
-/// Appends the outcome of writing a header with a content type of these bytes.
+/// Appends the outcome of writing a header with `bytes` as its content type.
 pub fn put_content_type(out: &mut LineAnswer, bytes: &[u8]) {
     match Text::from_slice(out.alloc(), bytes) {
         Ok(text) => put_typed(out, text),

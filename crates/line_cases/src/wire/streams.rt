@@ -125,7 +125,7 @@ fn take_one(out: &mut LineAnswer, stream: &mut Stream) -> Took {
     }
 }
 
-/// Appends the commands that are complete, and a fault after them, if there is one. Returns whether there is none.
+/// Appends the commands that are complete, and a fault after them, if there is one. Returns whether there is no fault.
 fn take_all(out: &mut LineAnswer, stream: &mut Stream) -> bool {
     for _ in 0..MOST {
         match take_one(out, stream) {
@@ -191,7 +191,7 @@ fn hear(out: &mut LineAnswer, stream: &mut Stream, piece: &[u8]) {
     take_all(out, stream);
 }
 
-/// Returns the commands of two pieces.
+/// Returns the commands of a stream that is fed the pieces `first` and `second`.
 fn heard(out: &mut LineAnswer, first: &[u8], second: &[u8]) -> String {
     let mut stream = Stream::running(out.alloc());
     let mut said = LineAnswer::new(out.alloc());
@@ -200,7 +200,7 @@ fn heard(out: &mut LineAnswer, first: &[u8], second: &[u8]) -> String {
     said.into_part_of(out)
 }
 
-/// Returns the commands of single bytes.
+/// Returns the commands of a stream that is fed `bytes` one by one.
 fn heard_by_bytes(out: &mut LineAnswer, bytes: &[u8]) -> String {
     let mut stream = Stream::running(out.alloc());
     let mut said = LineAnswer::new(out.alloc());

@@ -27,7 +27,7 @@ fn put_not_admitted(out: &mut LineAnswer, place: usize, fault: &CertFault) {
     out.put_number(place as u64);
 }
 
-/// Admits these guarantees and answers the line.
+/// Admits the guarantees of a file by its certificates and answers the line.
 fn answer_of_guarantees(
     out: &mut LineAnswer,
     topology: Topology,

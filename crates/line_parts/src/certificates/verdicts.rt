@@ -135,7 +135,7 @@ fn push_name(out: &mut LineAnswer, path: &mut Vec<Text>, name: &str) {
     }
 }
 
-/// Returns the path of these names.
+/// Returns a path with the names `names`.
 fn path_of(out: &mut LineAnswer, names: &[&str]) -> Vec<Text> {
     let mut path = Vec::new(out.alloc());
     for name in names {
@@ -144,7 +144,7 @@ fn path_of(out: &mut LineAnswer, names: &[&str]) -> Vec<Text> {
     path
 }
 
-/// Appends whether `key`, with a path of these names, disproves the guarantee.
+/// Appends whether `key`, with a path of the given names, disproves the guarantee.
 fn put_disproved(
     out: &mut LineAnswer,
     topology: &Topology,

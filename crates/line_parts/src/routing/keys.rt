@@ -94,7 +94,7 @@ fn put_places_of(out: &mut LineAnswer, key: &str, texts: &[&str]) {
     }
 }
 
-/// Returns the indices of the patterns that match `key`, and the trie's count.
+/// Returns the indices of the patterns that match `key`, and the count of [`Trie::matches_counted`].
 fn counted_by(
     alloc: Global,
     patterns: Vec<Pattern>,
@@ -103,7 +103,7 @@ fn counted_by(
     Trie::new(alloc, patterns)?.matches_counted(alloc, key.as_bytes())
 }
 
-/// Appends a trie's count.
+/// Appends the `count` that a trie returned.
 fn put_count(out: &mut LineAnswer, count: u128) {
     match format!(in out.alloc(); " count {count}") {
         Ok(text) => out.put(text.as_str()),
@@ -111,7 +111,7 @@ fn put_count(out: &mut LineAnswer, count: u128) {
     }
 }
 
-/// Appends the indices of the patterns that match `key`, and the trie's count.
+/// Appends the indices of the patterns that match `key`, and the count that [`Trie::matches_counted`] returns.
 fn put_counted(out: &mut LineAnswer, patterns: Vec<Pattern>, key: &str) {
     match counted_by(out.alloc(), patterns, key) {
         Ok((places, count)) => {
@@ -122,7 +122,7 @@ fn put_counted(out: &mut LineAnswer, patterns: Vec<Pattern>, key: &str) {
     }
 }
 
-/// Appends the indices of the `texts` that match `key` as patterns, and the trie's count.
+/// Appends the indices of the `texts` that match `key` as patterns, and the count of [`Trie::matches_counted`].
 fn put_counted_of(out: &mut LineAnswer, key: &str, texts: &[&str]) {
     let patterns = patterns_of(out, texts);
     put_counted(out, patterns, key);
@@ -139,7 +139,7 @@ fn push_numbered(out: &mut LineAnswer, patterns: &mut Vec<Pattern>, text: &str, 
     }
 }
 
-/// Returns the pattern of `text` for each number in `from..to`.
+/// Returns the patterns of `text` with each number in `from..to` in place of its `%`.
 fn numbered(out: &mut LineAnswer, from: u32, to: u32, text: &str) -> Vec<Pattern> {
     let mut patterns = Vec::new(out.alloc());
     for number in from..to {

@@ -91,7 +91,7 @@ fn put_plain<S: Store>(out: &mut LineAnswer, store: &mut S, name: &str) {
     }
 }
 
-/// Makes the call `name` with these numbers, and appends its result.
+/// Makes the call `name` with `numbers` as its arguments, and appends its result.
 pub(crate) fn put_call<S: Store>(out: &mut LineAnswer, store: &mut S, name: &str, numbers: &[u32]) {
     match *numbers {
         [] => put_plain(out, store, name),

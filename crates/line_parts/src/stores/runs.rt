@@ -26,7 +26,7 @@ fn put_word<S: Store>(out: &mut LineAnswer, store: &mut S, word: &str) {
     }
 }
 
-/// Returns the results of these calls of a queue that is empty at first.
+/// Returns the results of the calls that `words` write, made of a queue that is empty at first.
 fn answers_of<S: Store>(out: &mut LineAnswer, words: &[&str]) -> String {
     let mut answers = LineAnswer::new(out.alloc());
     let mut store = S::new(out.alloc());

@@ -16,7 +16,7 @@ pub(crate) struct Tags {
 }
 
 impl Tags {
-    /// Returns the holder with the tag `index` after the first.
+    /// Returns the holder whose tag is `index` after the first tag.
     fn holder(&self, index: u32, by: Taker) -> Holder {
         Holder {
             connection: u64::from(self.connection),
@@ -26,7 +26,7 @@ impl Tags {
         }
     }
 
-    /// Returns the arrival number `index` after that of the first tag.
+    /// Returns the arrival number of the message under the tag `index` after the first.
     fn arrival(&self, index: u32) -> u64 {
         u64::from(self.arrival) + u64::from(index)
     }
@@ -38,7 +38,7 @@ pub(crate) fn put_count(out: &mut LineAnswer, count: u64) {
     out.put_number(count);
 }
 
-/// Holds the first ready message, unless one is held under this tag. Returns whether one was held.
+/// Gives the first ready message to `holder`, unless one is held under its tag already. Returns whether a message was given.
 fn is_given<S: Store>(store: &mut S, holder: Holder) -> bool {
     if store.held(&holder, 0).is_some() {
         return false;

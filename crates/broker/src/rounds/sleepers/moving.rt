@@ -19,7 +19,7 @@ impl Listed {
     }
 }
 
-/// Does the same for each of `listed`.
+/// Sets the queue's index of each of `listed` to the one that `places` has for it.
 fn move_listed(listed: &mut [Listed], places: &[usize])
     ensures { listed.new ≡ map (listing_moved places.now) listed.old }
 {
@@ -32,7 +32,7 @@ impl ChannelSleepers {
     ghost use Rattle.std.specs.Prelude.{◌≡◌};
     ghost use Rattle.broker.specs.Moving.{listings_moved};
 
-    /// Does the same for each listing of the channel.
+    /// Sets the queue's index of each listing of the channel to the one that `places` has for it.
     fn relocate(&mut self, places: &[usize])
         ensures { self.new ≡ listings_moved places.now self.old }
     {
@@ -40,7 +40,7 @@ impl ChannelSleepers {
     }
 }
 
-/// Does the same for each listing of these channels.
+/// Sets the queue's index of each listing of `channels` to the one that `places` has for it.
 fn move_each(channels: &mut [ChannelSleepers], places: &[usize])
     ensures { channels.new ≡ map (listings_moved places.now) channels.old }
 {
@@ -53,7 +53,7 @@ impl ConnectionSleepers {
     ghost use Rattle.std.specs.Prelude.{◌≡◌};
     ghost use Rattle.broker.specs.Moving.{channels_moved};
 
-    /// Does the same for each listing of the connection.
+    /// Sets the queue's index of each listing of the connection to the one that `places` has for it.
     fn relocate(&mut self, places: &[usize])
         ensures { self.new ≡ channels_moved places.now self.old }
     {

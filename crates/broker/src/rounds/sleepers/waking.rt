@@ -13,7 +13,7 @@ impl Listed {
     ghost use Rattle.std.specs.Prelude.{◌≡◌, length};
     ghost use Rattle.broker.specs.Rounds.{IsWoken, AllWaken};
 
-    /// Wakes its waiter.
+    /// Wakes the listed waiter.
     fn wake(&self, rounds: &mut QueueRounds)
         ensures woken { IsWoken rounds.old rounds.new self.now }
         ensures wakens { AllWaken rounds.old rounds.new }
@@ -23,7 +23,7 @@ impl Listed {
     }
 }
 
-/// Wakes the waiters of those that are marked as sleeping, and clears their bits.
+/// Wakes the waiters of the listings that are marked as sleeping, and clears the marks.
 fn wake_listed(listed: &[Listed], asleep: &mut PlaceMarks, rounds: &mut QueueRounds)
     requires { length listed.now ≤ length asleep.old * 64 }
     ensures size { length asleep.new ≡ length asleep.old }
@@ -46,7 +46,7 @@ impl ChannelSleepers {
     ghost use Rattle.std.specs.Prelude.{◌≡◌, length};
     ghost use Rattle.broker.specs.Rounds.{WakesListed, AllWaken};
 
-    /// Wakes all waiters of the channel.
+    /// Wakes the waiters that sleep on this channel.
     fn wake(&mut self, rounds: &mut QueueRounds)
         ensures same { self.new.all ≡ self.old.all }
         ensures woken { WakesListed self.old rounds.old rounds.new }
@@ -71,7 +71,7 @@ fn wake_one(channels: &mut [ChannelSleepers], rounds: &mut QueueRounds, channel:
     }
 }
 
-/// Wakes the waiters that sleep on any channel.
+/// Wakes the waiters that sleep on any of `channels`.
 fn wake_each(channels: &mut [ChannelSleepers], rounds: &mut QueueRounds)
     ensures same { (h : ℕ) → (listings_on channels.new h).all ≡ (listings_on channels.old h).all }
     ensures woken { (h : ℕ) → WakesListed (listings_on channels.old h) rounds.old rounds.new }
@@ -104,7 +104,7 @@ impl ConnectionSleepers {
     ghost use Rattle.std.specs.Prelude.{◌≡◌, ℕ, true, false, length};
     ghost use Rattle.broker.specs.Rounds.{is_on_channel, listings_on, Listing, IsListedOn, IsNotedOn, IsWoken, AllWaken};
 
-    /// Wakes its waiters that sleep on `channel`, or on any if it is `None`.
+    /// Wakes the connection's waiters that sleep on `channel`, or on any channel if that is `None`.
     fn wake(&mut self, rounds: &mut QueueRounds, channel: Option<u16>)
         // The frame: listings stay, and so do sleepers of other channels.
         ensures others { (l : Listing) → is_on_channel channel l.consumer ≡ false → IsListedOn self.old l → IsListedOn self.new l }
@@ -119,8 +119,8 @@ impl ConnectionSleepers {
     }
 }
 
-/// Wakes the waiters of `connection` that sleep on `channel`, or on any if it is `None`. All others are
-/// listed as before. Never allocates.
+/// Wakes the waiters of `connection` that sleep on `channel`, or on any channel if that is `None`. All others are still listed as before. Never
+/// allocates.
 pub(crate) fn wake_connection(
     sleepers: &mut Sleepers,
     rounds: &mut QueueRounds,

@@ -1,16 +1,24 @@
-use Rattle.depot.proofs.Names.{◌∙◌, get_or}
-use Rattle.depot.proofs.Rooms.{emptied_more, emptied_one, gains_more, times_next}
+use Rattle.depot.proofs.Names.{◌∙◌, arith}
+use Rattle.depot.proofs.Rooms.{arrivals_next, arrives_at, arriving_at-length, emptied_more, emptied_one, gains_more}
 use Rattle.depot.proofs.promising.give_back_all.Goals as goal
 
-pub loop-place-preserved : goal.loop-place-preserved
-loop-place-preserved c =
-    let inv = c.loop-place.invariant in
-    let i = c.loop-place.place-index in
+pub give_back_at-requires : goal.give_back_at-requires
+give_back_at-requires c =
+    let all = arriving_at-length c.args.arrivals.now in
+    let len = c.loop-arrival.invariant.len in
+    let before = c.loop-arrival-test.true in
+    let lt = c.requires c.loop-arrival.arrival-index 0 (omega arith) in
+    let here = arrives_at c.args.arrivals.now c.loop-arrival.arrival-index c.arrival-item.result before c.arrival-item.is in
+    omega arith
+
+pub loop-arrival-preserved : goal.loop-arrival-preserved
+loop-arrival-preserved c =
+    let inv = c.loop-arrival.invariant in
     record {
       len = c.give_back_at.ensures.len ∙ inv.len;
       same = c.give_back_at.ensures.same ∙ inv.same;
-      gains = gains_more c.args.queues.now c.loop-place.queues c.give_back_at.new.queues inv.gains c.give_back_at.ensures.gains;
+      gains = gains_more c.args.queues.now c.loop-arrival.queues c.give_back_at.new.queues inv.gains c.give_back_at.ensures.gains;
       emptied =
-          emptied_more c.loop-place.queues c.give_back_at.new.queues _ _ _ (λ k. times_next k c.args.roomy.now i c.loop-place-test.true)
-          inv.emptied c.give_back_at.ensures.gains (emptied_one c.give_back_at.new.queues (get_or c.args.roomy.now i 0) c.give_back_at.ensures.emptied);
+          emptied_more c.loop-arrival.queues c.give_back_at.new.queues _ _ _ (λ k. arrivals_next k c.args.arrivals.now c.loop-arrival.arrival-index c.arrival-item.result c.loop-arrival-test.true c.arrival-item.is)
+          inv.emptied c.give_back_at.ensures.gains (emptied_one c.give_back_at.new.queues c.arrival-item.result.place c.give_back_at.ensures.emptied);
     }

@@ -1,19 +1,27 @@
-use Rattle.depot.proofs.Names.{◌≡◌, ◌∙◌, [], ◌++◌, List, ℕ, refl, sym, ap, subst, Option, Some, get_or, Text, Topology, is_held_as, Entry, Holder, Rejected, Left, queue_name, Death, entries_of, holder_of_delivery, Plans, given_at}
+use Rattle.depot.proofs.Names.{◌≡◌, ◌∙◌, ◌++◌, ◌∷◌, [], ℕ, List, ap, sym, Some, get_or, Topology, is_held_as, Holder, Note, Rejected, Left, queue_name, entries_of, holder_of_delivery, given_at}
 use Rattle.std.proofs.Common.{find}
+use Rattle.depot.proofs.Foreseen.{given_foreseen}
 use Rattle.depot.proofs.Planned.{name_there}
+use Rattle.depot.proofs.Rejected.{on_ok}
 use Rattle.depot.proofs.rejecting.plan_one.Goals as goal
 
-pub returns-clause-planned : goal.returns-clause-planned
-returns-clause-planned c =
+pub returns-clause-ok : goal.returns-clause-ok
+returns-clause-ok c =
     let g = c.args.given.now in
     let t = c.args.router.now in
-    let p = is_held_as (holder_of_delivery c.args.id.connection c.args.id.number g) in
+    let old = entries_of c.args.queues.now in
+    let e = c.in-Some.entry.now in
+    let name = c.in_ok-queue.queue in
+    let notes = c.args.notes.now.items in
     let line = c.queue.result.now in
-    let lt = c.requires.within in
-    let there : get_or (entries_of c.args.queues.now) g.queue [] ≡ line.entries = sym c.queue.ensures in
-    let found : given_at c.args.id.connection c.args.id.number (entries_of c.args.queues.now) g ≡ Some c.in-Some.entry.now =
-    ap (find p) there ∙ ap (λ (a : Holder). find (is_held_as a) line.entries) (sym c.holder-holder.ensures) ∙ sym c.in-Some.ensures in
+    let there : get_or old g.queue [] ≡ line.entries = sym c.queue.ensures in
+    let found : given_at c.args.id.connection c.args.id.number old g ≡ Some e =
+    ap (find (is_held_as (holder_of_delivery c.args.id.connection c.args.id.number g))) there ∙ ap (λ (a : Holder). find (is_held_as a) line.entries) (sym c.holder-holder.ensures) ∙ sym c.in-Some.ensures in
     let there_too : c.queue-2.result.now ≡ get_or t.queues g.queue c.queue-2.result.now = c.queue-2.ensures ∙ ap (λ (u : Topology). get_or u.queues g.queue c.queue-2.result.now) c.topology.ensures in
-    let name : c.in_ok-clone.field-0 ≡ queue_name t g.queue = c.in_ok-clone.ensures ∙ name_there t.queues g.queue c.queue-2.result.now lt there_too in
-    subst (λ (o : Option Entry). (x : List Death) × (c.push.new.self.items ≡ c.args.deaths.now.items ++ x) × Plans t c.args.id.connection c.args.id.number g o x) (sym found)
-    (_, c.in_ok-push.ensures.items, (_, refl, record { place = refl; holder = c.holder-holder.ensures; note = ap (λ (n : ℕ). Left n c.in_ok-clone.field-0 Rejected) c.number.ensures ∙ ap (λ (q : Text). Left c.in-Some.entry.now.message.number q Rejected) name; letters = c.in_ok-turns.ensures.letters }))
+    let named : name ≡ queue_name t g.queue = c.in_ok-queue.ensures ∙ name_there t.queues g.queue c.queue-2.result.now c.requires.within there_too in
+    let first : c.push_reserved.new.self.items ≡ notes ++ Left e.message.number name Rejected ∷ [] =
+    c.push_reserved.ensures.items ∙ ap (λ (ns : List Note). ns ++ Left c.number.result name Rejected ∷ []) c.in_ok-reserve.ensures.items ∙ ap (λ (n : ℕ). notes ++ Left n name Rejected ∷ []) c.number.ensures in
+    on_ok c.plan_letter.result _ _
+    (λ letters entries are.
+    given_foreseen t c.args.id.connection c.args.id.number g e name old entries c.args.plan.now.tallies.entries c.plan_letter.new.plan.tallies.entries c.args.plan.now.arrivals.items c.plan_letter.new.plan.arrivals.items
+    notes c.push_reserved.new.self.items c.plan_letter.new.notes.items found named first are letters) c.plan_letter.ensures.ok

@@ -1,14 +1,18 @@
 use Rattle.broker.proofs.Names.{[], refl, subst, Lose, Kept, Rounds, loss_ended, WithTurn, with_turn, NoneIsLater}
 use Rattle.commands.specs.State.{broker_of, topology_kept}
 use Rattle.broker.proofs.Joined.{holds, was_there, serves, serves_asleep, serves_kept, running_but}
+use Rattle.broker.proofs.Leaving.{its_waiters}
 use Rattle.broker.proofs.Staying.{others_stay, own_left, listed_left, none_listed}
 use Rattle.broker.proofs.Turning.{none_later, round_same, round_left}
 use Rattle.broker.proofs.brokers.Broker.lose.Goals as goal
 
-pub leave-requires : goal.leave-requires
-leave-requires c = λ e.
+pub leave-requires-clause-ended : goal.leave-requires-clause-ended
+leave-requires-clause-ended c = λ e.
     let old : Kept = c.self.inside.core in
     (loss_ended (topology_kept old) (broker_of old) (broker_of c.lose.new.self) [] [] c.args.connection c.lose.ensures.acts).0
+
+pub leave-requires-clause-listed : goal.leave-requires-clause-listed
+leave-requires-clause-listed c = its_waiters c.self.inside.core c.self.inside.rounds c.args.connection c.self.invariant
 
 pub invariant_of-self : goal.invariant_of-self
 invariant_of-self c =

@@ -2,6 +2,7 @@ use Rattle.broker.proofs.Names.{[], refl, sym, subst, Acts, Rounds, IsServing, K
 use Rattle.model.specs.declared.events.Event.TheVariants.{Running}
 use Rattle.commands.specs.State.{broker_of, topology_kept}
 use Rattle.broker.proofs.Joined.{holds, was_there, serves, serves_asleep, serves_kept, running_still}
+use Rattle.broker.proofs.Leaving.{its_waiters}
 use Rattle.broker.proofs.Staying.{others_stay, own_left, listed_left, none_listed}
 use Rattle.broker.proofs.Turning.{none_later, round_same, round_left}
 use Rattle.broker.proofs.brokers.Broker.open.Goals as goal
@@ -9,6 +10,9 @@ use Rattle.broker.proofs.brokers.Broker.open.Goals as goal
 -- after an allocation failure
 pub invariant_of-self : goal.invariant_of-self
 invariant_of-self c = subst (λ (k : Kept). IsServing k c.self.inside.rounds) (sym c.in_err-open.ensures.err) c.self.invariant
+
+pub leave-requires-clause-listed : goal.leave-requires-clause-listed
+leave-requires-clause-listed c = its_waiters c.self.inside.core c.self.inside.rounds c.args.connection c.self.invariant
 
 -- where it runs
 pub invariant_of-self-2 : goal.invariant_of-self-2

@@ -2,8 +2,8 @@ use Rattle.broker.proofs.Names.{◌∙◌, ℕ, sym, ap, subst, Rounds, IsServin
 use Rattle.commands.specs.State.{broker_of}
 use Rattle.broker.proofs.Outcomes.{on_err}
 use Rattle.broker.proofs.Joined.{holds}
-use Rattle.broker.proofs.Staying.{listed_same}
-use Rattle.broker.proofs.Stepped.{goes, serving_on, round_then, has_ended, own_held, serving_held, own_left_then, serving_left}
+use Rattle.broker.proofs.Staying.{own_same, listed_same}
+use Rattle.broker.proofs.Stepped.{goes, serving_on, round_then, has_ended, own_held, serving_held, lists_waiters, own_left_then, serving_left}
 use Rattle.broker.proofs.Turning.{same_turns, none_back, round_left, waiters_own}
 use Rattle.broker.proofs.brokers.Broker.step.Goals as goal
 
@@ -16,6 +16,9 @@ returns-in_default-clause-addressed c = rw (← c.self.view_is) c.in_ok-acted.en
 -- what is listed is listed of consumers that are there
 pub expect_next-requires-clause-listed : goal.expect_next-requires-clause-listed
 expect_next-requires-clause-listed c = listed_same c.self.inside.core c.self.inside.rounds.lists c.wake_for.new.self.lists c.wake_for.ensures.same c.self.invariant.listed
+
+pub expect_next-requires-clause-own : goal.expect_next-requires-clause-own
+expect_next-requires-clause-own c = own_same c.self.inside.core c.self.inside.rounds.rounds c.wake_for.new.self.rounds c.wake_for.ensures.on.same c.self.invariant.own
 
 -- if an allocation fails for the newcomer
 pub invariant_of-self : goal.invariant_of-self
@@ -39,12 +42,18 @@ invariant_of-self-in-Nothing c =
     runs stay c.join.ensures.adds
 
 -- and where something did
-pub leave-requires : goal.leave-requires
-leave-requires c =
+pub leave-requires-clause-ended : goal.leave-requires-clause-ended
+leave-requires-clause-ended c =
     let old : Kept = c.self.inside.core in
     let new : Kept = c.step.new.self in
     has_ended c.connection_of.result c.in_ok-acted.acted.ends (broker_of old) (broker_of new)
     (subst (λ (d : ℕ). TellsEnd d c.in_ok-acted.acted.ends (broker_of old) (broker_of new)) (sym c.connection_of.ensures) c.in_ok-acted.ensures.ended)
+
+pub leave-requires-clause-listed : goal.leave-requires-clause-listed
+leave-requires-clause-listed c =
+    lists_waiters c.self.inside.core c.self.inside.rounds c.wake_for.new.self c.expect_next.new.self c.args.event.now c.self.invariant c.wake_for.ensures.kept c.wake_for.ensures.noted c.wake_for.ensures.none c.wake_for.ensures.on c.expect_next.ensures.kept c.expect_next.ensures.noted c.expect_next.ensures.running c.expect_next.ensures.on c.wake_for.ensures.same c.expect_next.ensures.same
+    c.brokers_stay_agreed.ensures.acts c.consumers_are_made.ensures c.step.new.self c.join.new.self c.in_ok-newcomer.newcomer _ _ c.in_ok-acted.ensures.ok c.step.ensures.topology c.wake_for.ensures.woken c.expect_next.ensures.wakens c.in_ok-newcomer.ensures.expected c.join.ensures.joined c.join.ensures.kept c.join.ensures.noted c.join.ensures.listed c.join.ensures.none c.join.ensures.len
+    c.connection_of.result c.join.ensures.adds
 
 pub invariant_of-self-in_default : goal.invariant_of-self-in_default
 invariant_of-self-in_default c =

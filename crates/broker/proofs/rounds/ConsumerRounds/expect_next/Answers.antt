@@ -1,8 +1,9 @@
-use Rattle.broker.proofs.Names.{refl, sym, subst, Rounds, round_at, AllListedAreThere, IsInItsRound, GoesOn}
+use Rattle.broker.proofs.Names.{refl, sym, subst, Rounds, round_at, AllAreConsumers, AllListedAreThere, IsInItsRound, GoesOn}
 use Rattle.commands.specs.State.{broker_of}
 use Rattle.broker.proofs.Orders.{goes_on}
 use Rattle.broker.proofs.Sleeping.{joined_more, joined_woken}
-use Rattle.broker.proofs.Takers.{newest_last}
+use Rattle.broker.proofs.Staying.{own_same}
+use Rattle.broker.proofs.Takers.{newest_last, newest_absent}
 use Rattle.broker.proofs.rounds.ConsumerRounds.expect_next.Goals as goal
 
 -- nothing of as great a number is listed
@@ -42,3 +43,11 @@ returns-clause-on c =
     let new : Rounds = record { rounds = c.reserve.new.self; lists = c.reserve_listing.new.sleepers.entries; next = c.self.inside.next } in
     let old : Rounds = record { rounds = c.self.inside.rounds; lists = c.self.inside.sleepers.entries; next = c.self.inside.next } in
     subst (λ (r : Rounds). GoesOn r new) c.self.view_is (goes_on old new c.reserve.ensures.wakens c.reserve.ensures.len refl)
+
+-- it is not there yet
+pub returns-clause-absent : goal.returns-clause-absent
+returns-clause-absent c =
+    let new : Rounds = record { rounds = c.reserve.new.self; lists = c.reserve_listing.new.sleepers.entries; next = c.self.inside.next } in
+    let old : Rounds = record { rounds = c.self.inside.rounds; lists = c.self.inside.sleepers.entries; next = c.self.inside.next } in
+    newest_absent c.args.core.now c.reserve.new.self c.in-Some-queue_consumed.queue c.in-Some.consumer c.in-Some.ensures.newest
+    (own_same c.args.core.now c.self.inside.rounds c.reserve.new.self (goes_on old new c.reserve.ensures.wakens c.reserve.ensures.len refl).same (subst (λ (r : Rounds). AllAreConsumers c.args.core.now r.rounds) (sym c.self.view_is) c.requires.own))

@@ -1,11 +1,32 @@
-use Rattle.channels.proofs.Imports.{◌∙◌, ap, List, Given, Open, open_in}
-use Rattle.model.specs.Broker as seen
-use Rattle.channels.proofs.Seating.{without_tagged}
+use Rattle.channels.proofs.Imports.{sym, subst, not, AreNumbered, is_named, Consumer, Open}
+use Rattle.channels.proofs.Seating.{named_out}
+use Rattle.channels.proofs.Numbering.{numbered_filter}
 use Rattle.channels.proofs.channels.Channel.cancel.Goals as goal
+
+pub invariant_of-self : goal.invariant_of-self
+invariant_of-self c = (
+  c.self.invariant.0,
+  c.remove_by_tag.ensures.counted _ c.self.invariant.1,
+  subst (AreNumbered c.self.inside.next_number) (sym c.remove_by_tag.ensures.consumers) (numbered_filter c.self.inside.next_number (λ (x : Consumer). not (is_named c.args.tag.now x)) c.self.inside.seats.consumers c.self.invariant.2),
+  c.self.invariant.3,
+)
 
 pub returns-clause-seen : goal.returns-clause-seen
 returns-clause-seen c names =
-    let old : Open = record { confirm = c.self.inside.confirm; is_closing = c.self.inside.is_closing; given = c.self.inside.deliveries } in
-    rw (← c.self.view_is)
-    (ap (λ (g : Given). open_in names (record old { given = g })) c.cancel.ensures.consumers
-    ∙ ap (λ (ks : List seen.Consumer). record (open_in names old) { consumers = ks }) (without_tagged names c.args.tag.now old.given.consumers))
+    let i = c.self.inside in
+    let old : Open = record {
+      confirm = i.confirm;
+      is_closing = i.is_closing;
+      given = record {
+        next_tag = i.next_tag;
+        next_number = i.next_number;
+        next_name = i.next_name;
+        each_limit = i.each_limit;
+        limit = i.limit;
+        consumers = i.seats.consumers;
+        outstanding = i.pending.outstanding;
+        room = i.pending.room;
+        seats = i.seats.room;
+      };
+    } in
+    rw (← c.self.view_is) (named_out names c.args.tag.now old c.remove_by_tag.new.self.consumers c.remove_by_tag.new.self.room c.remove_by_tag.ensures.consumers)

@@ -1,6 +1,9 @@
 use Rattle.serving.proofs.Names.{◌≡◌, ◌∙◌, List, Bool, length, max, sym, ap, subst, IsNextLoud}
-use Rattle.serving.proofs.Loudness.{next_in, next_behind}
+use Rattle.serving.proofs.Loudness.{next_behind, next_here, next_in}
 use Rattle.serving.proofs.slot_marks.SlotMarks.next_loud.Goals as goal
+
+pub returns-then-not-contains : goal.returns-then-not-contains
+returns-then-not-contains c = next_here _ c.args.from (sym c.contains.ensures ∙ c.if-not-contains.true)
 
 pub returns-in-Some : goal.returns-in-Some
 returns-in-Some c =

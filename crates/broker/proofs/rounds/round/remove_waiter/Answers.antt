@@ -1,0 +1,63 @@
+use Rattle.broker.proofs.Names.{◌∙◌, ◌≤◌, ◌<◌, ◌-◌, ℕ, List, false, length, get_or, filter, inl, inr, refl, sym, ap, subst, arith, length-remove, bit_of, Waiter, turned, round_of, picks, bit_for, is_other, OthersStay}
+use Rattle.std.proofs.Common.{◌≡◌}
+use Rattle.broker.proofs.Picks.{apart_swept}
+use Rattle.broker.proofs.Removing.{removed_is, line_removed, others_stay}
+use Rattle.broker.proofs.rounds.round.remove_waiter.Goals as goal
+
+pub refit-requires : goal.refit-requires
+refit-requires c =
+    let room = c.requires.room in
+    let lt = c.requires.within in
+    let long = length-remove c.args.waiters.now.items c.args.place lt in
+    let is = ap (λ (xs : List Waiter). length xs) (c.deref.ensures.value ∙ c.remove.ensures.items) in
+    omega (arith, room, lt, long, is)
+
+-- if its index was before that of the order's first
+pub returns-then-place-next-clause-stay : goal.returns-then-place-next-clause-stay
+returns-then-place-next-clause-stay c =
+    let none : Waiter = record { pick = record { connection = 0; channel = 0; number = 0 }; asleep = false } in
+    let old = c.args.waiters.now.items in
+    let place = c.args.place in
+    let fits = subst (λ (ws : List Waiter). (k : ℕ) (d : Waiter) → place ≤ k → k < length ws → bit_of c.refit.new.awake k ≡ bit_for (get_or ws k d).asleep) (c.deref.ensures.value ∙ c.remove.ensures.items) c.refit.ensures.fits in
+    subst (λ (ws : List Waiter). OthersStay c.args.consumer (round_of old c.args.awake.now) (round_of ws c.refit.new.awake)) (sym c.remove.ensures.items)
+    (others_stay c.args.consumer old place none c.args.awake.now c.refit.new.awake c.requires.once c.requires.within c.requires.there c.refit.ensures.before fits)
+
+pub returns-then-place-next-clause-once : goal.returns-then-place-next-clause-once
+returns-then-place-next-clause-once c =
+    let none : Waiter = record { pick = record { connection = 0; channel = 0; number = 0 }; asleep = false } in
+    let old = c.args.waiters.now.items in
+    apart_swept (is_other c.args.consumer) old c.remove.new.self.items (c.remove.ensures.items ∙ removed_is c.args.consumer old c.args.place none c.requires.once c.requires.within (c.requires.there none)) c.requires.once
+
+pub returns-then-place-next-clause-line : goal.returns-then-place-next-clause-line
+returns-then-place-next-clause-line c =
+    let none : Waiter = record { pick = record { connection = 0; channel = 0; number = 0 }; asleep = false } in
+    let old = c.args.waiters.now.items in
+    let next = c.args.next.now in
+    let less = c.if-place-next.true in
+    subst (λ (ws : List Waiter). turned (next - 1) (picks ws) ≡ filter (is_other c.args.consumer) (turned next (picks old))) (sym c.remove.ensures.items)
+    (line_removed c.args.consumer old c.args.place next (next - 1) none c.requires.once c.requires.within (c.requires.there none) (inl (less, omega (arith, less))))
+
+-- and if it was not
+pub returns-else-place-next-clause-stay : goal.returns-else-place-next-clause-stay
+returns-else-place-next-clause-stay c =
+    let none : Waiter = record { pick = record { connection = 0; channel = 0; number = 0 }; asleep = false } in
+    let old = c.args.waiters.now.items in
+    let place = c.args.place in
+    let fits = subst (λ (ws : List Waiter). (k : ℕ) (d : Waiter) → place ≤ k → k < length ws → bit_of c.refit.new.awake k ≡ bit_for (get_or ws k d).asleep) (c.deref.ensures.value ∙ c.remove.ensures.items) c.refit.ensures.fits in
+    subst (λ (ws : List Waiter). OthersStay c.args.consumer (round_of old c.args.awake.now) (round_of ws c.refit.new.awake)) (sym c.remove.ensures.items)
+    (others_stay c.args.consumer old place none c.args.awake.now c.refit.new.awake c.requires.once c.requires.within c.requires.there c.refit.ensures.before fits)
+
+pub returns-else-place-next-clause-once : goal.returns-else-place-next-clause-once
+returns-else-place-next-clause-once c =
+    let none : Waiter = record { pick = record { connection = 0; channel = 0; number = 0 }; asleep = false } in
+    let old = c.args.waiters.now.items in
+    apart_swept (is_other c.args.consumer) old c.remove.new.self.items (c.remove.ensures.items ∙ removed_is c.args.consumer old c.args.place none c.requires.once c.requires.within (c.requires.there none)) c.requires.once
+
+pub returns-else-place-next-clause-line : goal.returns-else-place-next-clause-line
+returns-else-place-next-clause-line c =
+    let none : Waiter = record { pick = record { connection = 0; channel = 0; number = 0 }; asleep = false } in
+    let old = c.args.waiters.now.items in
+    let next = c.args.next.now in
+    let far = c.if-place-next.false in
+    subst (λ (ws : List Waiter). turned next (picks ws) ≡ filter (is_other c.args.consumer) (turned next (picks old))) (sym c.remove.ensures.items)
+    (line_removed c.args.consumer old c.args.place next next none c.requires.once c.requires.within (c.requires.there none) (inr (omega (arith, far), refl)))

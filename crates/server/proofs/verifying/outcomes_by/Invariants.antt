@@ -1,0 +1,5 @@
+use Rattle.server.proofs.Names.{take, EachWith, TellsOutcome}
+use Rattle.server.proofs.verifying.outcomes_by.Given as goal
+
+abbrev pub invariant-loop-place : goal.invariant-loop-place
+invariant-loop-place l = EachWith (TellsOutcome l.topology l.certificates) 0 (take l.place l.guarantees) l.outcomes.items

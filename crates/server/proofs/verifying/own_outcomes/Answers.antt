@@ -1,8 +1,0 @@
-use Rattle.server.proofs.Names.{TellsOutcome}
-use Rattle.server.proofs.Verdicts.{found_next}
-use Rattle.server.proofs.verifying.own_outcomes.Goals as goal
-
-pub loop-place-preserved : goal.loop-place-preserved
-loop-place-preserved c =
-    found_next (TellsOutcome c.args.topology.now c.args.certificates.now) c.args.guarantees.now c.loop-place.place c.index-guarantees-place.result
-    c.loop-place.outcomes.items c.push.new.self.items c.in_ok-outcome_at.field-0 c.loop-place-test.true c.index-guarantees-place.is c.loop-place.invariant c.in_ok-outcome_at.ensures c.in_ok-push.ensures.items
