@@ -4,6 +4,8 @@ of crates.txt, group by group, in the order of that file. Each function in the t
 
 A path is a part "## The path of .." with a numbered list. An item begins with its call, `crate::module::Type::function`, as many of modules and
 types as tell it apart; what is said of it follows a colon, and may name further calls. A list has at most 12 items below its first.
+
+A turn is a part "## A turn of .." whose list is of calls that one function makes, in this order: the sentence before the list names it.
 """
 
 import glob
@@ -67,6 +69,14 @@ def bodies(root, call):
     return found
 
 
+def made_in(body, call):
+    """Where this body makes the call. A call of a function of that name of another type, `Other::function(..)`, is none."""
+    *middle, function = call.split("::")
+    types = [it for it in middle if it[0].isupper()]
+    made = re.finditer(rf"(?:\b([A-Z]\w*)::)?\b{function}\b\s*(?:::<[^>]*>)?\(", body)
+    return [it.start() for it in made if it.group(1) in (None, "Self", *types)]
+
+
 def wrong_in(root, name, items):
     """What is wrong with a path."""
     if len(items) - 1 > MOST:
@@ -80,13 +90,43 @@ def wrong_in(root, name, items):
         here = []
         for call in calls:
             here += bodies(root, call)
-            function = call.split("::")[-1]
-            if before and not any(re.search(rf"\b{function}\b\s*(?:::<[^>]*>)?\(", it) for it in before):
+            if before and not any(made_in(it, call) for it in before):
                 yield f"{name}, {number}: the item before doesn't call `{call}`"
         for call in [*calls, *CALL.findall(rest)]:
             if not bodies(root, call):
                 yield f"{name}, {number}: `{call}` is not there"
         before = here
+
+
+def turns_of(text):
+    """Each turn of the page by its heading, with the sentence before its list and its items, each in one line."""
+    found = {}
+    for part in text.split("\n## ")[1:]:
+        heading, _, rest = part.partition("\n")
+        if heading.startswith("A turn of "):
+            before, _, items = rest.partition("\n1. ")
+            items = ("1. " + items).partition("\n\n")[0].replace("\n   ", " ").splitlines()
+            found[heading] = before.strip().split("\n\n")[-1], [it.partition(". ")[2] for it in items]
+    return found
+
+
+def wrong_turn(root, name, sentence, items):
+    """What is wrong with a turn."""
+    callers = [it for call in CALL.findall(sentence) for it in bodies(root, call)]
+    if not callers:
+        yield f"{name}: the sentence before the list names no function that is there"
+    last = 0
+    for number, item in enumerate(items, 1):
+        calls = CALL.findall(item)
+        if not calls:
+            yield f"{name}, {number}: it names no call: {item[:60]}"
+        for call in calls:
+            if not bodies(root, call):
+                yield f"{name}, {number}: `{call}` is not there"
+            places = [place for it in callers for place in made_in(it, call)]
+            if callers and not any(last <= it for it in places):
+                yield f"{name}, {number}: `{call}` is not called, or is called before"
+            last = max([last, *places])
 
 
 def groups_of(text, heading, crate):
@@ -136,6 +176,7 @@ def main(words):
     page = text_of(root, PAGE)
     paths = paths_of(page)
     wrong = [it for name, items in paths.items() for it in wrong_in(root, name, items)]
+    wrong += [it for name, turn in turns_of(page).items() for it in wrong_turn(root, name, *turn)]
     wrong += wrong_groups(text_of(root, CRATES), page)
     wrong += wrong_rules(root, page)
     if not paths:

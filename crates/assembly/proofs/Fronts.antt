@@ -1,5 +1,5 @@
 -- What is read stands at the front.
-use Rattle.assembly.proofs.Imports.{◌≡◌, ◌+◌, ◌≤◌, ℕ, List, ◌++◌, length, Option, Some, ap, arith, length-append, Stream, Pending, Goes_on, Takes, Yields, first, now, later, Ends, broken, faulty, beyond, GoesOn, stays, goes, Command, HasFront}
+use Rattle.assembly.proofs.Imports.{◌≡◌, ℕ, ◌++◌, length, Some, ap, arith, length-append, Stream, Yields, first, now, later, Ends, broken, faulty, beyond, GoesOn, stays, goes, Command, HasFront}
 use Rattle.assembly.specs.Front as front
 
 -- of a stream that goes on to one with a front the first frame is whole

@@ -7,3 +7,4 @@ pub mod Fronts
 pub mod Breaks
 pub mod Onwards
 pub mod Once
+pub mod Whole

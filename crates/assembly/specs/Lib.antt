@@ -8,3 +8,4 @@ pub mod Front
 pub mod Onward
 pub mod Laws
 pub mod Unread
+pub mod Whole

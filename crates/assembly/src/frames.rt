@@ -53,7 +53,7 @@ fn take_heartbeat(frame: &Frame<'_>) -> Result<Option<Command>, Fault>
 }
 
 /// Returns whether the channel number is above 255, or a header or body is on channel 0.
-fn is_on_wrong_channel(frame: &Frame<'_>) -> bool
+pub(crate) fn is_on_wrong_channel(frame: &Frame<'_>) -> bool
     ensures { result ≡ is_wrong (seen frame.now) }
 {
     frame.channel > 255 || (frame.channel == 0 && frame.kind != 1)

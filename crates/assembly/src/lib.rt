@@ -13,6 +13,7 @@ mod dropping;
 mod faults;
 mod frames;
 mod names;
+mod publishes;
 mod reading;
 mod single;
 mod streams;

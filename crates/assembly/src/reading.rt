@@ -9,6 +9,7 @@ use crate::contents::Awaited;
 use crate::faults::Fault;
 use crate::frames::take_frame;
 use crate::names::LastNames;
+use crate::publishes::whole_publish;
 use crate::unread::Unread;
 use frame::{Read, read_frame};
 use model::Command;
@@ -34,10 +35,18 @@ pub(crate) fn next_command(
         (stream false max keeps contents.new.items unread.new.bytes) }
 {
     'frames: loop {
-        match read_frame(unread.bytes(), max) {
+        let bytes = unread.bytes();
+        match read_frame(bytes, max) {
             Read::More => return Ok(None),
             Read::Fault(code) => return Err(Fault::Broken(code)),
             Read::Whole(frame, size) => {
+                let rest = &bytes[size..];
+                if let Some((command, more)) = whole_publish(
+                    alloc, max, keeps, names, contents, &frame, rest,
+                ) {
+                    unread.take(size + more);
+                    return Ok(Some(command));
+                }
                 let taken = take_frame(alloc, keeps, names, contents, &frame);
                 if taken.is_err() {
                     return taken;

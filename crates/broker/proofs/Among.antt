@@ -23,15 +23,6 @@ pub at_end : {X : Type 0} (p : X) (waiters : List X) → IsIn p (waiters ++ p �
 at_end p [] = inl refl
 at_end p (x ∷ xs) = inr (at_end p xs)
 
--- where one was appended, or was not
-pub pushed_in : {X : Type 0} (b : Bool) (p : X) (old new : List X) → new ≡ (if b then old ++ p ∷ [] else old) → b ≡ true → IsIn p new
-pushed_in true p old new e f = subst (λ (xs : List _). IsIn p xs) (sym e) (at_end p old)
-pushed_in false p old new e f = absurd (false≢true f)
-
-pub pushed_still : {X : Type 0} (b : Bool) (p q : X) (old new : List X) → new ≡ (if b then old ++ p ∷ [] else old) → IsIn q old → IsIn q new
-pushed_still true p q old new e i = subst (λ (xs : List _). IsIn q xs) (sym e) (in_front q old (p ∷ []) i)
-pushed_still false p q old new e i = subst (λ (xs : List _). IsIn q xs) (sym e) i
-
 -- the index at which it is
 pub place_in : {X : Type 0} (p : X) (waiters : List X) → IsIn p waiters → (i : ℕ) × (i < length waiters) × (get_or waiters i p ≡ p)
 place_in p [] i = absurd i

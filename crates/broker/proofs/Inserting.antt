@@ -86,13 +86,6 @@ picks_inserted waiters zero s le = refl
 picks_inserted [] (suc n) s le = absurd (omega (arith, le))
 picks_inserted (t ∷ waiters) (suc n) s le = ap (λ (ps : List Pick). t.pick ∷ ps) (picks_inserted waiters n s (omega (arith, le)))
 
--- whoever has a waiter that is awake is among their consumers
-pub awake_in : (waiters : List Waiter) (marks : List ℕ) (p : Pick) → IsAwake (round_of waiters marks) p → IsIn p (picks waiters)
-awake_in waiters marks p (i, at) =
-    let within = at.within in
-    let long = picks_length waiters in
-    in_place p p (picks waiters) i (omega (arith, within, long)) (picks_at waiters i (awake_waiter p) ∙ ap (λ (s : Waiter). s.pick) (at.there (awake_waiter p)))
-
 -- the marks of those before this index stay, and picks look at those behind it that are awake
 pub record MarksFrom (waiters : List Waiter) (old new : List ℕ) (place : ℕ) : Type 0 where
   pub before : (i : ℕ) → i < place → bit_of new i ≡ bit_of old i

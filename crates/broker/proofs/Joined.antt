@@ -1,5 +1,5 @@
 -- Waiters of consumers: among others, after a sweep, and at each event.
-use Rattle.broker.proofs.Names.{◌∙◌, ℕ, List, [], ◌∷◌, ◌++◌, Bool, true, false, Option, Some, None, length, inl, inr, refl, sym, ap, subst, if◌then◌else◌, option_map, is_some, ◌==◌, ◌&&◌, eqb-true, eq-eqb, false≢true, same_Some, Text, Topology, IsIn, IsAgreed, Broker, Channel, Connection, with_pair, with_row, Is, Acts, Refuses, Decides, OnConnection, Refusal, Ignored, Of_channel, Of_connection, refusal, channel_or_new, consumer_of, ids_of, Content, Method, BasicConsume, Send, Event, Command, Note, WasConsumer, IsMadeBy, ConsumersAreMade, open_in, running_in, channel_in, channel_at, connection_at, limits_of, Kept, names_of, Rounds, Lists, Listing, round_at, listing, is_of, wakes, HasConsumer, AllAreInRounds, AllAreNoted, AllAreConsumers, AllListedAreThere, HasJoined, IsServing, AllRun, HasNoList, MakesNoList, NotesStay, IsNoted, IsInItsRound, IsAwake, KeepsWaiters, KeepsAll, next_number, next_consumer, consumer_to_make, consumed, IsConsumed, Pick}
+use Rattle.broker.proofs.Names.{◌∙◌, ℕ, List, [], ◌∷◌, ◌++◌, Bool, true, false, Option, Some, None, length, inl, inr, refl, sym, ap, subst, if◌then◌else◌, option_map, is_some, not, ◌==◌, ◌&&◌, eqb-true, eq-eqb, false≢true, same_Some, Text, Topology, IsIn, IsAgreed, Broker, Channel, Connection, with_pair, with_row, Is, Acts, Refuses, Decides, OnConnection, Refusal, Ignored, Of_channel, Of_connection, refusal, channel_or_new, consumer_of, ids_of, Content, Method, BasicConsume, Send, Event, Command, Note, WasConsumer, IsMadeBy, ConsumersAreMade, open_in, running_in, channel_in, channel_at, connection_at, limits_of, Kept, names_of, Rounds, Lists, Listing, round_at, listing, is_of, wakes, HasConsumer, AllAreInRounds, AllAreNoted, AllAreConsumers, AllListedAreThere, HasJoined, IsServing, AllRun, HasNoList, MakesNoList, NotesStay, IsNoted, IsInItsRound, IsAwake, KeepsWaiters, KeepsAll, next_number, next_consumer, is_seating, consumer_to_make, consumed, IsConsumed, Pick}
 use Rattle.std.proofs.Common.{◌≡◌, ◌⊎◌}
 use Rattle.model.specs.Broker as seen
 use Rattle.model.specs.declared.methods.Consume.{Consume}
@@ -120,15 +120,15 @@ module _ (t : Topology) (old new : Broker) (c h : ℕ) (m : Consume) (content : 
   in_row x y true f = refl
   in_row x y false f = absurd (false≢true f)
 
-  same_there : new.channel c h ≡ old.channel c h → WasConsumer new c h k → Came
-  same_there is (ch, at, i) = inl (ch, sym is ∙ at, i)
+  same_there : new.channel c h ≡ old.channel c h → WasConsumer new c h k → WasConsumer old c h k
+  same_there is (ch, at, i) = (ch, sym is ∙ at, i)
 
-  of_this : (x : Channel) → new.channel c h ≡ with_pair old.channel c h (Some x) c h → (IsIn k x.consumers → Came) → WasConsumer new c h k → Came
+  of_this : {G : Type 0} (x : Channel) → new.channel c h ≡ with_pair old.channel c h (Some x) c h → (IsIn k x.consumers → G) → WasConsumer new c h k → G
   of_this x is good (ch, at, i) =
       let there : Some x ≡ Some ch = sym (paired (Some x) (old.channel c h) (c == c) (h == h) (eq-eqb c c refl) (eq-eqb h h refl)) ∙ sym is ∙ at in
       good (subst (λ (z : Channel). IsIn k z.consumers) (sym (same_Some x ch there)) i)
 
-  none_there : new.channel c h ≡ with_row old.channel c (λ l. None) c h → WasConsumer new c h k → Came
+  none_there : new.channel c h ≡ with_row old.channel c (λ l. None) c h → WasConsumer new c h k → WasConsumer old c h k
   none_there is (ch, at, i) = absurd (false≢true (ap is_some (sym (in_row None (old.channel c h) (c == c) (eq-eqb c c refl)) ∙ sym is ∙ at)))
 
   made_last : (ks : List seen.Consumer) (x : seen.Consumer) → (IsIn k ks → WasConsumer old c h k) → x.queue ≡ m.queue → IsIn k (ks ++ x ∷ []) → Came
@@ -137,26 +137,46 @@ module _ (t : Topology) (old new : Broker) (c h : ℕ) (m : Consume) (content : 
   made_last (y ∷ ys) x was e (inl i) = inl (was (inl i))
   made_last (y ∷ ys) x was e (inr i) = made_last ys x (λ j. was (inr j)) e i
 
-  refused : (r : Refusal) → Refuses old c h (ids_of (BasicConsume m)) r sends notes new → WasConsumer new c h k → Came
+  -- one that is refused makes none
+  refused : (r : Refusal) → Refuses old c h (ids_of (BasicConsume m)) r sends notes new → WasConsumer new c h k → WasConsumer old c h k
   refused Ignored p = same_there (p.left.channels c h)
   refused (Of_channel code) p = of_this _ (p.left.channels c h) (λ i. absurd i)
   refused (Of_connection code) p = none_there (p.left.channels c h)
 
   decided : (r : Option Refusal) → Decides t old c h (BasicConsume m) content r sends notes new → WasConsumer new c h k → Came
-  decided None p =
+  decided None p has =
       of_this _ (p.left.channels c h)
-      (λ i. made_last (channel_or_new (old.channel c h)).consumers (consumer_of (channel_or_new (old.channel c h)) m) (mine (old.channel c h) refl) refl i)
-  decided (Some r) p = refused r p
+      (λ i. made_last (channel_or_new (old.channel c h)).consumers (consumer_of (channel_or_new (old.channel c h)) m) (mine (old.channel c h) refl) refl i) has
+  decided (Some r) p has = inl (refused r p has)
+
+  stopped : (r : Option Refusal) → not (is_some r) ≡ false → Decides t old c h (BasicConsume m) content r sends notes new → WasConsumer new c h k → WasConsumer old c h k
+  stopped None f p = absurd (false≢true (sym f))
+  stopped (Some r) f p = refused r p
 
   came : (o : Option Connection) → OnConnection t old c h (BasicConsume m) content sends notes new o → WasConsumer new c h k → Came
-  came None p = same_there (p.left.channels c h)
-  came (Some conn) p = decided (refusal t old conn h (BasicConsume m) (old.channel c h)) p
+  came None p has = inl (same_there (p.left.channels c h) has)
+  came (Some conn) p has = decided (refusal t old conn h (BasicConsume m) (old.channel c h)) p has
+
+-- a consume that makes no consumer leaves those of its channel
+stays_unseated : (kept : Kept) (new : Broker) (c h : ℕ) (m : Consume) (content : Option Content) (sends : List Send) (notes : List Note) (k : seen.Consumer) (o : Option Running) → running_in kept.connections c ≡ o
+    → is_seating kept h (BasicConsume m) o ≡ false → OnConnection (topology_kept kept) (broker_of kept) c h (BasicConsume m) content sends notes new (connection_at o)
+    → WasConsumer new c h k → WasConsumer (broker_of kept) c h k
+stays_unseated kept new c h m content sends notes k None e f p = same_there (topology_kept kept) (broker_of kept) new c h m content sends notes k (p.left.channels c h)
+stays_unseated kept new c h m content sends notes k (Some l) e f p =
+    let t = topology_kept kept in
+    let b = broker_of kept in
+    let reason = λ (x : Option Running). refusal t b (limits_of l) h (BasicConsume m) (option_map (open_in (names_of kept)) (channel_at x h)) in
+    stopped t b new c h m content sends notes k (reason (running_in kept.connections c)) (ap (λ (x : Option Running). not (is_some (reason x))) e ∙ f) p
 
 -- a consumer that is there after an event was there, or the event is the consume from its queue, whose waiter it has
-pub came_there : ConsumersAreMade → (t : Topology) (kept : Kept) (new : Broker) (e : Event) (sends : List Send) (notes : List Note) → Acts t (broker_of kept) e sends notes new
-    → (place : ℕ) (p : Pick) → HasConsumer t new place p → HasConsumer t (broker_of kept) place p ⊎ (IsConsumed t e place × (consumer_to_make kept e ≡ Some p))
-came_there law t kept new e sends notes acts place p has = go (law t b new e sends notes acts c h k has.was)
+pub came_there : ConsumersAreMade → (kept : Kept) (new : Broker) (e : Event) (sends : List Send) (notes : List Note) → Acts (topology_kept kept) (broker_of kept) e sends notes new
+    → (place : ℕ) (p : Pick) → HasConsumer (topology_kept kept) new place p
+    → HasConsumer (topology_kept kept) (broker_of kept) place p ⊎ (IsConsumed (topology_kept kept) e place × (consumer_to_make kept e ≡ Some p))
+came_there law kept new e sends notes acts place p has = go (law t b new e sends notes acts c h k has.was)
   where
+    t : Topology
+    t = topology_kept kept
+
     b : Broker
     b = broker_of kept
 
@@ -176,7 +196,7 @@ came_there law t kept new e sends notes acts place p has = go (law t b new e sen
     before was = inl (record { consumer = k; was = was; numbered = has.numbered; within = has.within; named = has.named })
 
     made : IsMadeBy b e c h k → Came_here
-    made (m, content, is, numbered) = on (came t b new c h m content sends notes k (b.connection c) same has.was)
+    made (m, content, is, numbered) = seated (is_seating kept h (BasicConsume m) (running_in kept.connections c)) refl
       where
         same : OnConnection t b c h (BasicConsume m) content sends notes new (b.connection c)
         same = subst (λ (x : Event). Acts t b x sends notes new) is acts
@@ -187,17 +207,24 @@ came_there law t kept new e sends notes acts place p has = go (law t b new e sen
         here : k.queue ≡ m.queue → IsConsumed t e place
         here queue = record { within = has.within; named = ap consumed is ∙ ap (λ (q : Text). Some q) (sym queue ∙ sym has.named) }
 
-        next : k.queue ≡ m.queue → (o : Option Pick) → next_consumer c h (running_in kept.connections c) ≡ o → Came_here
-        next queue None f =
+        seat : is_seating kept h (BasicConsume m) (running_in kept.connections c) ≡ true → consumer_to_make kept e ≡ next_consumer c h (running_in kept.connections c)
+        seat makes = ap (consumer_to_make kept) is ∙ ap (λ (v : Bool). if v then next_consumer c h (running_in kept.connections c) else None) makes
+
+        next : k.queue ≡ m.queue → consumer_to_make kept e ≡ next_consumer c h (running_in kept.connections c) → (o : Option Pick) → next_consumer c h (running_in kept.connections c) ≡ o → Came_here
+        next queue its_seat None f =
             let stays = ignored_stays t b c h (BasicConsume m) content sends notes new (b.connection c) (no_next t kept c h m f) same in
             before (has.was.0, sym (stays.channels c h) ∙ has.was.1, has.was.2)
-        next queue (Some q) f =
+        next queue its_seat (Some q) f =
             let one = next_number_is (names_of kept) c h (running_in kept.connections c) q f ∙ ap (λ (n : ℕ). record { connection = c; channel = h; number = n }) (sym numbered) ∙ its in
-            inr (here queue, ap (consumer_to_make kept) is ∙ f ∙ ap Some one)
+            inr (here queue, its_seat ∙ f ∙ ap Some one)
 
-        on : WasConsumer b c h k ⊎ (k.queue ≡ m.queue) → Came_here
-        on (inl there) = before there
-        on (inr queue) = next queue (next_consumer c h (running_in kept.connections c)) refl
+        on : consumer_to_make kept e ≡ next_consumer c h (running_in kept.connections c) → WasConsumer b c h k ⊎ (k.queue ≡ m.queue) → Came_here
+        on its_seat (inl there) = before there
+        on its_seat (inr queue) = next queue its_seat (next_consumer c h (running_in kept.connections c)) refl
+
+        seated : (v : Bool) → is_seating kept h (BasicConsume m) (running_in kept.connections c) ≡ v → Came_here
+        seated true makes = on (seat makes) (came t b new c h m content sends notes k (b.connection c) same has.was)
+        seated false makes = before (stays_unseated kept new c h m content sends notes k (running_in kept.connections c) refl makes same has.was)
 
     go : WasConsumer b c h k ⊎ IsMadeBy b e c h k → Came_here
     go (inl was) = before was
@@ -265,7 +292,7 @@ module _ (agrees : StayAgreed) (law : ConsumersAreMade) (old new : Kept) (e : Ev
     (keeps : KeepsWaiters new rounds after) (stay : NotesStay rounds.lists after.lists) (len : length after.rounds ≡ length rounds.rounds) (serving : Holds old rounds) where
   there : (place : ℕ) (p : Pick) → HasConsumer (topology_kept new) (broker_of new) place p
       → HasConsumer (topology_kept old) (broker_of old) place p ⊎ (IsConsumed (topology_kept old) e place × (consumer_to_make old e ≡ Some p))
-  there place p has = came_there law (topology_kept old) old (broker_of new) e sends notes acts place p (subst (λ (x : Topology). HasConsumer x (broker_of new) place p) is has)
+  there place p has = came_there law old (broker_of new) e sends notes acts place p (subst (λ (x : Topology). HasConsumer x (broker_of new) place p) is has)
 
   joined : AllAreInRounds (topology_kept new) (broker_of new) after
   joined place p has = elim (there place p has) [

@@ -98,14 +98,6 @@ lines_left kept c old new its gone place = sym (filter_all (remains kept place c
             absurd (gone.left (listing place p) (noted_under old.lists c (listing place p) (its.noted place p (gone.were place p i) same) same) far i)
         go false v far there = refl
 
--- ---- lists, in two steps
-
-pub keeps_lists : (kept : Kept) (old mid new : Lists) → KeepLists kept old mid → KeepLists kept mid new → KeepLists kept old new
-keeps_lists kept old mid new f g = record { noted = λ l i its. g.noted l (f.noted l i its) its; listed = λ l i its. g.listed l (f.listed l i its) its }
-
-pub leaves_then : (kept : Kept) (c : ℕ) (old mid new : Lists) → ListingsLeave kept c old mid → ListingsLeave kept c mid new → ListingsLeave kept c old new
-leaves_then kept c old mid new f g = record { left = λ d h l i. f.left d h l (g.left d h l i).0; once = λ d h rises. g.once d h (f.once d h rises) }
-
 -- ---- a broker's
 
 -- what is listed are its waiters

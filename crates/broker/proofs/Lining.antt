@@ -125,10 +125,6 @@ ahead_nearer count next to at lt within far none = elim (leb_tells next count) [
       | inr e ↦ let ge = e.1 in let same : at ≡ to = omega (arith, ge, le) in absurd (far same)
     ]
 
--- and the one that was taken is last
-pub ahead_last : (count to : ℕ) → to < count → ahead count (to + 1) to < count
-ahead_last count to lt = let one = ahead_before count (to + 1) to (omega arith) in omega (arith, one, lt)
-
 pub ahead_within : (count next at : ℕ) → at < count → ahead count next at < count
 ahead_within count next at lt = elim (leb_tells next at) [
   | inl a ↦ let le = a.1 in let one = ahead_behind count next at le in omega (arith, one, le, lt)

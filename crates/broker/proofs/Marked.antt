@@ -1,5 +1,5 @@
 -- Queues over which picks go: each in whose round a waiter is awake is marked.
-use Rattle.broker.proofs.Names.{◌∙◌, ◌<◌, ◌≤◌, ◌+◌, ◌*◌, ℕ, List, [], Bool, true, false, length, set, inl, inr, refl, sym, ap, subst, arith, ◌==◌, eqb-true, leb_tells, length-set, get_or-set_same, get_or-set_other, bit_of, Differs, Kept, IsPickFrom, Pick, Waiters, Lists, round_at, rounds_of, is_of, IsAwake, IsInRound, QueuesAreMarked, NoneMarked, KeepsIn, KeepsRound, KeepRounds, KeepsWaiters, ListsMore, Wakens, AllWaken}
+use Rattle.broker.proofs.Names.{◌∙◌, ◌<◌, ◌≤◌, ◌+◌, ◌*◌, ℕ, List, [], Bool, true, false, length, get_or, set, inl, inr, refl, sym, ap, subst, arith, ◌==◌, eqb-true, leb_tells, length-set, get_or-set_same, get_or-set_other, same_default, bit_of, Differs, Kept, IsPickFrom, Pick, Waiters, Lists, round_at, rounds_of, is_of, IsAwake, IsInRound, QueuesAreMarked, NoneMarked, KeepsIn, KeepsRound, KeepRounds, KeepsWaiters, ListsMore, Wakens, AllWaken}
 use Rattle.std.proofs.Common.{◌≡◌}
 use Rattle.commands.specs.State.{broker_of}
 use Rattle.broker.proofs.Sleeping.{apart, set_more, cannot_pick, joined_more}
@@ -24,6 +24,10 @@ none_passed kept marks from next ready to none unready zeros place p least lt up
             omega (arith, one)
       ]
 ]
+
+-- the round at the index of a queue is what is borrowed there
+pub borrowed : (rounds : List Waiters) (queue : ℕ) (r : Waiters) → queue < length rounds → r ≡ get_or rounds queue r → round_at rounds queue ≡ r
+borrowed rounds queue r lt is = same_default rounds queue (record { waiters = []; marks = []; next = 0; capacity = 0 }) r lt ∙ sym is
 
 -- one mark more
 pub marked_more : (rounds : List Waiters) (old new : List ℕ) (queue : ℕ) → length new * 64 ≡ length old * 64 → Differs (bit_of old) (bit_of new) queue 1 → QueuesAreMarked rounds old → QueuesAreMarked rounds new

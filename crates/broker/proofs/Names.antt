@@ -1,7 +1,7 @@
 -- The names that several files of these proofs use.
 pub use Rattle.broker.specs.Lines.{AreDistinct, IsPassed, ahead, standing, turned}
 pub use Rattle.broker.specs.Moving.{AllRoused, ArePlacesApart, IsMoved, IsOfEither, LinesCome, ListsAreMoved, RoundsAreMoved, StandsIn, all_awake, all_moved, channels_moved, listing_moved, listings_moved}
-pub use Rattle.broker.specs.Rounds.{AddsItsOwn, AddsListing, AllAddTheirOwn, AllAreConsumers, AllAreEmpty, AllAreInRounds, AllAreNoted, AllListedAreThere, AllRun, AllWaken, AreBelow, AreItsConsumers, AreItsListings, Dozes, FallsAsleep, FindsWaiter, GoesLast, GoesOn, GoneAreRemoved, HasConsumer, HasJoined, HasLeft, HasListRoom, HasNoList, HasNoWaiter, HasRoom, IsAsleep, IsAsleepAt, IsAsleepIn, IsAt, IsAwake, IsAwakeAt, IsExpected, IsInItsRound, IsInRound, IsItsOwn, IsListed, IsListedAt, IsListedOn, IsListedOnAny, IsListedUnder, IsNextMarked, IsNoted, IsServing, IsWoken, KeepListingsOn, KeepLists, KeepRounds, KeepsAll, KeepsIn, KeepsListings, KeepsRound, KeepsWaiters, LeaveLine, LeaveLines, Listing, Listings, ListingsLeave, Lists, ListsItsOwn, ListsItsWaiters, ListsMore, ListsOneMore, ListsRunning, ListsStay, LosesOne, LosesWaiter, MakesNoList, NoneAwake, NoneAwakePassed, NoneBetween, NoneInRound, NoneMarked, NonePassed, NotesStay, NumbersRise, OthersStay, PicksFirst, PicksFrom, QueuesAreMarked, Rounds, SameListed, SameOrders, SleepMore, StaysAt, Waiters, Wakens, WakesListed, WakesWaiter, asleep_waiter, awake_waiter, bit_for, channels_of, gone_in, gone_on, has_remained, has_taker, is_able, is_consumer, is_listed_gone, is_listed_there, is_listing, is_numbered_of, is_of, is_on_channel, is_other, is_waiter_of, listed_on, listing, listings_of, listings_on, number_of, order, picks, remains, round_at, round_of, rounds_of, takes_from, wakes, wakes_on}
+pub use Rattle.broker.specs.Rounds.{AddsItsOwn, AddsListing, AllAddTheirOwn, AllAreConsumers, AllAreEmpty, AllAreInRounds, AllAreNoted, AllListedAreThere, AllRun, AllWaken, AreBelow, CanListOn, AreItsConsumers, AreItsListings, Dozes, FallsAsleep, FindsWaiter, GoesLast, GoesOn, GoneAreRemoved, HasConsumer, HasJoined, HasLeft, HasListRoom, HasNoList, HasNoWaiter, HasRoom, IsAsleep, IsAsleepAt, IsAsleepIn, IsAt, IsAwake, IsAwakeAt, IsExpected, IsInItsRound, IsInRound, IsItsOwn, IsListed, IsListedAt, IsListedOn, IsListedOnAny, IsListedUnder, IsNextMarked, IsNoted, IsNotedOn, IsServing, IsWoken, KeepListingsOn, KeepLists, KeepRounds, KeepsAll, KeepsIn, KeepsListings, KeepsRound, KeepsWaiters, LeaveLine, LeaveLines, Listing, Listings, ListingsLeave, Lists, ListsItsOwn, ListsItsWaiters, ListsMore, ListsOneMore, ListsRunning, ListsStay, LosesOne, LosesWaiter, MakesNoList, NoneAwake, NoneAwakePassed, NoneBetween, NoneInRound, NoneMarked, NonePassed, NotesStay, NumbersRise, OthersStay, PicksFirst, PicksFrom, QueuesAreMarked, Rounds, SameListed, SameOrders, SleepMore, StaysAt, Waiters, Wakens, WakesListed, WakesWaiter, asleep_waiter, awake_waiter, bit_for, channels_of, gone_in, gone_on, has_remained, has_taker, is_able, is_consumer, is_listed_gone, is_listed_there, is_listing, is_numbered_of, is_of, is_on_channel, is_other, is_waiter_of, listed_on, listing, listings_of, listings_on, number_of, order, picks, remains, round_at, round_of, rounds_of, takes_from, wakes, wakes_on}
 pub use Rattle.broker.specs.Turns.{WithTurn, with_turn}
 pub use Rattle.broker.specs.Waiting.{AllStand, CanGive, IsFirst, IsServedSoon, IsToldInTurn, LinesMove, LinesStay, NobodyIsPutBack, NobodyWaits, NoneIsLater, QueueWaits, ServesSoon, Stands, WaitersAreConsumers, Waits, ahead_at, line_at, owed, queues, standing_at}
 pub use Rattle.broker.specs.declared.rounds.finding.Found.{Found}
@@ -18,7 +18,7 @@ pub use Rattle.commands.proofs.Remaining.{one_stays, same_stay}
 pub use Rattle.commands.proofs.Stepping.{seen_there}
 pub use Rattle.commands.specs.Ended.{AllConsumersStay, AllRunStill, TellsEnd, TellsStay}
 pub use Rattle.commands.specs.Picked.{CannotTake, IsKeptAs, IsPick, IsPickFrom, TakesAs}
-pub use Rattle.commands.specs.NewConsumers.{IsConsumed, IsNewest, consumed, has_consumer, next_consumer, consumer_to_make}
+pub use Rattle.commands.specs.NewConsumers.{IsConsumed, IsNewest, consumed, has_consumer, is_seating, next_consumer, consumer_to_make}
 pub use Rattle.commands.specs.State.{ArePlaced, Kept, names_of}
 pub use Rattle.commands.specs.declared.acted.Ends.{Ends}
 pub use Rattle.commands.specs.declared.picks.Pick.{Pick}

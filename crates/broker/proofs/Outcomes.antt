@@ -2,11 +2,6 @@
 use Rattle.broker.proofs.Names.{Option, Some, None, Result, Ok, Err, subst, IfSome, OnOk, OnErr}
 use Rattle.std.proofs.Common.{◌≡◌}
 
--- what follows from success and from failure follows
-pub either_way : {A E : Type 0} {X Y Z : Type 0} (r : Result A E) → OnOk r X → OnErr r Y → (X → Z) → (Y → Z) → Z
-either_way (Ok x) ok err f g = f ok
-either_way (Err e) ok err f g = g err
-
 -- what holds holds where it fails
 pub on_err : {A E : Type 0} {X : Type 0} (r : Result A E) → X → OnErr r X
 on_err (Ok x) holds = tt

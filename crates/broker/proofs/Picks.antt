@@ -44,9 +44,6 @@ pub picks_end : (waiters : List Waiter) (s : Waiter) → picks (waiters ++ s ∷
 picks_end [] s = refl
 picks_end (x ∷ waiters) s = ap (λ (ps : List Pick). x.pick ∷ ps) (picks_end waiters s)
 
-pub apart_end : (waiters : List Waiter) (s : Waiter) → AreDistinct (picks waiters) → (IsIn s.pick (picks waiters) → ⊥) → AreDistinct (picks (waiters ++ s ∷ []))
-apart_end waiters s apart absent = subst (λ (ps : List Pick). AreDistinct ps) (sym (picks_end waiters s)) (distinct_end s.pick (picks waiters) apart absent)
-
 -- where no waiter is the consumer's
 pub no_pick : (p : Pick) (waiters : List Waiter) → ((s : Waiter) → IsIn s waiters → s.pick ≡ p → ⊥) → IsIn p (picks waiters) → ⊥
 no_pick p [] none i = i

@@ -78,8 +78,3 @@ none_near ls at l rises before behind other i =
                 omega (arith, up, least, same)
           ]
     ]
-
--- one that is found is in the list
-pub found_in : (ls : List Listing) (l : Listing) (found : Option ℕ) → IfSome found (λ i. IsListedAt ls i l) → is_some found ≡ true → IsIn l ls
-found_in ls l None at e = absurd (false≢true e)
-found_in ls l (Some i) at e = in_at ls i l l at.within (at.there l)

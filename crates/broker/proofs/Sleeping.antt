@@ -250,19 +250,6 @@ swept kept queue test old new sub is marked lists p = keep
         inl (j, record { within = lt; there = λ d. same_default new.waiters j d (awake_waiter p) lt ∙ e; marked = marked j lt })
     keep (inr f) has = inr (record { asleep = left (asleep_waiter p) f.asleep has; cannot = f.cannot; listed = f.listed })
 
--- picks look at the same of them
-pub same_bits : (kept : Kept) (queue : ℕ) (waiters : List Waiter) (old new : List ℕ) → ((i : ℕ) → bit_of new i ≡ bit_of old i) → KeepsRound kept queue (round_of waiters old) (round_of waiters new)
-same_bits kept queue waiters old new bits lists p (inl (i, at)) has = inl (i, record { within = at.within; there = at.there; marked = bits i ∙ at.marked })
-same_bits kept queue waiters old new bits lists p (inr f) has = inr (record { asleep = f.asleep; cannot = f.cannot; listed = f.listed })
-
--- waiters more at the end, and one more at which picks look
-pub pushed : (kept : Kept) (queue : ℕ) (waiters more : List Waiter) (old new : List ℕ) (place : ℕ) → Differs (bit_of old) (bit_of new) place 1 → KeepsRound kept queue (round_of waiters old) (round_of (waiters ++ more) new)
-pushed kept queue waiters more old new place d lists p (inl (i, at)) has =
-    let lt = at.within in
-    let long = length-append waiters more in
-    inl (i, record { within = omega (arith, lt, long); there = λ e. front_at waiters more i e at.within ∙ at.there e; marked = set_more (bit_of old) (bit_of new) place i d at.marked })
-pushed kept queue waiters more old new place d lists p (inr f) has = inr (record { asleep = in_front (asleep_waiter p) waiters more f.asleep; cannot = f.cannot; listed = f.listed })
-
 -- ---- what is listed is woken
 
 -- who was woken is awake still

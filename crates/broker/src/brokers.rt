@@ -115,7 +115,7 @@ impl Broker {
     /// Performs `event`, and returns what it sends and notes. If the event's method can be encoded, each send is for the event's own
     /// connection, by a method that can be encoded. No consumer is put back in its queue's order: a new one is behind all others.
     /// Fails only if an allocation fails; nothing has changed then. The events `Open`, `First`, `Lose`, `Pause` and `Resume`, an ignored command, and a
-    /// rejection that requeues never allocate.
+    /// rejection that requeues never allocate. A refused consume allocates no waiter.
     pub fn step(&mut self, alloc: Global, event: &Event) -> Result<Step, AllocError>
         requires asked { IsAsked event.now }
         // The promise: the model's step, whose sends go to the event's connection.

@@ -111,7 +111,7 @@ impl ConsumerRounds {
         ensures same { SameListed self.old.lists self.new.lists }
         ensures running { ListsRunning (broker_of core.now) self.old.lists self.new.lists }
         ensures wakens { AllWaken self.old.rounds self.new.rounds }
-        // An event that makes no consumer never fails.
+        // An event that makes no consumer never fails, so neither does a consume that is refused.
         ensures quiet { consumer_to_make core.now event.now ≡ None → IsOk result }
         ensures on { GoesOn self.old self.new }
     {

@@ -31,23 +31,7 @@ impl Model for RunningConnections {
 }
 
 impl RunningConnections {
-    ghost use Rattle.std.specs.Prelude.{
-      ◌≡◌,
-      ◌+◌,
-      ◌*◌,
-      ◌<◌,
-      ◌≤◌,
-      length,
-      [],
-      ℕ,
-      None,
-      Some,
-      IsSome,
-      IfOk,
-      OnOk,
-      OnErr,
-      Decides,
-    };
+    ghost use Rattle.std.specs.Prelude.{◌≡◌, ◌+◌, ◌*◌, ◌<◌, ◌≤◌, length, [], ℕ, None, Some, IsSome, IfOk, OnOk, OnErr, Decides};
     ghost use Rattle.std.specs.Option.{option_copied, option_copied_mut};
     ghost use Rattle.std.specs.Borrow.{sem};
     ghost use Rattle.channels.specs.Lends.{LendsConnection, LendsChannel};

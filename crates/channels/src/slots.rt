@@ -1,31 +1,7 @@
 //! The channel slots of a connection, by channel number.
 
-ghost use Rattle.std.specs.Prelude.{
-  ◌≡◌,
-  ◌+◌,
-  ◌<◌,
-  ◌≤◌,
-  ◌^◌,
-  ◌∷◌,
-  ◌++◌,
-  None,
-  Option,
-  Some,
-  IsSome,
-  IfOk,
-  OnOk,
-  OnErr,
-  replicate,
-  slice_index_or,
-  List,
-  map,
-  min,
-  sum_by,
-  option_map,
-  vec_capacity,
-  vec_len,
-  ℕ,
-};
+ghost use Rattle.std.specs.Prelude.{◌≡◌, ◌+◌, ◌<◌, ◌≤◌, ◌^◌, ◌∷◌, ◌++◌, None, Option, Some, IsSome, IfOk, OnOk, OnErr, replicate, slice_index_or, List, map};
+ghost use Rattle.std.specs.Prelude.{min, sum_by, option_map, vec_capacity, vec_len, ℕ};
 ghost use Rattle.channels.specs.Moving.{open_moved};
 ghost use Rattle.channels.specs.ConnectionsMoving.{channels_moved};
 ghost use Rattle.model.specs.Words.{Text as Name};

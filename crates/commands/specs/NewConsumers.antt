@@ -1,16 +1,17 @@
 -- The numbers of consumers: of existing ones, and of one that is about to be made.
-use Rattle.std.specs.Prelude.{◌≡◌, ◌<◌, ℕ, Bool, true, false, if◌then◌else◌, Option, Some, None, is_some, option_map, length}
+use Rattle.std.specs.Prelude.{◌≡◌, ◌<◌, ◌&&◌, ℕ, Bool, true, false, not, if◌then◌else◌, Option, Some, None, is_some, option_map, length}
 use Rattle.model.specs.Words.{Text}
 use Rattle.model.specs.Topology.{Topology}
+use Rattle.model.specs.Step.{refusal}
 use Rattle.model.specs.declared.methods.Method.{Method}
 use Rattle.model.specs.declared.methods.Method.TheVariants.{BasicConsume}
 use Rattle.model.specs.declared.events.Event.{Event}
 use Rattle.model.specs.declared.events.Event.TheVariants.{Command}
 use Rattle.exchange_graph.specs.Marks.{queue_name}
-use Rattle.channels.specs.RunningConnections.{Running, running_in, channel_in, channel_of}
+use Rattle.channels.specs.RunningConnections.{Running, running_in, channel_in, channel_of, channel_seen, limits_of}
 use Rattle.channels.specs.Consumers.{consumer_numbered, next_number}
 use Rattle.channels.specs.declared.consumers.Consumer.{Consumer}
-use Rattle.commands.specs.State.{Kept}
+use Rattle.commands.specs.State.{Kept, broker_of, names_of, topology_kept}
 use Rattle.commands.specs.declared.picks.Pick.{Pick}
 
 -- the consumer with the connection, channel and number of `p`, if it exists
@@ -37,9 +38,19 @@ abbrev pub next_consumer : ℕ → ℕ → Option Running → Option Pick
 next_consumer c h None = None
 next_consumer c h (Some l) = option_map (λ (n : ℕ). record { connection = c; channel = h; number = n }) (next_number (channel_in l h))
 
--- the numbers of the consumer that this event is going to make, if any
+-- whether a method on channel `h` of this connection makes a consumer: it is a consume that is not refused
+abbrev pub is_seating : Kept → ℕ → Method → Option Running → Bool
+is_seating kept h m None = false
+is_seating kept h m (Some l) =
+    is_consume m && not (is_some (refusal (topology_kept kept) (broker_of kept) (limits_of l) h m (channel_seen (names_of kept) l h)))
+
+-- the numbers of the consumer that a method on channel `h` of connection `c` makes, if any
+abbrev pub seat_on : Kept → ℕ → ℕ → Method → Option Running → Option Pick
+seat_on kept c h m l = if is_seating kept h m l then next_consumer c h l else None
+
+-- the numbers of the consumer that this event is going to make, if any; an event that is refused makes none
 abbrev pub consumer_to_make : Kept → Event → Option Pick
-consumer_to_make kept (Command c h m content) = if is_consume m then next_consumer c h (running_in kept.connections c) else None
+consumer_to_make kept (Command c h m content) = seat_on kept c h m (running_in kept.connections c)
 consumer_to_make kept e = None
 
 -- the name of the queue from which a method consumes, if it is a consume

@@ -11,6 +11,7 @@ ghost use Rattle.model.specs.Topology.{Topology as Handed};
 ghost use Rattle.model.specs.Step as said;
 ghost use Rattle.model.specs.Prefetch.{has_tag_left};
 ghost use Rattle.model.specs.declared.messages.Entry.{Entry};
+ghost use Rattle.model.specs.declared.methods.Method.TheVariants.{BasicConsume};
 ghost use Rattle.commands.specs.Judged.{refusal_seen, refused_by, refusal_of_number, is_taken, HasChannel, IsQueuePlace};
 ghost use Rattle.channels.specs.Open.{open_in};
 ghost use Rattle.channels.specs.RunningConnections.{limits_of, channel_seen};
@@ -26,7 +27,7 @@ pub use crate::refusals::publishes::check_publish;
 pub use crate::refusals::settlements::{check_recover, check_settling};
 use channels::{Channel, ConsumeError, ConsumerRefusal, RunningConnection};
 use exchange_graph::Topology;
-use model::{Method, Qos, Text};
+use model::{Consume, Method, Qos, Text};
 use std::alloc::AllocError;
 
 /// Why a command is not performed.
@@ -214,5 +215,30 @@ pub fn judge_large(running: &RunningConnection, number: u16) -> Refusal
     match running.channel(number) {
         None => Refusal::Connection(504),
         Some(_) => Refusal::Channel(311),
+    }
+}
+
+/// Returns the refusal of a consume on a running connection, if any.
+pub fn judge_consume(
+    topology: &Topology,
+    running: &RunningConnection,
+    number: u16,
+    consume: &Consume,
+) -> Option<Refusal>
+    ensures { (names : List Name) (b : Broker) → option_map refusal_seen result
+        ≡ said.refusal topology.now b (limits_of running.now) number (BasicConsume consume.now) (channel_seen names running.now number) }
+{
+    if is_awaiting(running.channel(number)) {
+        return Some(Refusal::Ignored);
+    }
+    if number == 0 {
+        return Some(Refusal::Connection(503));
+    }
+    if running.channel_max() < number {
+        return Some(Refusal::Connection(504));
+    }
+    match running.channel(number) {
+        None => Some(Refusal::Connection(504)),
+        Some(channel) => check_consume(topology, channel, consume).err(),
     }
 }

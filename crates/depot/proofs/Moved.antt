@@ -211,9 +211,3 @@ one_moved old new places now n m place q next at is moved b = subst (λ (ps : Li
     before_end [] p k lt = absurd (omega arith)
     before_end (x ∷ ps) p zero lt = refl
     before_end (x ∷ ps) p (suc k) lt = before_end ps p k (omega arith)
-
-pub all_moved : (old new : List Text) (places : List ℕ) (n : ℕ) → length old ≤ n → n ≤ length old → AreMovedBelow old new places n → AreMoved old new places
-all_moved old new places n le ge b = record {
-  len = (let l = b.len in omega (arith, l, le, ge));
-  each = λ k lt. b.each k (omega (arith, lt, le));
-}

@@ -1,5 +1,5 @@
 -- Messages that leave first and dead letters that come then make the queues that deaths make one after another.
-use Rattle.depot.proofs.Names.{◌≡◌, ◌<◌, ◌+◌, ℕ, zero, suc, length, drop, is_waiting, waiting, List, [], ◌∷◌, ◌++◌, Bool, true, false, cond, get_or, set, filter, refl, sym, ap, ◌∙◌, Option, Some, None, Topology, Message, is_held_as, Entry, Holder, Ready, DeclaredQueue, Note, Delivery, holder_of_delivery, TurnOutcome, all_entered, arriving, Arrival, arrivals_at, Death, IsForeseen, Plans, Rejects, ArePlanned, given_at, left_at, all_arrivals, all_left, arrived, arrivals_in, died, died_all, outcomes_of, without}
+use Rattle.depot.proofs.Names.{◌≡◌, ◌<◌, ◌+◌, ℕ, zero, suc, length, drop, is_waiting, waiting, List, [], ◌∷◌, ◌++◌, Bool, true, false, cond, get_or, set, filter, refl, sym, ap, ◌∙◌, Option, Some, None, Topology, Message, is_held_as, Entry, Holder, Ready, DeclaredQueue, Note, ChannelId, Delivery, holder_of_delivery, TurnOutcome, all_entered, arriving, Arrival, arrivals_at, Death, IsForeseen, Plans, Rejects, ArePlanned, given_at, left_at, all_arrivals, all_left, arrived, arrivals_in, died, died_all, outcomes_of, without}
 use Rattle.std.proofs.Common.{not}
 use Rattle.std.specs.Prelude.{find}
 use Rattle.std.proofs.lemmas.List.Elements.{filter-append}
@@ -128,14 +128,14 @@ left_planned t c h old now (g ∷ gs) ds still are =
     left_first t c h old now g gs ds are.0 are.1 (given_at c h old g) refl still are.2 are.3 (left_planned t c h old (left_at c h now g) gs are.1 (none_later c h old now g still) are.4)
 
 -- what was foreseen is what is done
-pub performed : (t : Topology) (c h : ℕ) (gone : List Delivery) (old new : List (List Entry)) (arrivals : List Arrival) (before after : List Note)
-    → IsForeseen t c h gone old arrivals before after → new ≡ arrived arrivals (all_left c h gone old) → Rejects t c h gone old new before after
-performed t c h gone old new arrivals before after f done = record {
+pub performed : (t : Topology) (id : ChannelId) (gone : List Delivery) (old new : List (List Entry)) (arrivals : List Arrival) (before after : List Note)
+    → IsForeseen t id gone old arrivals before after → new ≡ arrived arrivals (all_left id.connection id.number gone old) → Rejects t id gone old new before after
+performed t id gone old new arrivals before after f done = record {
   deaths = f.deaths;
   planned = f.planned;
   entries =
-      done ∙ ap (λ (as' : List Arrival). arrived as' (all_left c h gone old)) f.arrivals
-      ∙ ap (arrived (all_arrivals t.queues f.deaths old)) (left_planned t c h old old gone f.deaths (λ g none. none) f.planned)
+      done ∙ ap (λ (as' : List Arrival). arrived as' (all_left id.connection id.number gone old)) f.arrivals
+      ∙ ap (arrived (all_arrivals t.queues f.deaths old)) (left_planned t id.connection id.number old old gone f.deaths (λ g none. none) f.planned)
       ∙ sym (died_arrived t.queues f.deaths old);
   notes = f.notes;
 }

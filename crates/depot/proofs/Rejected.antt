@@ -1,5 +1,5 @@
 -- What is done by the places of queues is the rejection by their names.
-use Rattle.depot.proofs.Names.{◌≡◌, ℕ, zero, suc, ◌+◌, ◌<◌, ◌≤◌, List, [], ◌∷◌, ◌++◌, Bool, true, false, cond, refl, sym, ap, subst, ◌∙◌, map, filter, length, get_or, set, arith, Option, Some, None, Result, Ok, Err, OnOk, count_by, nat_lt, ◌&&◌, common_steps, bytes_eq, length-set, get_or_past, bytes_eq-Decides, Text, Topology, queue_names, AreApart, key_after, queue_named, listed, is_full, ready_bytes, refuses, Message, is_held_as, without_first, dead_letter, DiesBy, DiesIn, MayDie, AreRejected, Content, Entry, Holder, Ready, DeclaredQueue, Note, Entered, Refused, ready_count, queue_name, names_at, Delivery, Death, PlannedTurn, Store, entries_named, IsStoreWhole, TurnOutcome, outcomes, arriving, entered_one, all_entered, notes_of_outcomes, AreSettledBy, IsApart, holder_of_delivery, outstanding_in, AreWithin, AreByTag, MayHaveLetters, IsDeathOf, Plans, given_at, ArePlanned, without, outcomes_of, died, death_notes, died_all, all_notes, Rejects}
+use Rattle.depot.proofs.Names.{◌≡◌, ℕ, zero, suc, ◌+◌, ◌<◌, ◌≤◌, List, [], ◌∷◌, ◌++◌, Bool, true, false, cond, refl, sym, ap, subst, ◌∙◌, map, filter, length, get_or, set, arith, Option, Some, None, Result, Ok, Err, OnOk, count_by, nat_lt, ◌&&◌, common_steps, bytes_eq, length-set, get_or_past, bytes_eq-Decides, Text, Topology, queue_names, AreApart, key_after, queue_named, listed, is_full, ready_bytes, refuses, Message, is_held_as, without_first, dead_letter, DiesBy, DiesIn, MayDie, AreRejected, Content, Entry, Holder, Ready, DeclaredQueue, Note, Entered, Refused, ready_count, queue_name, names_at, ChannelId, Delivery, Death, PlannedTurn, Store, entries_named, IsStoreWhole, TurnOutcome, outcomes, arriving, entered_one, all_entered, notes_of_outcomes, AreSettledBy, IsApart, holder_of_delivery, outstanding_in, AreWithin, AreByTag, MayHaveLetters, IsDeathOf, Plans, given_at, ArePlanned, without, outcomes_of, died, death_notes, died_all, all_notes, Rejects}
 use Rattle.std.proofs.Common.{not}
 use Rattle.std.specs.Prelude.{find, if◌then◌else◌}
 use Rattle.model.specs.Entering.{entry_note, entry_notes, comes_to}
@@ -254,15 +254,15 @@ apart_by s whole apart k a = go (nat_lt k (length s.topology.queues)) refl
         omega (arith, none)
 
 -- what was done by places is the rejection
-pub rejecting : (old new : Store) (c h : ℕ) (gone : List Delivery) (before after : List Note) → IsStoreWhole old → IsApart old → AreByTag gone → AreWithin old.topology gone → new.published ≡ old.published → new.topology ≡ old.topology
-    → Rejects old.topology c h gone old.queues new.queues before after → AreSettledBy given.Rejects old c h gone before after new
-rejecting old new c h gone before after whole apart ordered within counted same r =
+pub rejecting : (old new : Store) (id : ChannelId) (gone : List Delivery) (before after : List Note) → IsStoreWhole old → IsApart old → AreByTag gone → AreWithin old.topology gone → new.published ≡ old.published → new.topology ≡ old.topology
+    → Rejects old.topology id gone old.queues new.queues before after → AreSettledBy given.Rejects old id.connection id.number gone before after new
+rejecting old new id gone before after whole apart ordered within counted same r =
     let t = old.topology in
     let done : with_lists old (died_all t.queues r.deaths old.queues) ≡ new = rw (same, counted, r.entries) refl in
     record {
       noted = all_notes t.queues r.deaths old.queues;
       appended = r.notes;
-      settled = subst (λ (s : Store). AreRejected t c h (map (outstanding_in (queue_names t.queues)) gone) (entries_named old) (all_notes t.queues r.deaths old.queues) (entries_named s)) done (rejected_from old c h gone r.deaths whole (apart_by old whole apart) ordered within r.planned);
+      settled = subst (λ (s : Store). AreRejected t id.connection id.number (map (outstanding_in (queue_names t.queues)) gone) (entries_named old) (all_notes t.queues r.deaths old.queues) (entries_named s)) done (rejected_from old id.connection id.number gone r.deaths whole (apart_by old whole apart) ordered within r.planned);
       counted = counted;
       topology = same;
     }

@@ -9,7 +9,6 @@ use Rattle.std.specs.Prelude.{nat_eq}
 use Rattle.model.specs.Broker.{body_bytes, is_at, is_past}
 use Rattle.model.specs.declared.messages.Mark.{Mark}
 use Rattle.model.specs.declared.messages.Mark.TheVariants.{Held}
-use Rattle.depot.proofs.Rooms.{ready_arriving}
 
 -- ---- the tally of entries
 
@@ -49,6 +48,19 @@ bytes_arriving (e ∷ es) m = go (is_ready e) (bytes_arriving es m)
     go : (b : Bool) → ready_bytes (es ++ last) ≡ ready_bytes es + length m.content.body
         → sum_by body_bytes (cond b (e ∷ filter is_ready (es ++ last)) (filter is_ready (es ++ last))) ≡ sum_by body_bytes (cond b (e ∷ filter is_ready es) (filter is_ready es)) + length m.content.body
     go true more = let x = sum_by-cons body_bytes e (filter is_ready (es ++ last)) in let y = sum_by-cons body_bytes e (filter is_ready es) in omega (arith, x, y, more)
+    go false more = more
+
+suc_first : (a b : ℕ) → suc (a + b) ≡ suc a + b
+suc_first a b = omega arith
+
+ready_arriving : (es : List Entry) (o : Option Message) → ready_count (es ++ arriving o) ≡ ready_count es + length (arriving o)
+ready_arriving [] None = refl
+ready_arriving [] (Some m) = refl
+ready_arriving (e ∷ es) o = go (is_ready e) (ready_arriving es o)
+  where
+    go : (b : Bool) → ready_count (es ++ arriving o) ≡ ready_count es + length (arriving o)
+        → length (cond b (e ∷ filter is_ready (es ++ arriving o)) (filter is_ready (es ++ arriving o))) ≡ length (cond b (e ∷ filter is_ready es) (filter is_ready es)) + length (arriving o)
+    go true more = ap suc more ∙ suc_first (ready_count es) (length (arriving o))
     go false more = more
 
 tally_more : (es : List Entry) (m : Message) (t : Tally) → t.ready ≡ ready_count es + 1 → t.bytes ≡ ready_bytes es + length m.content.body → t ≡ tally_of (es ++ arriving (Some m))

@@ -1,5 +1,5 @@
 -- Turns, one after another, and the room for them.
-use Rattle.depot.proofs.Names.{◌≡◌, ℕ, zero, suc, ◌+◌, ◌<◌, ◌≤◌, List, [], ◌∷◌, Bool, true, false, cond, length, get_or, set, refl, sym, ap, ◌∙◌, arith, All, AllPairs, inl, inr, ◌⊎◌, ◌||◌, eqb-true, ne_eqb, eqb_tells, get_or-set_other, Line, PlannedTurn, places, room_at, no_line, times, LinesHaveRoom, IsRoomy}
+use Rattle.depot.proofs.Names.{◌≡◌, ℕ, zero, suc, ◌+◌, ◌<◌, ◌≤◌, List, [], ◌∷◌, Bool, true, false, cond, length, get_or, set, refl, sym, ap, ◌∙◌, arith, All, AllPairs, inl, inr, ◌⊎◌, ◌||◌, Option, Some, None, eqb-true, ne_eqb, eqb_tells, get_or-set_other, Message, Line, PlannedTurn, places, arriving, room_at, no_line, times, LinesHaveRoom, IsRoomy}
 use Rattle.std.specs.Prelude.{◌==◌}
 
 pub place_is : (ts : List PlannedTurn) (i : ℕ) (t : PlannedTurn) → i < length ts → t ≡ get_or ts i t → get_or (places ts) i 0 ≡ t.place
@@ -14,10 +14,6 @@ pub places-length : (ts : List PlannedTurn) → length (places ts) ≡ length ts
 places-length [] = refl
 places-length (t ∷ ts) = ap suc (places-length ts)
 
--- ---- one queue
-
--- ---- the others
-
 pub within_rest : (n : ℕ) (i : ℕ) (is : List ℕ) → All (λ (j : ℕ). j < n) (i ∷ is) → All (λ (j : ℕ). j < n) is
 within_rest n i is h = λ k d lt. h (suc k) d (omega arith)
 
@@ -29,6 +25,10 @@ or_assoc true b c = refl
 or_assoc false b c = refl
 
 -- ---- room
+
+pub few_arrive : (o : Option Message) → length (arriving o) ≤ 1
+few_arrive None = omega arith
+few_arrive (Some m) = omega arith
 
 written : (lines : List Line) (i : ℕ) (l d : Line) (n : ℕ) → (get_or lines i d).room ≤ l.room + n → (get_or lines i no_line).room ≤ (get_or (set lines i l) i no_line).room + n
 written [] i l d n h = omega arith

@@ -1,5 +1,5 @@
 -- Dead-lettering queue by queue, by the queues' indices.
-use Rattle.std.specs.Prelude.{◌≡◌, ◌<◌, ℕ, List, [], ◌∷◌, ◌++◌, length, map, All, filter, find, not, Option, Some, None, slice_index_or, slice_set}
+use Rattle.std.specs.Prelude.{◌≡◌, ◌<◌, ℕ, List, [], ◌∷◌, ◌++◌, length, map, All, true, filter, find, not, Option, Some, None, slice_index_or, slice_set}
 use Rattle.model.specs.Words.{Text}
 use Rattle.model.specs.Topology.{Topology}
 use Rattle.model.specs.Routing.{key_after}
@@ -15,14 +15,17 @@ use Rattle.model.specs.declared.notes.Note.TheVariants.{Left}
 use Rattle.model.specs.declared.notes.Way.TheVariants as way
 use Rattle.exchange_graph.specs.Marks.{queue_name}
 use Rattle.depot.specs.Marked.{IsMarked}
+use Rattle.model.specs.declared.deliveries.ChannelId.{ChannelId}
 use Rattle.model.specs.declared.deliveries.Delivery.{Delivery}
+use Rattle.notes.specs.Kept.{Noted}
 use Rattle.depot.specs.declared.turns.PlannedTurn.{PlannedTurn}
-use Rattle.model.specs.Placed.{holder_of_delivery}
+use Rattle.model.specs.Placed.{holder_of_delivery, is_waiting}
 use Rattle.depot.specs.Turns.{TurnOutcome, outcomes, turn_at, arriving, all_entered, notes_of_outcomes, IsPlan}
 use Rattle.depot.specs.Settled.{left_at}
 use Rattle.depot.specs.Tallies.{AreTallied, arrivals_at}
 use Rattle.depot.specs.declared.arrivals.Arrival.{Arrival}
 use Rattle.depot.specs.declared.plans.Letter.{Letter}
+use Rattle.depot.specs.declared.plans.Plan.{Plan}
 use Rattle.depot.specs.declared.tallies.Tally.{Tally}
 use Rattle.model.specs.declared.messages.Holder.{Holder}
 
@@ -105,9 +108,9 @@ all_notes queues [] entries = []
 all_notes queues (d ∷ ds) entries = death_notes queues d entries ++ all_notes queues ds (died queues d entries)
 
 -- All messages of the deliveries `gone` that were still held have died.
-pub record Rejects (t : Topology) (c h : ℕ) (gone : List Delivery) (old new : List (List Entry)) (before after : List Note) : Type 0 where
+pub record Rejects (t : Topology) (id : ChannelId) (gone : List Delivery) (old new : List (List Entry)) (before after : List Note) : Type 0 where
   pub deaths : List Death
-  pub planned : ArePlanned t c h old gone deaths
+  pub planned : ArePlanned t id.connection id.number old gone deaths
   pub entries : new ≡ died_all t.queues deaths old
   pub notes : after ≡ before ++ all_notes t.queues deaths old
 
@@ -127,6 +130,10 @@ all_arrivals queues (d ∷ ds) entries = arrivals_in (outcomes_of queues d entri
 abbrev pub arriving_at : List Arrival → List ℕ
 arriving_at as' = map (λ (a : Arrival). a.place) as'
 
+-- each dead letter enters a queue with an index below `count`
+abbrev pub EnterBelow : ℕ → List Arrival → Type 0
+EnterBelow count as' = All (λ (i : ℕ). i < count) (arriving_at as')
+
 -- the queues with the given dead letters behind their entries
 abbrev pub arrived : List Arrival → List (List Entry) → List (List Entry)
 arrived [] entries = entries
@@ -137,26 +144,38 @@ abbrev pub all_left : ℕ → ℕ → List Delivery → List (List Entry) → Li
 all_left c h [] entries = entries
 all_left c h (g ∷ gs) entries = all_left c h gs (left_at c h entries g)
 
--- The queues after the outcomes `os` are tallied, and the dead letters that enter queues and the notes of all outcomes are appended.
-pub record Foresees (queues : List DeclaredQueue) (old : List (List Entry)) (os : List TurnOutcome) (entries : List (List Entry)) (tallies : List (ℕ × Tally))
-    (from to : List Arrival) (before after : List Note) : Type 0 where
-  pub tallied : AreTallied queues old tallies (all_entered os entries)
-  pub arrivals : to ≡ from ++ arrivals_in os
-  pub notes : after ≡ before ++ notes_of_outcomes os
+-- A rejection as far as it is planned: the tallies, the dead letters that enter queues, and the notes.
+pub record Planned : Type 0 where
+  pub tallies : List (ℕ × Tally)
+  pub arrivals : List Arrival
+  pub notes : List Note
 
--- `Foresees` of the outcomes of `turns`, taken one after another
-abbrev pub ForeseesTurns : List DeclaredQueue → List (List Entry) → List PlannedTurn → List (List Entry) → List (ℕ × Tally)
-    → List Arrival → List Arrival → List Note → List Note → Type 0
-ForeseesTurns queues old turns entries tallies arrivals arrivals' notes notes' =
-    Foresees queues old (outcomes way.Dead queues turns entries) entries tallies arrivals arrivals' notes notes'
+-- what a plan has, with these notes
+abbrev pub so_far : Plan → Noted → Planned
+so_far plan notes = record { tallies = plan.tallies.entries; arrivals = plan.arrivals.items; notes = notes.items }
 
--- The queues after `deaths`, one after another, are tallied, and the dead letters that enter queues and all notes are appended.
+-- The outcomes `os` are planned from `from` on: the queues after them are tallied, and their dead letters and notes are appended.
+pub record ForeseesOutcomes (queues : List DeclaredQueue) (old : List (List Entry)) (os : List TurnOutcome) (entries : List (List Entry))
+    (from to : Planned) : Type 0 where
+  pub tallied : AreTallied queues old to.tallies (all_entered os entries)
+  pub arrivals : to.arrivals ≡ from.arrivals ++ arrivals_in os
+  pub notes : to.notes ≡ from.notes ++ notes_of_outcomes os
+
+-- `turns` are planned from `from` on, one after another, whatever entries are tallied there
+abbrev pub ForeseesTurns : List DeclaredQueue → List (List Entry) → List PlannedTurn → Planned → Planned → Type 0
+ForeseesTurns queues old turns from to = (entries : List (List Entry)) → AreTallied queues old from.tallies entries
+    → ForeseesOutcomes queues old (outcomes way.Dead queues turns entries) entries from to
+
+-- the dead letter `m` is planned from `from` on at the queues with the indices `places`
+abbrev pub Foresees : List DeclaredQueue → List (List Entry) → Message → List ℕ → Planned → Planned → Type 0
+Foresees queues old m places from to = ForeseesTurns queues old (map (turn_at queues m) places) from to
+
+-- The deaths are planned from `from` on, one after another: the queues after them are tallied, and their dead letters and notes are appended.
 pub record ForeseesDeaths (queues : List DeclaredQueue) (old : List (List Entry)) (deaths : List Death) (entries : List (List Entry))
-    (tallies : List (ℕ × Tally))
-    (from to : List Arrival) (before after : List Note) : Type 0 where
-  pub tallied : AreTallied queues old tallies (died_all queues deaths entries)
-  pub arrivals : to ≡ from ++ all_arrivals queues deaths entries
-  pub notes : after ≡ before ++ all_notes queues deaths entries
+    (from to : Planned) : Type 0 where
+  pub tallied : AreTallied queues old to.tallies (died_all queues deaths entries)
+  pub arrivals : to.arrivals ≡ from.arrivals ++ all_arrivals queues deaths entries
+  pub notes : to.notes ≡ from.notes ++ all_notes queues deaths entries
 
 -- a dead letter with its route, or none, of a message that dies in the queue at this index
 abbrev pub IsLetterAt : Topology → ℕ → Message → Option Letter → Type 0
@@ -164,22 +183,25 @@ IsLetterAt t place m None = LettersAt t place m []
 IsLetterAt t place m (Some l) = LettersAt t place m (map (turn_at t.queues l.message) l.route.value.targets.items)
     × All (λ (i : ℕ). i < length t.queues) l.route.value.targets.items
 
--- what is foreseen of a message that dies in the queue at this index
-abbrev pub ForeseesLetters : Topology → ℕ → Message → List (List Entry) → List (List Entry) → List (ℕ × Tally)
-    → List Arrival → List Arrival → List Note → List Note → Type 0
-ForeseesLetters t place m old entries tallies arrivals arrivals' notes notes' =
-    (turns : List PlannedTurn) × LettersAt t place m turns × ForeseesTurns t.queues old turns entries tallies arrivals arrivals' notes notes'
+-- the dead letter of `m`, which dies in the queue at index `place`, is planned from `from` on, whatever entries are tallied there
+abbrev pub ForeseesLetters : Topology → ℕ → Message → List (List Entry) → Planned → Planned → Type 0
+ForeseesLetters t place m old from to = (entries : List (List Entry)) → AreTallied t.queues old from.tallies entries
+    → (turns : List PlannedTurn) × LettersAt t place m turns × ForeseesOutcomes t.queues old (outcomes way.Dead t.queues turns entries) entries from to
 
--- what is foreseen of the message of delivery `g`
-abbrev pub ForeseesGiven : Topology → ℕ → ℕ → Delivery → List (List Entry) → List (List Entry) → List (ℕ × Tally)
-    → List Arrival → List Arrival → List Note → List Note → Type 0
-ForeseesGiven t c h g old entries tallies arrivals arrivals' notes notes' =
-    (deaths : List Death) × PlansAt t c h old g deaths × ForeseesDeaths t.queues old deaths entries tallies arrivals arrivals' notes notes'
+-- the death of the message of delivery `g` of channel `id` is planned from `from` on, whatever entries are tallied there
+abbrev pub ForeseesGiven : Topology → ChannelId → Delivery → List (List Entry) → Planned → Planned → Type 0
+ForeseesGiven t id g old from to = (entries : List (List Entry)) → AreTallied t.queues old from.tallies entries
+    → (deaths : List Death) × PlansAt t id.connection id.number old g deaths × ForeseesDeaths t.queues old deaths entries from to
+
+-- `ForeseesGiven`, if the delivery is unacknowledged
+abbrev pub ForeseesWaiting : Topology → ChannelId → Delivery → List (List Entry) → Planned → Planned → Type 0
+ForeseesWaiting t id g old from to = is_waiting g ≡ true → ForeseesGiven t id g old from to
 
 -- `came` are the dead letters that the messages of the deliveries `gone` bring to queues, and their notes are appended.
-pub record IsForeseen (t : Topology) (c h : ℕ) (gone : List Delivery) (old : List (List Entry)) (came : List Arrival) (before after : List Note) : Type 0 where
+pub record IsForeseen (t : Topology) (id : ChannelId) (gone : List Delivery) (old : List (List Entry)) (came : List Arrival)
+    (before after : List Note) : Type 0 where
   pub deaths : List Death
-  pub planned : ArePlanned t c h old gone deaths
+  pub planned : ArePlanned t id.connection id.number old gone deaths
   pub arrivals : came ≡ all_arrivals t.queues deaths old
   pub notes : after ≡ before ++ all_notes t.queues deaths old
 

@@ -1,9 +1,9 @@
 -- Settling deliveries, by the indices of their queues and by their names.
-use Rattle.std.specs.Prelude.{◌≡◌, ◌<◌, ◌≤◌, ◌++◌, ℕ, List, [], map, filter, not, count_by, All, slice_index_or, slice_set}
+use Rattle.std.specs.Prelude.{◌≡◌, ◌<◌, ◌≤◌, ◌++◌, ℕ, List, [], length, map, filter, not, count_by, All, slice_index_or, slice_set}
 use Rattle.model.specs.Words.{Text}
-use Rattle.model.specs.Topology.{Topology, queue_names}
+use Rattle.model.specs.Topology.{Topology, queue_names, IsWellFormed}
 use Rattle.model.specs.Entries.{is_under, is_held_as, freed}
-use Rattle.model.specs.Deliveries.{Settlement, AreSettled}
+use Rattle.model.specs.Deliveries.{Settlement, AreSettled, Returns}
 use Rattle.model.specs.declared.messages.Entry.{Entry}
 use Rattle.model.specs.declared.messages.Holder.{Holder}
 use Rattle.model.specs.declared.notes.Note.{Note}
@@ -11,7 +11,9 @@ use Rattle.exchange_graph.specs.Marks.{queue_name}
 use Rattle.model.specs.Placed.{holder_of_delivery, outstanding_in}
 use Rattle.model.specs.declared.deliveries.Delivery.{Delivery}
 use Rattle.depot.specs.declared.departures.Departure.{Departure}
-use Rattle.depot.specs.Store.{Store, entries_named}
+use Rattle.model.specs.declared.deliveries.ChannelId.{ChannelId}
+use Rattle.queue.specs.Line.{Line}
+use Rattle.depot.specs.Store.{Store, entries_named, entries_of}
 
 -- The deliveries `gone` of channel `h` of connection `c` were settled as `how` says, one after another. The notes of that are appended, and
 -- nothing else changed.
@@ -32,6 +34,15 @@ IsApart s = (q : Text) (holder : Holder) → count_by (is_held_as holder) (entri
 -- the queues of a topology with these entries, after `n` publishes
 abbrev pub store_of : Topology → List (List Entry) → ℕ → Store
 store_of t entries n = record { topology = t; queues = entries; published = n }
+
+-- in a depot of this topology `AreSettledBy` holds of these queues, whatever the number of publishes
+abbrev pub AreSettledIn : Settlement → Topology → ChannelId → List Delivery → List Line → List Line → List Note → List Note → Type 0
+AreSettledIn how t id gone old new before after = (n : ℕ)
+    → AreSettledBy how (store_of t (entries_of old) n) id.connection id.number gone before after (store_of t (entries_of new) n)
+
+-- the deliveries are requeued, in a depot of any topology with these queues
+abbrev pub AreReturnedIn : ChannelId → List Delivery → List Line → List Line → Type 0
+AreReturnedIn id gone old new = (t : Topology) → IsWellFormed t → length old ≡ length t.queues → AreSettledIn Returns t id gone old new [] []
 
 -- the queues without the message of this delivery
 abbrev pub left_at : ℕ → ℕ → List (List Entry) → Delivery → List (List Entry)

@@ -44,3 +44,7 @@ pub record TellsTurn (queues : List DeclaredQueue) (old : List (List Entry)) (ta
   pub told : AreTallied queues old tallies entries → full ≡ is_full_at queues entries place size
   pub tallied : AreTallied queues old tallies entries → (m : Message) → length m.content.body ≡ size
       → AreTallied queues old tallies' (slice_set entries place (slice_index_or entries place [] ++ arriving (taken_if full m)))
+
+-- `TellsTurn`, whatever the queues hold
+abbrev pub CountsTurn : List DeclaredQueue → List (List Entry) → List (ℕ × Tally) → List (ℕ × Tally) → ℕ → ℕ → Bool → Type 0
+CountsTurn queues old tallies tallies' place size full = (entries : List (List Entry)) → TellsTurn queues old tallies tallies' place size full entries

@@ -1,10 +1,10 @@
 -- Offering a message to its routed queues one after another, by the queues' indices in the definitions.
-use Rattle.std.specs.Prelude.{◌≡◌, ◌<◌, ◌≤◌, ◌+◌, ◌==◌, ◌⊎◌, ℕ, Bool, true, false, cond, if◌then◌else◌, Option, Some, None}
+use Rattle.std.specs.Prelude.{◌≡◌, ◌<◌, ◌≤◌, ◌+◌, ◌==◌, ℕ, Bool, true, false, cond, if◌then◌else◌, Option, Some, None}
 use Rattle.std.specs.Prelude.{List, [], ◌∷◌, ◌++◌, length, map, slice_get, slice_index_or, slice_set}
 use Rattle.std.specs.List.{list_any}
 use Rattle.model.specs.Words.{Text}
 use Rattle.model.specs.Topology.{Topology, queue_names}
-use Rattle.model.specs.Broker.{is_at, limit_of, ready_bytes, refuses}
+use Rattle.model.specs.Broker.{ready_bytes, refuses}
 use Rattle.model.specs.Message.{Message}
 use Rattle.model.specs.declared.messages.Entry.{Entry}
 use Rattle.model.specs.declared.messages.Mark.TheVariants.{Ready}
@@ -16,6 +16,8 @@ use Rattle.model.specs.declared.notes.Way.{Way}
 use Rattle.model.specs.declared.notes.Way.TheVariants as way
 use Rattle.queue.specs.Line.{Line, ready_count}
 use Rattle.exchange_graph.specs.Targets.{AreTargets}
+use Rattle.notes.specs.Kept.{Noted}
+use Rattle.depot.specs.Store.{entries_of}
 use Rattle.depot.specs.declared.turns.PlannedTurn.{PlannedTurn}
 use Rattle.depot.specs.declared.depots.Routed.{Routed}
 
@@ -118,18 +120,6 @@ LinesHaveRoom lines targets count = (k : ℕ) → k < length targets → count �
 abbrev pub IsRoomy : List Line → List ℕ → Type 0
 IsRoomy lines targets = (place : ℕ) → times place targets ≤ room_at lines place
 
--- a queue with this limit has room for `count` messages, or for as many as bring it to the limit
-abbrev pub CanTake : Option ℕ → Line → ℕ → Type 0
-CanTake limit l count = (count ≤ l.room) ⊎ (is_at limit (ready_count l.entries + l.room) ≡ true)
-
--- the queue at index `place` has room for `count` messages, or for as many as bring it to its limit
-abbrev pub CanTakeAt : List DeclaredQueue → List Line → ℕ → ℕ → Type 0
-CanTakeAt queues lines place count = CanTake (limit_of (slice_get queues place)) (slice_index_or lines place no_line) count
-
--- each queue has room for at most `spent` messages fewer than before
-abbrev pub SpendsRoom : List DeclaredQueue → List Line → List Line → (ℕ → ℕ) → Type 0
-SpendsRoom queues old new spent = (place n : ℕ) → CanTakeAt queues old place (n + spent place) → CanTakeAt queues new place n
-
 -- no queue has more room than before
 abbrev pub GainsNone : List Line → List Line → Type 0
 GainsNone old new = (place : ℕ) → room_at new place ≤ room_at old place
@@ -157,3 +147,8 @@ pub record Enters (t : Topology) (old new : List (List Entry)) (p : Publish) (m 
   pub notes : after ≡ before ++ first ∷ notes_of_outcomes (outcomes way.Publish t.queues turns old)
   pub none : routed.is_none ≡ no_turns turns
   pub full : routed.is_some_full ≡ list_any is_refusal (outcomes way.Publish t.queues turns old)
+
+-- a publish, if it is routed to the queues with the indices `targets`, enters these queues as `Enters` says
+abbrev pub EntersAt : Topology → List ℕ → List Line → List Line → Message → Note → Noted → Noted → Routed → Type 0
+EntersAt t targets old new m first before after routed = (p : Publish) → AreTargets t p.exchange p.routing_key targets
+    → Enters t (entries_of old) (entries_of new) p m first before.items after.items routed

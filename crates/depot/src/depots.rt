@@ -14,7 +14,7 @@ use crate::settling::{ack_all, leave, name_of, requeue_in};
 use crate::taking::give;
 use crate::turns::PlannedTurn;
 use exchange_graph::{Route, Router, Topology};
-use model::{ChannelId, Content, Delivery, Entry, Holder, Message, Publish, Way};
+use model::{ChannelId, Content, Delivery, Entry, Holder, Message, Publish};
 use notes::Notes;
 use queue::{Store as _, Walk};
 use std::alloc::{AllocError, Global};
@@ -80,7 +80,6 @@ impl Depot {
       OnErr,
       Some,
       None,
-      is_some,
       vec_len,
       vec_capacity,
       option_map,
@@ -155,8 +154,8 @@ impl Depot {
         requires counted { self.old.published < greatest }
         requires routed { IfSome route (λ r. IsRoute self.old.topology publish.now.exchange publish.now.routing_key (arc_value r)) }
         // The promise, and the capacity of `notes`.
-        ensures ok { IfOk result (λ routed.
-            Publishing self.old id.connection id.number publish.now content.now confirm notes.old.items notes.new.items routed self.new) }
+        ensures ok { IfOk result (λ r.
+            Publishing self.old id.connection id.number publish.now content.now confirm notes.old.items notes.new.items r self.new) }
         ensures room { OnOk result (vec_len notes.new + 2 ≤ vec_capacity notes.new) }
         // A failure changes neither the store nor the notes.
         ensures store { OnErr result (self.new ≡ self.old) }
@@ -193,7 +192,7 @@ impl Depot {
         queue.reserve(1)?;
         notes.reserve_exact(4)?;
         notes.push_reserved(first);
-        let is_some_full = enter(declared, queue, turn, Way::Publish, notes);
+        let is_some_full = enter(declared, queue, turn, notes);
         self.queues.count_coming(place, is_some_full);
         self.published = number;
         Ok(Routed {

@@ -15,16 +15,13 @@ ghost use Rattle.std.specs.Prelude.{
   map,
   cond,
   All,
-  Some,
-  false,
   IfOk,
   OnOk,
   vec_len,
   vec_capacity,
 };
 ghost use Rattle.std.specs.List.{list_any};
-ghost use Rattle.model.specs.Broker.{ready_bytes, refuses};
-ghost use Rattle.queue.specs.Line.{ready_count};
+ghost use Rattle.model.specs.declared.notes.Way.TheVariants.{Publish};
 ghost use Rattle.depot.specs.Store.{entries_of};
 ghost use Rattle.depot.specs.Turns.{
   turn_at,
@@ -38,11 +35,8 @@ ghost use Rattle.depot.specs.Turns.{
   entered_one,
   all_entered,
   room_at,
-  times,
   LinesHaveRoom,
-  CanTakeAt,
-  SpendsRoom,
-  GainsNone,
+  IsRoomy,
 };
 
 use crate::queues::{Queue, Queues};
@@ -120,16 +114,14 @@ pub(crate) fn enter(
     declared: &DeclaredQueue,
     queue: &mut Queue,
     turn: PlannedTurn,
-    way: Way,
     notes: &mut Notes,
 ) -> bool
-    requires room { refuses (Some declared.now) (ready_count queue.old.entries) (ready_bytes queue.old.entries) (length turn.message.content.body) ≡ false
-        → 0 < queue.old.room }
+    requires room { 0 < queue.old.room }
     requires notes { vec_len notes.old < vec_capacity notes.old }
-    ensures refused { result ≡ is_refusal (outcome_at way declared.now queue.old.entries turn) }
-    ensures entries { queue.new.entries ≡ queue.old.entries ++ arriving (outcome_at way declared.now queue.old.entries turn).message }
-    ensures room { queue.new.room + length (arriving (outcome_at way declared.now queue.old.entries turn).message) ≡ queue.old.room }
-    ensures notes { notes.new.items ≡ notes.old.items ++ (outcome_at way declared.now queue.old.entries turn).note ∷ [] }
+    ensures refused { result ≡ is_refusal (outcome_at Publish declared.now queue.old.entries turn) }
+    ensures entries { queue.new.entries ≡ queue.old.entries ++ arriving (outcome_at Publish declared.now queue.old.entries turn).message }
+    ensures room { queue.new.room + length (arriving (outcome_at Publish declared.now queue.old.entries turn).message) ≡ queue.old.room }
+    ensures notes { notes.new.items ≡ notes.old.items ++ (outcome_at Publish declared.now queue.old.entries turn).note ∷ [] }
     ensures notes_len { vec_len notes.new ≡ vec_len notes.old + 1 }
     ensures notes_capacity { vec_capacity notes.new ≡ vec_capacity notes.old }
 {
@@ -151,7 +143,7 @@ pub(crate) fn enter(
     notes.push_reserved(Note::Entered {
         number,
         queue: name,
-        way,
+        way: Way::Publish,
     });
     false
 }
@@ -161,27 +153,23 @@ fn enter_at(
     declared: &[DeclaredQueue],
     queues: &mut Queues,
     turn: PlannedTurn,
-    way: Way,
     notes: &mut Notes,
 ) -> bool
     requires len { length queues.old ≡ length declared.now }
     requires within { turn.place < length queues.old }
-    requires room { CanTakeAt declared.now queues.old turn.place 1 }
+    requires room { 0 < room_at queues.old turn.place }
     requires notes { vec_len notes.old < vec_capacity notes.old }
-    ensures refused { result ≡ is_refusal (outcome way declared.now (entries_of queues.old) turn) }
-    ensures entries { entries_of queues.new ≡ entered_one (outcome way declared.now (entries_of queues.old) turn) (entries_of queues.old) }
-    ensures spent { SpendsRoom declared.now queues.old queues.new (λ place. cond (place == turn.place) 1 0) }
-    ensures gains { GainsNone queues.old queues.new }
+    ensures refused { result ≡ is_refusal (outcome Publish declared.now (entries_of queues.old) turn) }
+    ensures entries { entries_of queues.new ≡ entered_one (outcome Publish declared.now (entries_of queues.old) turn) (entries_of queues.old) }
+    ensures room { (place : ℕ) → room_at queues.old place ≤ room_at queues.new place + cond (place == turn.place) 1 0 }
     ensures len { length queues.new ≡ length queues.old }
-    ensures notes { notes.new.items ≡ notes.old.items ++ (outcome way declared.now (entries_of queues.old) turn).note ∷ [] }
+    ensures notes { notes.new.items ≡ notes.old.items ++ (outcome Publish declared.now (entries_of queues.old) turn).note ∷ [] }
     ensures notes_len { vec_len notes.new ≡ vec_len notes.old + 1 }
     ensures notes_capacity { vec_capacity notes.new ≡ vec_capacity notes.old }
 {
     let place = turn.place;
-    // a dead letter is exempt: it comes from a consumer's rejection, and must not slow the reading from that consumer
-    let is_dead = matches!(way, Way::Dead);
-    let is_refused = enter(&declared[place], queues.queue_mut(place), turn, way, notes);
-    queues.count_coming(place, is_refused || is_dead);
+    let is_refused = enter(&declared[place], queues.queue_mut(place), turn, notes);
+    queues.count_coming(place, is_refused);
     is_refused
 }
 
@@ -190,25 +178,22 @@ pub(crate) fn enter_all(
     declared: &[DeclaredQueue],
     queues: &mut Queues,
     turns: Vec<PlannedTurn>,
-    way: Way,
     notes: &mut Notes,
 ) -> bool
     requires len { length queues.old ≡ length declared.now }
     requires within { All (λ i. i < length queues.old) (places turns.items) }
-    requires room { (place : ℕ) → CanTakeAt declared.now queues.old place (times place (places turns.items)) }
+    requires room { IsRoomy queues.old (places turns.items) }
     requires notes { vec_len notes.old + vec_len turns ≤ vec_capacity notes.old }
-    ensures refused { result ≡ list_any is_refusal (outcomes way declared.now turns.items (entries_of queues.old)) }
-    ensures entries { entries_of queues.new ≡ all_entered (outcomes way declared.now turns.items (entries_of queues.old)) (entries_of queues.old) }
-    ensures spent { SpendsRoom declared.now queues.old queues.new (λ place. times place (places turns.items)) }
-    ensures gains { GainsNone queues.old queues.new }
+    ensures refused { result ≡ list_any is_refusal (outcomes Publish declared.now turns.items (entries_of queues.old)) }
+    ensures entries { entries_of queues.new ≡ all_entered (outcomes Publish declared.now turns.items (entries_of queues.old)) (entries_of queues.old) }
     ensures len { length queues.new ≡ length queues.old }
-    ensures notes { notes.new.items ≡ notes.old.items ++ notes_of_outcomes (outcomes way declared.now turns.items (entries_of queues.old)) }
+    ensures notes { notes.new.items ≡ notes.old.items ++ notes_of_outcomes (outcomes Publish declared.now turns.items (entries_of queues.old)) }
     ensures notes_len { vec_len notes.new ≡ vec_len notes.old + vec_len turns }
     ensures notes_capacity { vec_capacity notes.new ≡ vec_capacity notes.old }
 {
     let mut is_some_refused = false;
     for turn in turns {
-        is_some_refused |= enter_at(declared, queues, turn, way, notes);
+        is_some_refused |= enter_at(declared, queues, turn, notes);
     }
     is_some_refused
 }

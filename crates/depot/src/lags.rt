@@ -38,9 +38,10 @@ impl Lags {
         }
     }
 
-    /// Counts a message for the queue at `index` if that queue lags, unless `is_exempt`: the message was refused there, or is a dead letter.
-    pub(crate) fn come(&mut self, index: usize, is_exempt: bool) {
-        if !is_exempt && index < self.left.len() && self.left[index] > 0 {
+    /// Counts a published message for the queue at `index` if that queue lags, unless `is_refused` there. A dead letter isn't counted: it comes from
+    /// a consumer's rejection, and must not slow the reading from that consumer.
+    pub(crate) fn come(&mut self, index: usize, is_refused: bool) {
+        if !is_refused && index < self.left.len() && self.left[index] > 0 {
             self.left[index] -= 1;
             self.count = self.count.wrapping_add(1);
         }

@@ -1,7 +1,6 @@
 //! Makes the contents of dead letters, one after another.
 
 ghost use Rattle.std.specs.Prelude.{◌≡◌, IfOk, IfSome, IsTrue};
-ghost use Rattle.model.specs.declared.contents.Fields.{Fields as Seen};
 ghost use Rattle.depot.specs.Marked.{ArePropertiesMarked};
 ghost use Rattle.depot.specs.Kept.{IsRight};
 
@@ -81,7 +80,7 @@ fn marked_once(
 
 /// Makes the contents of dead letters. Remembers the last result, so that properties with the same encoding are marked once.
 /// What it returns doesn't depend on what it remembers.
-pub struct Marker {
+pub(crate) struct Marker {
     last: Option<Marking>,
 }
 
@@ -107,13 +106,13 @@ impl Marker {
     ghost use Rattle.depot.specs.Marked.{IsMarked};
 
     /// Makes a marker that remembers nothing. Never allocates.
-    pub fn new() -> Marker {
+    pub(crate) fn new() -> Marker {
         Marker { last: None }
     }
 
     /// Returns the content of a message that dies in `queue`, last sent to `exchange`: its headers name its first death, in whatever queue that
     /// was. The body is shared, and so are the headers if they name a death already. Fails only if an allocation fails.
-    pub fn marked(
+    pub(crate) fn marked(
         &mut self,
         alloc: Global,
         queue: &Text,

@@ -1,9 +1,9 @@
 //! Room for the dead letters of a rejection. Start with [`make_rooms`].
 
-ghost use Rattle.std.specs.Prelude.{◌≡◌, ◌==◌, ◌+◌, ◌<◌, ◌≤◌, ℕ, length, cond, All, OnOk, OnErr};
+ghost use Rattle.std.specs.Prelude.{◌≡◌, ◌==◌, ◌+◌, ◌<◌, length, cond, OnOk, OnErr};
 ghost use Rattle.depot.specs.Store.{entries_of};
-ghost use Rattle.depot.specs.Dying.{arriving_at};
-ghost use Rattle.depot.specs.Turns.{room_at, times, MakesRoom, MakesAtMost, GainsNone, AreEmptied};
+ghost use Rattle.depot.specs.Dying.{arriving_at, EnterBelow};
+ghost use Rattle.depot.specs.Turns.{room_at, times, IsRoomy, MakesRoom, MakesAtMost, GainsNone, AreEmptied};
 
 use crate::arrivals::Arrival;
 use crate::queues::{Queue, Queues};
@@ -36,7 +36,7 @@ fn reserve_at(queues: &mut Queues, place: usize) -> Result<(), AllocError>
 /// Reserves room for one push for each of `arrivals`, in its queue. Fails only if an allocation fails; some of the room is reserved
 /// then.
 fn reserve_all(queues: &mut Queues, arrivals: &[Arrival]) -> Result<(), AllocError>
-    requires { All (λ i. i < length queues.old) (arriving_at arrivals.now) }
+    requires { EnterBelow (length queues.old) arrivals.now }
     ensures same { entries_of queues.new ≡ entries_of queues.old }
     ensures len { length queues.new ≡ length queues.old }
     ensures room { OnOk result (MakesRoom queues.old queues.new (λ k. times k (arriving_at arrivals.now))) }
@@ -61,7 +61,7 @@ fn give_back_at(queues: &mut Queues, place: usize)
 
 /// Gives back the room of each queue that one of `arrivals` enters. Never allocates.
 fn give_back_all(queues: &mut Queues, arrivals: &[Arrival])
-    requires { All (λ i. i < length queues.old) (arriving_at arrivals.now) }
+    requires { EnterBelow (length queues.old) arrivals.now }
     ensures same { entries_of queues.new ≡ entries_of queues.old }
     ensures len { length queues.new ≡ length queues.old }
     ensures gains { GainsNone queues.old queues.new }
@@ -75,10 +75,10 @@ fn give_back_all(queues: &mut Queues, arrivals: &[Arrival])
 /// Reserves room for one push for each of `arrivals`, in its queue, and for no other: a queue has exactly as much then as letters
 /// enter it. Fails only if an allocation fails; no queue has more room then than before.
 pub(crate) fn make_rooms(queues: &mut Queues, arrivals: &[Arrival]) -> Result<(), AllocError>
-    requires { All (λ i. i < length queues.old) (arriving_at arrivals.now) }
+    requires { EnterBelow (length queues.old) arrivals.now }
     ensures same { entries_of queues.new ≡ entries_of queues.old }
     ensures len { length queues.new ≡ length queues.old }
-    ensures room { OnOk result ((place : ℕ) → times place (arriving_at arrivals.now) ≤ room_at queues.new place) }
+    ensures room { OnOk result (IsRoomy queues.new (arriving_at arrivals.now)) }
     ensures few { OnOk result (MakesAtMost queues.old queues.new (λ k. times k (arriving_at arrivals.now))) }
     ensures gains { OnErr result (GainsNone queues.old queues.new) }
 {

@@ -2,18 +2,16 @@
 
 ghost use Rattle.std.specs.Prelude.{◌≡◌, ◌+◌, ◌<◌, ◌≤◌, length, All, AllPairs, IfOk, IfSome, OnOk, OnErr, vec_len, vec_capacity};
 ghost use Rattle.std.specs.Arc.{arc_value};
-ghost use Rattle.model.specs.declared.methods.Publish.{Publish as Seen};
 ghost use Rattle.model.specs.declared.notes.Note.TheVariants.{Published};
-ghost use Rattle.exchange_graph.specs.Targets.{AreTargets};
 ghost use Rattle.exchange_graph.specs.Routers.{IsRoute};
 ghost use Rattle.depot.specs.Store.{entries_of};
-ghost use Rattle.depot.specs.Turns.{Enters};
+ghost use Rattle.depot.specs.Turns.{EntersAt};
 
 use crate::depots::Routed;
 use crate::entering::{enter_all, make_room, turns};
 use crate::queues::Queues;
 use exchange_graph::{Route, Router, Topology};
-use model::{ChannelId, Message, Note, Publish, Way};
+use model::{ChannelId, Message, Note, Publish};
 use notes::Notes;
 use std::alloc::{AllocError, Global};
 use std::sync::Arc;
@@ -69,9 +67,7 @@ pub(crate) fn publish_to_many(
     requires within { All (λ i. i < length topology.now.queues) targets.now }
     requires rising { AllPairs (λ i j. i < j) targets.now }
     // The promise.
-    ensures ok { IfOk result (λ routed. (p : Seen)
-        → AreTargets topology.now p.exchange p.routing_key targets.now
-        → Enters topology.now (entries_of queues.old) (entries_of queues.new) p message first notes.old.items notes.new.items routed) }
+    ensures ok { IfOk result (λ routed. EntersAt topology.now targets.now queues.old queues.new message first notes.old notes.new routed) }
     ensures len { length queues.new ≡ length queues.old }
     // A failure changes neither the queues nor the notes.
     ensures room { OnOk result (vec_len notes.new + 2 ≤ vec_capacity notes.new) }
@@ -83,7 +79,7 @@ pub(crate) fn publish_to_many(
     notes.reserve_exact(turns.len() + 3)?;
     notes.push_reserved(first);
     let is_none = turns.is_empty();
-    let is_some_full = enter_all(topology.queues(), queues, turns, Way::Publish, notes);
+    let is_some_full = enter_all(topology.queues(), queues, turns, notes);
     Ok(Routed {
         is_none,
         is_some_full,

@@ -152,11 +152,11 @@ impl Queues {
         next_in(&self.queues, &self.signs, self.lent, from)
     }
 
-    /// Counts a message for the queue at `index` if that queue lags, unless `is_exempt` ([`Lags::come`]).
-    pub(crate) fn count_coming(&mut self, index: usize, is_exempt: bool)
+    /// Counts a published message for the queue at `index` if that queue lags, unless `is_refused` there ([`Lags::come`]).
+    pub(crate) fn count_coming(&mut self, index: usize, is_refused: bool)
         ensures { self.new ≡ self.old }
     {
-        self.lags.come(index, is_exempt);
+        self.lags.come(index, is_refused);
     }
 
     /// Records that a message was taken from the queue at `index`, which left `ready` messages ready there.

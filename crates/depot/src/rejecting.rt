@@ -1,15 +1,14 @@
 //! A rejection: it is planned which dead letters enter which queues, capacity is reserved for these, and then all is performed, which
 //! can't fail.
 
-ghost use Rattle.std.specs.Prelude.{◌≡◌, ◌+◌, ◌<◌, ◌≤◌, ℕ, ◌∷◌, [], List, length, map, All, true, false, IfOk, OnOk, OnErr, vec_len, vec_capacity};
+ghost use Rattle.std.specs.Prelude.{◌≡◌, ◌+◌, ◌<◌, ◌≤◌, ℕ, ◌∷◌, [], length, All, true, false, IfOk, OnOk, OnErr, vec_len, vec_capacity};
 ghost use Rattle.model.specs.Routing.{key_after};
 ghost use Rattle.model.specs.Placed.{is_waiting, waiting, AreWithin};
-ghost use Rattle.model.specs.declared.messages.Entry.{Entry};
 ghost use Rattle.depot.specs.Store.{entries_of};
 ghost use Rattle.depot.specs.Settled.{AreOf, left_at};
-ghost use Rattle.depot.specs.Tallies.{AreTallied};
-ghost use Rattle.depot.specs.Turns.{turn_at, room_at, times, GainsNone, MakesAtMost};
-ghost use Rattle.depot.specs.Dying.{arriving_at, arrived, all_left, Extends, IsLetterAt, ForeseesTurns, ForeseesLetters, ForeseesGiven, IsForeseen, Rejects};
+ghost use Rattle.depot.specs.Turns.{room_at, times, IsRoomy, GainsNone, MakesAtMost};
+ghost use Rattle.depot.specs.Dying.{arriving_at, arrived, all_left, so_far, EnterBelow, Extends, IsLetterAt, IsForeseen, Rejects};
+ghost use Rattle.depot.specs.Dying.{Foresees, ForeseesLetters, ForeseesGiven, ForeseesWaiting};
 
 use crate::arrivals::Arrival;
 use crate::markers::Marker;
@@ -47,11 +46,9 @@ fn plan_turn(
     requires len { length queues.now ≡ length declared.now }
     requires within { place < length queues.now }
     requires room { vec_len notes.old < vec_capacity notes.old }
-    ensures ok { OnOk result ((entries : List (List Entry)) → AreTallied declared.now (entries_of queues.now) plan.old.tallies.entries entries
-        → ForeseesTurns declared.now (entries_of queues.now) (turn_at declared.now letter.now place ∷ []) entries plan.new.tallies.entries
-        plan.old.arrivals.items plan.new.arrivals.items notes.old.items notes.new.items) }
-    ensures within { (n : ℕ) → place < n → All (λ i. i < n) (arriving_at plan.old.arrivals.items)
-        → All (λ i. i < n) (arriving_at plan.new.arrivals.items) }
+    ensures ok { OnOk result (Foresees declared.now (entries_of queues.now) letter.now (place ∷ [])
+        (so_far plan.old notes.old) (so_far plan.new notes.new)) }
+    ensures within { (n : ℕ) → place < n → EnterBelow n plan.old.arrivals.items → EnterBelow n plan.new.arrivals.items }
     ensures notes { Extends notes.old.items notes.new.items }
     ensures notes_len { vec_len notes.new ≤ vec_len notes.old + 1 }
     ensures notes_capacity { vec_capacity notes.new ≡ vec_capacity notes.old }
@@ -86,11 +83,9 @@ fn plan_turns(
     requires len { length queues.now ≡ length declared.now }
     requires within { All (λ i. i < length queues.now) targets.now }
     requires room { vec_len notes.old + length targets.now ≤ vec_capacity notes.old }
-    ensures ok { OnOk result ((entries : List (List Entry)) → AreTallied declared.now (entries_of queues.now) plan.old.tallies.entries entries
-        → ForeseesTurns declared.now (entries_of queues.now) (map (turn_at declared.now letter.now) targets.now) entries plan.new.tallies.entries
-        plan.old.arrivals.items plan.new.arrivals.items notes.old.items notes.new.items) }
-    ensures within { All (λ i. i < length queues.now) (arriving_at plan.old.arrivals.items)
-        → All (λ i. i < length queues.now) (arriving_at plan.new.arrivals.items) }
+    ensures ok { OnOk result (Foresees declared.now (entries_of queues.now) letter.now targets.now
+        (so_far plan.old notes.old) (so_far plan.new notes.new)) }
+    ensures within { EnterBelow (length queues.now) plan.old.arrivals.items → EnterBelow (length queues.now) plan.new.arrivals.items }
     ensures notes { Extends notes.old.items notes.new.items }
 {
     for target in targets {
@@ -136,11 +131,9 @@ fn plan_letter(
 ) -> Result<(), AllocError>
     requires len { length queues.now ≡ length router.old.queues }
     requires within { place < length router.old.queues }
-    ensures ok { OnOk result ((entries : List (List Entry)) → AreTallied router.old.queues (entries_of queues.now) plan.old.tallies.entries entries
-        → ForeseesLetters router.old place message.now (entries_of queues.now) entries plan.new.tallies.entries
-        plan.old.arrivals.items plan.new.arrivals.items notes.old.items notes.new.items) }
-    ensures within { All (λ i. i < length queues.now) (arriving_at plan.old.arrivals.items)
-        → All (λ i. i < length queues.now) (arriving_at plan.new.arrivals.items) }
+    ensures ok { OnOk result (ForeseesLetters router.old place message.now (entries_of queues.now)
+        (so_far plan.old notes.old) (so_far plan.new notes.new)) }
+    ensures within { EnterBelow (length queues.now) plan.old.arrivals.items → EnterBelow (length queues.now) plan.new.arrivals.items }
     ensures notes { Extends notes.old.items notes.new.items }
     ensures same { router.new ≡ router.old }
 {
@@ -171,11 +164,9 @@ fn plan_one(
 ) -> Result<(), AllocError>
     requires len { length queues.now ≡ length router.old.queues }
     requires within { given.now.queue < length router.old.queues }
-    ensures ok { OnOk result ((entries : List (List Entry)) → AreTallied router.old.queues (entries_of queues.now) plan.old.tallies.entries entries
-        → ForeseesGiven router.old id.connection id.number given.now (entries_of queues.now) entries plan.new.tallies.entries
-        plan.old.arrivals.items plan.new.arrivals.items notes.old.items notes.new.items) }
-    ensures within { All (λ i. i < length queues.now) (arriving_at plan.old.arrivals.items)
-        → All (λ i. i < length queues.now) (arriving_at plan.new.arrivals.items) }
+    ensures ok { OnOk result (ForeseesGiven router.old id given.now (entries_of queues.now)
+        (so_far plan.old notes.old) (so_far plan.new notes.new)) }
+    ensures within { EnterBelow (length queues.now) plan.old.arrivals.items → EnterBelow (length queues.now) plan.new.arrivals.items }
     ensures notes { Extends notes.old.items notes.new.items }
     ensures same { router.new ≡ router.old }
 {
@@ -206,14 +197,10 @@ fn plan_waiting(
 ) -> Result<(), AllocError>
     requires len { length queues.now ≡ length router.old.queues }
     requires within { is_waiting given.now ≡ true → given.now.queue < length router.old.queues }
-    ensures yes { OnOk result (is_waiting given.now ≡ true
-        → (entries : List (List Entry)) → AreTallied router.old.queues (entries_of queues.now) plan.old.tallies.entries entries
-        → ForeseesGiven router.old id.connection id.number given.now (entries_of queues.now) entries plan.new.tallies.entries
-        plan.old.arrivals.items plan.new.arrivals.items notes.old.items notes.new.items) }
-    ensures no { OnOk result (is_waiting given.now ≡ false → (plan.new.tallies.entries ≡ plan.old.tallies.entries)
-        × (plan.new.arrivals.items ≡ plan.old.arrivals.items) × (notes.new.items ≡ notes.old.items)) }
-    ensures within { All (λ i. i < length queues.now) (arriving_at plan.old.arrivals.items)
-        → All (λ i. i < length queues.now) (arriving_at plan.new.arrivals.items) }
+    ensures yes { OnOk result (ForeseesWaiting router.old id given.now (entries_of queues.now)
+        (so_far plan.old notes.old) (so_far plan.new notes.new)) }
+    ensures no { OnOk result (is_waiting given.now ≡ false → so_far plan.new notes.new ≡ so_far plan.old notes.old) }
+    ensures within { EnterBelow (length queues.now) plan.old.arrivals.items → EnterBelow (length queues.now) plan.new.arrivals.items }
     ensures notes { Extends notes.old.items notes.new.items }
     ensures same { router.new ≡ router.old }
 {
@@ -236,9 +223,9 @@ fn plan_all(
 ) -> Result<Vec<Arrival>, AllocError>
     requires len { length queues.now ≡ length router.old.queues }
     requires within { AreWithin router.old (waiting gone.now) }
-    ensures foreseen { IfOk result (λ arrivals. IsForeseen router.old id.connection id.number (waiting gone.now)
-        (entries_of queues.now) arrivals.items notes.old.items notes.new.items) }
-    ensures within { IfOk result (λ arrivals. All (λ i. i < length queues.now) (arriving_at arrivals.items)) }
+    ensures foreseen { IfOk result (λ came.
+        IsForeseen router.old id (waiting gone.now) (entries_of queues.now) came.items notes.old.items notes.new.items) }
+    ensures within { IfOk result (λ came. EnterBelow (length queues.now) came.items) }
     ensures notes { Extends notes.old.items notes.new.items }
     ensures same { router.new ≡ router.old }
 {
@@ -290,8 +277,8 @@ fn arrive(queues: &mut Queues, arrival: Arrival)
 
 /// Appends each of `arrivals` to its queue, one after another. There is room for all of them.
 fn arrive_all(queues: &mut Queues, arrivals: Vec<Arrival>)
-    requires within { All (λ i. i < length queues.old) (arriving_at arrivals.items) }
-    requires room { (place : ℕ) → times place (arriving_at arrivals.items) ≤ room_at queues.old place }
+    requires within { EnterBelow (length queues.old) arrivals.items }
+    requires room { IsRoomy queues.old (arriving_at arrivals.items) }
     ensures arrived { entries_of queues.new ≡ arrived arrivals.items (entries_of queues.old) }
     ensures len { length queues.new ≡ length queues.old }
     ensures room { (place : ℕ) → room_at queues.new place + times place (arriving_at arrivals.items) ≡ room_at queues.old place }
@@ -312,11 +299,11 @@ fn prepare(
 ) -> Result<Vec<Arrival>, AllocError>
     requires len { length queues.old ≡ length router.old.queues }
     requires within { AreWithin router.old (waiting gone.now) }
-    ensures foreseen { IfOk result (λ arrivals. IsForeseen router.old id.connection id.number (waiting gone.now)
-        (entries_of queues.old) arrivals.items notes.old.items notes.new.items) }
-    ensures within { IfOk result (λ arrivals. All (λ i. i < length queues.old) (arriving_at arrivals.items)) }
-    ensures room { IfOk result (λ arrivals. (place : ℕ) → times place (arriving_at arrivals.items) ≤ room_at queues.new place) }
-    ensures few { IfOk result (λ arrivals. MakesAtMost queues.old queues.new (λ k. times k (arriving_at arrivals.items))) }
+    ensures foreseen { IfOk result (λ came.
+        IsForeseen router.old id (waiting gone.now) (entries_of queues.old) came.items notes.old.items notes.new.items) }
+    ensures within { IfOk result (λ came. EnterBelow (length queues.old) came.items) }
+    ensures room { IfOk result (λ came. IsRoomy queues.new (arriving_at came.items)) }
+    ensures few { IfOk result (λ came. MakesAtMost queues.old queues.new (λ k. times k (arriving_at came.items))) }
     ensures gains { OnErr result (GainsNone queues.old queues.new) }
     ensures queues { entries_of queues.new ≡ entries_of queues.old }
     ensures len { length queues.new ≡ length queues.old }
@@ -342,8 +329,7 @@ pub(crate) fn reject_in(
     requires within { AreWithin router.old (waiting gone.now) }
     // The promise.
     ensures ok { OnOk result
-        (Rejects router.old id.connection id.number (waiting gone.now)
-        (entries_of queues.old) (entries_of queues.new) notes.old.items notes.new.items) }
+        (Rejects router.old id (waiting gone.now) (entries_of queues.old) (entries_of queues.new) notes.old.items notes.new.items) }
     ensures same { router.new ≡ router.old }
     ensures len { length queues.new ≡ length queues.old }
     ensures queues { OnErr result (entries_of queues.new ≡ entries_of queues.old) }

@@ -1,13 +1,13 @@
 //! Acknowledges and requeues deliveries.
 
-ghost use Rattle.std.specs.Prelude.{◌≡◌, ◌+◌, ◌<◌, ◌≤◌, ◌++◌, ◌∷◌, ℕ, [], true, false, length, map, IfOk, OnOk, OnErr, vec_len, vec_capacity};
-ghost use Rattle.model.specs.Topology.{Topology as Declared, IsWellFormed};
-ghost use Rattle.model.specs.Deliveries.{Leaves, Returns, left_note};
+ghost use Rattle.std.specs.Prelude.{◌≡◌, ◌+◌, ◌<◌, ◌≤◌, ◌++◌, ◌∷◌, [], true, false, length, map, IfOk, OnOk, OnErr, vec_len, vec_capacity};
+ghost use Rattle.model.specs.Topology.{IsWellFormed};
+ghost use Rattle.model.specs.Deliveries.{Leaves, left_note};
 ghost use Rattle.model.specs.Placed.{is_waiting, waiting, AreWithin};
 ghost use Rattle.model.specs.declared.notes.Cause.TheVariants.{Acked};
 ghost use Rattle.depot.specs.Store.{entries_of};
 ghost use Rattle.depot.specs.Dying.{given_at};
-ghost use Rattle.depot.specs.Settled.{AreSettledBy, AreOf, IsApart, departure_in, left_at, returned_at, store_of};
+ghost use Rattle.depot.specs.Settled.{AreReturnedIn, AreSettledIn, AreOf, IsApart, departure_in, left_at, returned_at, store_of};
 
 use crate::departures::Departure;
 use crate::queues::Queues;
@@ -113,8 +113,8 @@ pub(crate) fn ack_all(
     requires within { AreWithin topology.now (waiting gone.now) }
     requires apart { IsApart (store_of topology.now (entries_of queues.old) 0) }
     // The promise; a failure changes neither the queues nor the notes.
-    ensures ok { OnOk result ((n : ℕ) → AreSettledBy (Leaves Acked) (store_of topology.now (entries_of queues.old) n)
-        id.connection id.number (waiting gone.now) notes.old.items notes.new.items (store_of topology.now (entries_of queues.new) n)) }
+    ensures ok { OnOk result (AreSettledIn (Leaves Acked) topology.now id (waiting gone.now)
+        queues.old queues.new notes.old.items notes.new.items) }
     ensures len { length queues.new ≡ length queues.old }
     ensures queues { OnErr result (entries_of queues.new ≡ entries_of queues.old) }
     ensures notes { OnErr result (notes.new.items ≡ notes.old.items) }
@@ -147,9 +147,7 @@ fn put_back(queues: &mut Queues, id: ChannelId, given: &Delivery)
 /// Requeues the unacknowledged deliveries of `gone`: each message is ready again in its place, marked redelivered.
 pub(crate) fn requeue_in(queues: &mut Queues, id: ChannelId, gone: &[Delivery])
     requires { AreOf (length queues.old) (waiting gone.now) }
-    ensures settled { (t : Declared) (n : ℕ) → IsWellFormed t → length queues.old ≡ length t.queues
-        → AreSettledBy Returns (store_of t (entries_of queues.old) n) id.connection id.number (waiting gone.now) [] []
-        (store_of t (entries_of queues.new) n) }
+    ensures settled { AreReturnedIn id (waiting gone.now) queues.old queues.new }
     ensures len { length queues.new ≡ length queues.old }
 {
     for given in gone {

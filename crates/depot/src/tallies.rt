@@ -1,10 +1,9 @@
 //! Foresees which queues refuse the dead letters of a rejection, before any of them enters. Start with [`count`].
 
-ghost use Rattle.std.specs.Prelude.{◌≡◌, ◌+◌, ◌<◌, ◌||◌, List, length, None, IfOk, IfSome};
+ghost use Rattle.std.specs.Prelude.{◌≡◌, ◌+◌, ◌<◌, ◌||◌, length, None, IfOk, IfSome};
 ghost use Rattle.model.specs.Broker as seen;
-ghost use Rattle.model.specs.declared.messages.Entry.{Entry};
 ghost use Rattle.depot.specs.Store.{entries_of};
-ghost use Rattle.depot.specs.Tallies.{tally_at, is_limited, TellsTurn};
+ghost use Rattle.depot.specs.Tallies.{tally_at, is_limited, CountsTurn};
 
 use crate::queues::Queues;
 use model::DeclaredQueue;
@@ -84,8 +83,7 @@ pub(crate) fn count(
 ) -> Result<bool, AllocError>
     requires len { length queues.now ≡ length declared.now }
     requires within { place < length queues.now }
-    ensures { IfOk result (λ is_full. (entries : List (List Entry))
-        → TellsTurn declared.now (entries_of queues.now) tallies.old.entries tallies.new.entries place size is_full entries) }
+    ensures { IfOk result (λ is_full. CountsTurn declared.now (entries_of queues.now) tallies.old.entries tallies.new.entries place size is_full) }
 {
     let queue = &declared[place];
     if !has_limit(queue) {

@@ -41,10 +41,6 @@ narrow_set most bs i b lt le n j = elim (eqb_tells j i) [
   | inr q ↦ let e = slots_at _ _ (elsewhere bs i j b q.1) in let m = n j in omega (arith, e, m)
 ]
 
--- no more slots than it had
-pub no_more : (most : ℕ) (bs : List Stretch) (i : ℕ) (d b : Stretch) → i < length bs → d ≡ get_or bs i d → b.slots ≤ d.slots → ((j : ℕ) → (block_at bs j).slots ≤ most) → b.slots ≤ most
-no_more most bs i d b lt at less n = let e = slots_at _ _ (at_block bs i d lt at) in let m = n i in omega (arith, e, m, less)
-
 -- As many slots are kept for as many messages.
 pub record AreAlike (bs cs : List Stretch) : Type 0 where
   pub len : length cs ≡ length bs
@@ -138,35 +134,6 @@ but_taken most bs i d b lt at same less f =
           let y = live_at _ _ (same_at bs (j + 1) i e) in
           omega (arith, m, u, x, y, v, v', less);
     }
-
--- none was left in it, nor in the one before it: it is given back
-pub filled_spent : (most : ℕ) (bs : List Stretch) (i : ℕ) (d b : Stretch) → i < length bs → d ≡ get_or bs i d → b.slots ≤ d.slots → length b.entries ≡ length d.entries → IsFilled b
-    → IsSpent i bs → AreFilledBut i most bs → AreFilled most (set bs i b)
-filled_spent most bs i d b lt at less same filled spent f =
-    let n = length-set bs i b in
-    let v = live_at _ _ (at_block bs i d lt at) in
-    let none = spent.here in record {
-      narrow = narrow_set most bs i b lt (no_more most bs i d b lt at less f.narrow) f.narrow;
-      filled = λ j l. elim (eqb_tells j i) [
-        | inl q ↦ subst IsFilled (sym (there bs i j b lt q.1)) filled
-        | inr q ↦ subst IsFilled (sym (elsewhere bs i j b q.1)) (f.filled j (omega (arith, n, l)) q.1)
-      ];
-      needed = λ j l h. elim (eqb_tells j i) [
-        | inl q ↦ absurd (let e = live_at _ _ (there bs i j b lt q.1) in omega (arith, e, h, none, same, v))
-        | inr q ↦ elim (eqb_tells (j + 1) i) [
-          | inl r ↦ absurd (let z = spent.before j r.1 in let e = live_at _ _ (elsewhere bs i j b q.1) in omega (arith, z, e, h))
-          | inr r ↦ need_same _ _ _ _ (elsewhere bs i j b q.1) (elsewhere bs i (j + 1) b r.1) (f.needed j (omega (arith, n, l)) q.1 r.1 (subst IsHeld (elsewhere bs i j b q.1) h))
-        ]
-      ];
-    }
-
--- it is the last
-pub filled_at_last : (most : ℕ) (bs : List Stretch) (i : ℕ) → length bs ≤ i + 1 → AreFilledBut i most bs → AreFilled most bs
-filled_at_last most bs i last f = record {
-  narrow = f.narrow;
-  filled = λ j l. f.filled j l (λ q. absurd (omega (arith, last, l, q)));
-  needed = λ j l h. f.needed j l (λ q. absurd (omega (arith, last, l, q))) (λ q. absurd (omega (arith, last, l, q))) h;
-}
 
 -- it and its neighbours are needed
 pub filled_needed : (most : ℕ) (bs : List Stretch) (i : ℕ) → i + 1 < length bs → IsNotSpent i bs → AreNeeded i bs → AreFilledBut i most bs → AreFilled most bs

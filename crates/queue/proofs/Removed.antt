@@ -15,22 +15,6 @@ still_there bs i d lt at =
 pub next_there : (bs : List Stretch) (i : ℕ) (b : Stretch) → i + 1 < length bs → b ≡ get_or bs (i + 1) b → b ≡ block_at bs (i + 1)
 next_there bs i b lt at = at_block bs (i + 1) b lt at
 
-pub joined_is : (bs : List Stretch) (i : ℕ) (d b next : Stretch) → i + 1 < length bs → d ≡ get_or (remove bs (i + 1)) i d → next ≡ get_or bs (i + 1) next
-    → b.entries ≡ d.entries ++ next.entries → b.slots ≡ d.slots → AreJoined i bs (set (remove bs (i + 1)) i b)
-joined_is bs i d b next lt at behind es ss =
-    let n = length-remove bs (i + 1) lt in
-    let m = length-set (remove bs (i + 1)) i b in
-    let within : i < length (remove bs (i + 1)) = omega (arith, n, lt) in
-    let was = still_there bs i d lt at in
-    let is = there (remove bs (i + 1)) i i b within refl in record {
-      len = omega (arith, n, m);
-      before = λ j l. elsewhere (remove bs (i + 1)) i j b (λ q. absurd (omega (arith, l, q))) ∙ get_or-remove_below bs (i + 1) no_stretch j (omega (arith, l)) lt;
-      entries = ap (λ (x : Stretch). x.entries) is ∙ es ∙ ap (λ (x : Stretch). x.entries ++ next.entries) was
-          ∙ ap (λ (x : Stretch). (block_at bs i).entries ++ x.entries) (next_there bs i next lt behind);
-      slots = ap (λ (x : Stretch). x.slots) is ∙ ss ∙ ap (λ (x : Stretch). x.slots) was;
-      behind = λ j l. elsewhere (remove bs (i + 1)) i j b (λ q. absurd (omega (arith, l, q))) ∙ get_or-remove_above bs (i + 1) no_stretch j (omega (arith, l)) lt;
-    }
-
 entries-joined : (bs : List Stretch) (i : ℕ) (b : Stretch) → suc i < length bs → b.entries ≡ (block_at bs i).entries ++ (block_at bs (suc i)).entries
     → joined (parts (set (remove bs (suc i)) i b)) ≡ joined (parts bs)
 entries-joined [] i b lt e = absurd (omega (arith, lt))

@@ -102,11 +102,6 @@ pub room_somewhere : (bs : List Stretch) → 0 < last_room bs → 0 < length bs
 room_somewhere [] h = absurd (omega arith)
 room_somewhere (b ∷ bs) h = omega arith
 
--- where there is none there is no room
-pub room_nowhere : (bs : List Stretch) → length bs ≡ 0 → last_room bs ≡ 0
-room_nowhere [] e = refl
-room_nowhere (b ∷ bs) e = absurd (omega (arith, e))
-
 -- there are some
 pub some_there : (n : ℕ) → (n == 0) ≡ false → 0 < n
 some_there zero h = absurd (false≢true (sym h))

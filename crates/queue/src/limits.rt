@@ -13,16 +13,6 @@ pub(crate) fn is_at(limit: Option<u32>, messages: usize) -> bool
     }
 }
 
-/// Returns whether `messages` and `more` together are at `limit` or above it.
-pub(crate) fn is_at_with(limit: Option<u32>, messages: usize, more: usize) -> bool
-    ensures { result ≡ seen.is_at limit (messages + more) }
-{
-    match limit {
-        None => false,
-        Some(limit) => (limit as usize).saturating_sub(messages) <= more,
-    }
-}
-
 /// Returns whether `bytes` and `size` together are more than `byte_limit`.
 pub(crate) fn is_past(byte_limit: Option<u32>, bytes: u128, size: usize) -> bool
     ensures { result ≡ seen.is_past byte_limit (bytes + size) }

@@ -65,13 +65,6 @@ pub trait Store: Drop {
         limits::is_at(limit, self.ready()) || limits::is_past(byte_limit, self.ready_bytes(), size)
     }
 
-    /// Returns whether the number of ready messages plus the promised room reaches `limit`; `false` if there is no limit.
-    fn has_room_up_to(&self, limit: Option<u32>) -> bool
-        ensures { result ≡ is_at limit (ready_count (line self.now).entries + (line self.now).room) }
-    {
-        limits::is_at_with(limit, self.ready(), self.room())
-    }
-
     /// Returns the first ready message.
     fn first_ready(&self) -> Option<&Entry>
         ensures { option_map (λ e. e.now) result ≡ find is_ready (line self.now).entries };

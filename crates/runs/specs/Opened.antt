@@ -1,5 +1,5 @@
 -- What each call of a machine does to its world.
-use Rattle.std.specs.Prelude.{◌≡◌, ◌+◌, ℕ, List, Bool, true, false, Option, Some, None, MatchBool}
+use Rattle.std.specs.Prelude.{◌≡◌, ◌+◌, ℕ, List, Bool, true, false, Option, Some, None, MatchBool, MatchOption}
 use Rattle.model.specs.Run.{Happening, notes_of}
 use Rattle.model.specs.Phases.{is_running}
 use Rattle.model.specs.Commands.{Stream, opened_stream, running_stream}
@@ -7,6 +7,8 @@ use Rattle.model.specs.Arrivals.{World, Same, Waits, Rests, Turns, Opens, Loses,
 use Rattle.model.specs.declared.events.Event.{Event}
 use Rattle.model.specs.declared.events.Event.TheVariants as event
 use Rattle.model.specs.declared.notes.Note.{Note}
+use Rattle.notes.specs.Kept.{Noted}
+use Rattle.runs.specs.declared.delivered.Delivered.{Delivered}
 
 -- the broker performs the connection's commands
 abbrev pub runs : World → ℕ → Bool
@@ -37,6 +39,10 @@ Did old c notes new = (hs : List Happening) × (notes ≡ notes_of hs) × Turns 
 abbrev pub DidNothing : World → ℕ → World → Type 0
 DidNothing old c new = Rests old c × Waits old c new
 
+-- the next command or fault was performed, with the notes that `did` has, or nothing was left to perform
+abbrev pub TurnTells : World → ℕ → Option Noted → World → Type 0
+TurnTells old c did new = MatchOption did (DidNothing old c new) (λ notes. Did old c notes.items new)
+
 -- one delivery was made, to connection `c`, and its notes are `notes`
 abbrev pub Pumped : World → ℕ → List Note → World → Type 0
 Pumped old c notes new = (hs : List Happening) × (notes ≡ notes_of hs) × Delivers old c hs new
@@ -44,6 +50,10 @@ Pumped old c notes new = (hs : List Happening) × (notes ≡ notes_of hs) × Del
 -- no delivery can be made to any connection, and nothing has changed
 abbrev pub Idles : World → World → Type 0
 Idles old new = NoneCanDeliver old × Same old new
+
+-- a delivery was made, to the connection and with the notes that `did` has, or none can be made
+abbrev pub PumpTells : World → Option Delivered → World → Type 0
+PumpTells old did new = MatchOption did (Idles old new) (λ d. Pumped old d.connection d.notes.items new)
 
 -- `n` bytes of the output are taken, unless the connection is gone
 abbrev pub TakesAway : World → ℕ → ℕ → World → Type 0

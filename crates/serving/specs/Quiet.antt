@@ -44,6 +44,10 @@ HoldsPaused w ps i = (p : Peer) × At ps i p × (is_paused w p.connection ≡ tr
 abbrev pub AreFull : World → List (Option Peer) → List Bool → Type 0
 AreFull w ps marks = (i : ℕ) → IsMarkedAt marks i → HoldsPaused w ps i
 
+-- marks of full slots stay right
+abbrev pub StaysFull : World → List (Option Peer) → World → List (Option Peer) → Type 0
+StaysFull old ps new qs = (marks : List Bool) → AreFull old ps marks → AreFull new qs marks
+
 -- slot `i` does not hold connection c
 abbrev pub IsOther : ℕ → List (Option Peer) → ℕ → Type 0
 IsOther c ps i = (p : Peer) → At ps i p → p.connection ≢ c

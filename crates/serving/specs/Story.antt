@@ -11,6 +11,7 @@ use Rattle.model.specs.declared.events.Arrival.TheVariants as arrival
 use Rattle.serving.specs.Wire.{Call, Accepted, Not_accepted, Accept_failed, Got, Nothing_got, Read_ended, Read_failed}
 use Rattle.serving.specs.Wire.{Took, Nothing_taken, Write_failed, Closed, Welcomed, Parted, Rested, Ask, asks, Told, Tells, IsFresh}
 use Rattle.serving.specs.Coming.{Attempt, whole, short, Brings, Attempts}
+use Rattle.slab.specs.Slab.{Slab}
 use Rattle.runs.specs.Wants.{Lacks, To_open}
 use Rattle.runs.specs.Opened.{runs}
 use Rattle.serving.specs.declared.peers.Peer.{Peer}
@@ -24,6 +25,10 @@ pub record Served : Type 0 where
 -- a world, peers and a wire's knowledge as one value
 abbrev pub served : World → List (Option Peer) → Told → Served
 served w ps t = record { world = w; peers = ps; told = t }
+
+-- the state within a round, of a machine, its peers and its wire; `world` and `told` say what contracts see of the machine and of the wire
+abbrev pub state : {M W : Type 0} → (M → World) → (W → Told) → M → Slab Peer → W → Served
+state world told machine peers wire = served (world machine) peers.slots (told wire)
 
 -- the greatest length that a read is offered: the whole buffer, 65,536 bytes
 abbrev pub read_room : ℕ
@@ -271,3 +276,11 @@ pub record PumpsUp (L : Lacks) (most : ℕ) (old : Served) (acted : Bool) (new :
   pub story : Story L old deeds occurrences new
   pub pumps : ArePumps most deeds
   pub done : list_any is_done deeds ≡ acted
+
+-- one pump of the machine, for any peers and whatever the wire knows: both stay
+abbrev pub MachinePumpsOnce : Lacks → World → Bool → World → Type 0
+MachinePumpsOnce L old acted new = (ps : List (Option Peer)) (told : Told) → PumpsOnce L (served old ps told) acted (served new ps told)
+
+-- at most `most` pumps of the machine, for any peers and whatever the wire knows: both stay
+abbrev pub MachinePumpsUp : Lacks → ℕ → World → Bool → World → Type 0
+MachinePumpsUp L most old acted new = (ps : List (Option Peer)) (told : Told) → PumpsUp L most (served old ps told) acted (served new ps told)

@@ -12,6 +12,7 @@ use Rattle.runs.specs.Wants.{Lacks}
 use Rattle.serving.specs.Wire.{Told, Tells}
 use Rattle.serving.specs.Coming.{Attempt, Attempts, IsWhole}
 use Rattle.serving.specs.Story.{Served, served, Deed, At, calls, attempts, Story}
+use Rattle.serving.specs.Serving.{Serving}
 use Rattle.serving.specs.Joined.{IsJoined, AreJoined, AreBeginnings, AreCounted, all_met, written_to}
 use Rattle.serving.specs.declared.peers.Peer.{Peer}
 
@@ -54,6 +55,19 @@ pub record IsServed (L : Lacks) (f : Config) (told : Told) (new : Served) : Type
   -- for each socket, the totals that the wire knows are the number of bytes that arrived for its connection, and the number taken from that connection's output
   pub counted : AreCounted deeds new.told
 
+-- whatever `IsServed` says of `old`, it says of `new`
+abbrev pub StaysServed : Lacks → Served → Served → Type 0
+StaysServed L old new = (f : Config) (told : Told) → IsServed L f told old → IsServed L f told new
+
+-- `IsServed` is kept from one state of a server to another, whatever its wire knows
+abbrev pub KeepsServed : {M : Type 0} → Lacks → (M → World) → Serving M → Serving M → Type 0
+KeepsServed L world old new = (f : Config) (told now : Told)
+    → IsServed L f told (served (world old.machine) old.peers now) → IsServed L f told (served (world new.machine) new.peers now)
+
+-- `IsServed` holds of a state without peers whose machine is new: nothing was done yet
+abbrev pub IsServedIfNew : Lacks → Served → Type 0
+IsServedIfNew L v = (f : Config) → v.world ≡ new_world f → v.peers ≡ [] → IsServed L f v.told v
+
 -- ---- one call of `serve`
 
 -- the peer has a slot at the start, or is accepted by one of these deeds
@@ -78,3 +92,7 @@ pub record GoesOn (L : Lacks) (old new : Served) : Type 0 where
   pub joined : (p : Peer) → IsOf old.peers deeds p → IsJoined p (flat_map calls deeds) (arrived deeds)
   -- what a socket took is a prefix of these bytes: the output that was not written yet, followed by what was put out meanwhile
   pub written : (p : Peer) → IsOf old.peers deeds p → TakesOn old deeds occurrences p
+
+-- `new` goes on from `old`, if `IsServed` holds of `old`
+abbrev pub GoesOnServed : Lacks → Served → Served → Type 0
+GoesOnServed L old new = (f : Config) (told : Told) → IsServed L f told old → GoesOn L old new

@@ -1,13 +1,10 @@
 //! The server, and its rounds.
 
 ghost use Rattle.std.specs.Prelude.{◌≡◌, IfOk, []};
-ghost use Rattle.model.specs.Arrivals.{new_world};
-ghost use Rattle.model.specs.State.{Config};
 ghost use Rattle.model.specs.Headline.{IsSound};
-ghost use Rattle.serving.specs.Wire.{Told};
-ghost use Rattle.serving.specs.Story.{served};
+ghost use Rattle.serving.specs.Serving.{server_state};
 ghost use Rattle.serving.specs.Rounds.{IsRound, Rounds};
-ghost use Rattle.serving.specs.Whole.{GoesOn, IsServed};
+ghost use Rattle.serving.specs.Whole.{GoesOnServed, IsServedIfNew, KeepsServed, StaysServed};
 ghost use Rattle.runs.specs.Reloaded.{IsMemory, TellsReload};
 ghost use Rattle.runs.specs.Wants.{To_reload};
 
@@ -95,8 +92,7 @@ impl<M: Machine> Server<M> {
     /// exactly when its connection starts running. An allocation failure is not reported: it ends the connection that needed the memory.
     pub fn round<W: Wire>(&mut self, alloc: Global, wire: &mut W)
         // The promise: exactly these calls of the wire, and what follows from each answer.
-        ensures { IsRound M.lacks (served (M.world self.old.machine) self.old.peers (W.told wire.old))
-            (served (M.world self.new.machine) self.new.peers (W.told wire.new)) }
+        ensures { IsRound M.lacks (server_state M.world W.told self.old wire.old) (server_state M.world W.told self.new wire.new) }
     {
         round(
             alloc,
@@ -117,9 +113,7 @@ impl<M: Machine> Server<M> {
         ensures wants { IsMemory result → M.lacks (M.world self.old.machine) (To_reload (M.config setup)) }
         ensures peers { self.new.peers ≡ self.old.peers }
         // `IsServed` is kept, whatever the wire knew.
-        ensures served { (f : Config) (told now : Told)
-            → IsServed M.lacks f told (served (M.world self.old.machine) self.old.peers now)
-            → IsServed M.lacks f told (served (M.world self.new.machine) self.new.peers now) }
+        ensures served { KeepsServed M.lacks M.world self.old self.new }
     {
         M::ghost_offers_sound(&setup);
         self.machine.reload(alloc, setup)
@@ -135,8 +129,7 @@ impl<M: Machine> Server<M> {
 
 /// Shows that `IsServed` holds of a new server whose machine has no connections: nothing was done yet. Does nothing at run time.
 pub fn ghost_new_is_served<M: Machine, W: Wire>(server: &Server<M>, wire: &W)
-    ensures { (f : Config) → M.world server.now.machine ≡ new_world f → server.now.peers ≡ []
-        → IsServed M.lacks f (W.told wire.now) (served (M.world server.now.machine) server.now.peers (W.told wire.now)) }
+    ensures { IsServedIfNew M.lacks (server_state M.world W.told server.now wire.now) }
 {
     server.ghost_is_sound();
 }
@@ -144,17 +137,11 @@ pub fn ghost_new_is_served<M: Machine, W: Wire>(server: &Server<M>, wire: &W)
 /// Does `turns` rounds.
 pub fn serve<M: Machine, W: Wire>(alloc: Global, server: &mut Server<M>, wire: &mut W, turns: u64)
     // The promise: exactly these rounds.
-    ensures rounds { Rounds M.lacks turns (served (M.world server.old.machine) server.old.peers (W.told wire.old))
-        (served (M.world server.new.machine) server.new.peers (W.told wire.new)) }
+    ensures rounds { Rounds M.lacks turns (server_state M.world W.told server.old wire.old) (server_state M.world W.told server.new wire.new) }
     // `IsServed` is kept: it has all that arrived since the server was new, and certified delivery's promises of it.
-    ensures served { (f : Config) (told : Told)
-        → IsServed M.lacks f told (served (M.world server.old.machine) server.old.peers (W.told wire.old))
-        → IsServed M.lacks f told (served (M.world server.new.machine) server.new.peers (W.told wire.new)) }
+    ensures served { StaysServed M.lacks (server_state M.world W.told server.old wire.old) (server_state M.world W.told server.new wire.new) }
     // The call continues where the server stopped: with bytes that were not performed yet, and with output that was not written yet.
-    ensures goes_on { (f : Config) (told : Told)
-        → IsServed M.lacks f told (served (M.world server.old.machine) server.old.peers (W.told wire.old))
-        → GoesOn M.lacks (served (M.world server.old.machine) server.old.peers (W.told wire.old))
-        (served (M.world server.new.machine) server.new.peers (W.told wire.new)) }
+    ensures goes_on { GoesOnServed M.lacks (server_state M.world W.told server.old wire.old) (server_state M.world W.told server.new wire.new) }
 {
     for _ in 0..turns {
         server.round(alloc, wire);

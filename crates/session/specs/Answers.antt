@@ -1,10 +1,11 @@
 -- The answers of the opening phases to a method (own), in the form that the code computes before it allocates.
-use Rattle.std.specs.Prelude.{◌≤◌, ℕ, [], length, Bool, ⊤}
+use Rattle.std.specs.Prelude.{◌≤◌, ℕ, List, [], length, Bool, ⊤}
 use Rattle.model.specs.Grammar.{IsMethod, method_bytes}
 use Rattle.model.specs.Phases.{Session, Move, stays_in}
 use Rattle.model.specs.Opening.{answers_with, at_start, at_tune, at_open}
 use Rattle.model.specs.declared.events.Phase.{Phase}
 use Rattle.model.specs.declared.events.Phase.TheVariants as phase
+use Rattle.model.specs.declared.events.Send.{Send}
 use Rattle.model.specs.declared.methods.Method.{Method}
 use Rattle.session.specs.declared.answers.OpeningAnswer.{OpeningAnswer}
 use Rattle.session.specs.declared.answers.OpeningAnswer.TheVariants.{Nothing, Tunes, Says}
@@ -14,6 +15,10 @@ abbrev pub move_of : ℕ → Session → OpeningAnswer → Move
 move_of c s Nothing = stays_in s
 move_of c s (Tunes channel_max frame_max) = record { sends = []; next = record { phase = phase.Open; channel_max = channel_max; frame_max = frame_max } }
 move_of c s (Says m p) = answers_with c s m p
+
+-- the move that sends `sends`, and leaves the session `next`
+abbrev pub sending : List Send → Session → Move
+sending sends next = record { sends = sends; next = next }
 
 -- a method that the grammar allows, and that fits in a frame of 4,096 bytes
 pub record Fits (m : Method) : Type 0 where

@@ -72,6 +72,7 @@ impl Session {
     ghost use Rattle.model.specs.Step.{empty_publish};
     ghost use Rattle.model.specs.declared.events.Phase.TheVariants as phase;
     ghost use Rattle.model.specs.Sending.{AreOwn};
+    ghost use Rattle.session.specs.Answers.{sending};
 
     /// Returns a session that awaits the protocol header. Until limits are agreed on, a frame has at most 4,096 bytes.
     pub fn new() -> Session
@@ -216,7 +217,7 @@ impl Session {
     ) -> Result<Vec<Send>, AllocError>
         ensures own { IfOk result (λ sends. AreOwn connection sends.items) }
         ensures quiet { (while_closing connection self.old channel method.now).sends ≡ [] → IsOk result }
-        ensures answered { IfOk result (λ sends. record { sends = sends.items; next = self.new } ≡ while_closing connection self.old channel method.now) }
+        ensures answered { IfOk result (λ sends. sending sends.items self.new ≡ while_closing connection self.old channel method.now) }
         ensures err { OnErr result (self.new ≡ self.old) }
     {
         if channel != 0 {
@@ -243,8 +244,7 @@ impl Session {
     ) -> Result<Vec<Send>, AllocError>
         ensures own { IfOk result (λ sends. AreOwn connection sends.items) }
         ensures quiet { (move : Move) → MovesInOpening users.now connection self.old channel method.now move → move.sends ≡ [] → IsOk result }
-        ensures opens { IfOk result (λ sends. MovesInOpening users.now connection self.old channel method.now
-            (record { sends = sends.items; next = self.new })) }
+        ensures opens { IfOk result (λ sends. MovesInOpening users.now connection self.old channel method.now (sending sends.items self.new)) }
         ensures err { OnErr result (self.new ≡ self.old) }
     {
         let is_user = logs_in(users, self.phase, method);
@@ -286,8 +286,7 @@ impl Session {
     ) -> Result<Vec<Send>, AllocError>
         ensures own { IfOk result (λ sends. AreOwn connection sends.items) }
         ensures quiet { (move : Move) → IsAnswered users.now connection self.old self.old.phase channel method.now move → move.sends ≡ [] → IsOk result }
-        ensures answered { IfOk result (λ sends. IsAnswered users.now connection self.old self.old.phase channel method.now
-            (record { sends = sends.items; next = self.new })) }
+        ensures answered { IfOk result (λ sends. IsAnswered users.now connection self.old self.old.phase channel method.now (sending sends.items self.new)) }
         ensures err { OnErr result (self.new ≡ self.old) }
     {
         match self.phase {
@@ -308,8 +307,7 @@ impl Session {
     ) -> Result<Vec<Send>, AllocError>
         ensures own { IfOk result (λ sends. AreOwn connection sends.items) }
         ensures quiet { (move : Move) → IsAnswered users.now connection self.old self.old.phase channel empty_publish move → move.sends ≡ [] → IsOk result }
-        ensures answered { IfOk result (λ sends. IsAnswered users.now connection self.old self.old.phase channel empty_publish
-            (record { sends = sends.items; next = self.new })) }
+        ensures answered { IfOk result (λ sends. IsAnswered users.now connection self.old self.old.phase channel empty_publish (sending sends.items self.new)) }
         ensures err { OnErr result (self.new ≡ self.old) }
     {
         let publish = Publish {

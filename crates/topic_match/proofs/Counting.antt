@@ -1,7 +1,8 @@
 -- How many words some tokens match, with one token more.
-use Rattle.topic_match.proofs.Names.{◌≡◌, ℕ, zero, suc, ◌+◌, ◌≤◌, ◌<◌, List, [], ◌∷◌, ◌++◌, Bool, true, false, refl, sym, ap, ◌∙◌, subst, length, take, get_or, inl, inr, ltb, arith, Decides, false≢true, ltb-true, ltb-false, bytes_eq-Decides, Text, Matches, none, Token, Word, One, Any, AreCounts, AreCountsTo, stands_first, stands_after}
+use Rattle.topic_match.proofs.Names.{◌≡◌, ℕ, zero, suc, ◌+◌, ◌-◌, ◌≤◌, ◌<◌, List, [], ◌∷◌, ◌++◌, Bool, true, false, refl, sym, ap, ◌∙◌, subst, length, take, set, get_or, inl, inr, ltb, arith, Decides, false≢true, ltb-true, ltb-false, bytes_eq-Decides, Text, Matches, none, Token, Word, One, Any, AreCounts, AreCountsTo, stands_first, stands_after}
 use Rattle.std.specs.Prelude.{◌⊎◌}
 use Rattle.std.proofs.lemmas.Bool.Decides.{Decides-and, Decides-or}
+use Rattle.std.proofs.lemmas.List.{get_or-take, length-take-le, take_all, take_more, take_more_set}
 use Rattle.std.specs.Str.{bytes_eq}
 use Rattle.topic_match.proofs.Joins.{Parts, split, word_matches, one_matches, snoc_word, word_snoc, snoc_one, one_snoc, snoc_any, any_snoc_was, any_snoc_is, no_last}
 
@@ -98,6 +99,52 @@ counts_more t b ws before after more n w was now a h e k m s =
 
 pub counts_done : (b : List Token) (ws : List Text) (counts : List Bool) (was : Bool) → AreCountsTo b ws (length ws) counts was → AreCounts b ws counts
 counts_done b ws counts was s = record { size = s.size; each = s.each }
+
+-- written over what was there
+
+pub counts_begun : (t : Token) (b : List Token) (ws : List Text) (before after more : List Bool) (was : Bool) → AreCounts b ws before → was ≡ stands_first t (get_or before 0 false)
+    → more ≡ set after 0 was → length after ≡ length ws + 1 → AreCountsTo (b ++ t ∷ []) ws 0 (take (0 + 1) more) was
+counts_begun t b ws before after more was a f m size =
+    counts_first t b ws before (take (0 + 1) more) was a f (ap (λ (xs : List Bool). take (0 + 1) xs) m ∙ take_more_set after 0 was (omega (arith, size)))
+
+pub counts_written : (t : Token) (b : List Token) (ws : List Text) (before after more : List Bool) (n : ℕ) (w : Text) (was now : Bool) → AreCounts b ws before → n < length ws
+    → w ≡ get_or ws n w → now ≡ stands_after t w (get_or before n false) was (get_or before (n + 1) false) → more ≡ set after (n + 1) now → length after ≡ length ws + 1
+    → AreCountsTo (b ++ t ∷ []) ws n (take (n + 1) after) was → AreCountsTo (b ++ t ∷ []) ws (n + 1) (take (n + 1 + 1) more) now
+counts_written t b ws before after more n w was now a h e k m size s =
+    counts_more t b ws before (take (n + 1) after) (take (n + 1 + 1) more) n w was now a h e k
+    (ap (λ (xs : List Bool). take (n + 1 + 1) xs) m ∙ take_more_set after (n + 1) now (omega (arith, h, size))) s
+
+pub counts_over : (b : List Token) (ws : List Text) (n : ℕ) (after : List Bool) (was : Bool) → n ≡ length ws → length after ≡ length ws + 1
+    → AreCountsTo b ws n (take (n + 1) after) was → AreCounts b ws after
+counts_over b ws n after was e size s =
+    subst (λ (xs : List Bool). AreCounts b ws xs) (take_all (n + 1) after (omega (arith, e, size)))
+    (counts_done b ws (take (n + 1) after) was (subst (λ (k : ℕ). AreCountsTo b ws k (take (n + 1) after) was) e s))
+
+-- behind `*`
+
+one_on : (b : List Token) (ws : List Text) (i : ℕ) (was : Bool) → i < length ws → Decides was (Matches b (take i ws)) → Decides was (Matches (b ++ One ∷ []) (take (suc i) ws))
+one_on b ws i was h d =
+    let w = get_or ws i [] in
+    let on : suc i ≡ i + 1 = omega arith in
+    let is : take (suc i) ws ≡ take i ws ++ w ∷ [] = ap (λ (k : ℕ). take k ws) on ∙ take_more ws i [] h in
+    subst (λ (vs : List Text). Decides was (Matches (b ++ One ∷ []) vs)) (sym is) (λ t. one_snoc b w (take i ws) (d.0 t), λ m. d.1 (snoc_one b w (take i ws) m))
+
+pub counts_moved : (b : List Token) (ws : List Text) (before after : List Bool) → after ≡ false ∷ take (length before - 1) before → AreCounts b ws before → AreCounts (b ++ One ∷ []) ws after
+counts_moved b ws before after e a =
+    let n : length before - 1 ≡ length ws = (let s = a.size in omega (arith, s)) in
+    subst (λ (xs : List Bool). AreCounts (b ++ One ∷ []) ws xs) (sym (e ∙ ap (λ (k : ℕ). false ∷ take k before) n)) moved
+  where
+    at : (i : ℕ) → i ≤ length ws → Decides (get_or (false ∷ take (length ws) before) i false) (Matches (b ++ One ∷ []) (take i ws))
+    at zero k = first_right One b (get_or before 0 false) (a.each 0 (omega arith))
+    at (suc i) k =
+        subst (λ (v : Bool). Decides v (Matches (b ++ One ∷ []) (take (suc i) ws))) (sym (get_or-take (length ws) before i false (omega (arith, k))))
+        (one_on b ws i (get_or before i false) (omega (arith, k)) (a.each i (omega (arith, k))))
+
+    moved : AreCounts (b ++ One ∷ []) ws (false ∷ take (length ws) before)
+    moved = record {
+      size = (let l = length-take-le (length ws) before (let s = a.size in omega (arith, s)) in omega (arith, l));
+      each = at;
+    }
 
 -- ---- whether any is told
 

@@ -1,5 +1,5 @@
 -- Nodes that are added.
-use Rattle.topic_match.proofs.Names.{◌≡◌, ℕ, zero, suc, ◌+◌, ◌*◌, ◌-◌, ◌≤◌, ◌<◌, List, [], ◌∷◌, ◌++◌, Bool, true, false, refl, sym, ap, ◌∙◌, subst, length, take, get_or, set, inl, inr, ltb, arith, replicate, ltb-true, ltb-false, Token, Any, Node, no_node, node_at, beginning, beginning_at, last_token, heads_of, IsDeep, IsFoundBy, IsNode, AreLinked, IsChild, IsPlace, KeepNodes, mark_of, first_slot, bits_of, AreGrown, EndAt}
+use Rattle.topic_match.proofs.Names.{◌≡◌, ℕ, zero, suc, ◌+◌, ◌-◌, ◌<◌, List, [], ◌∷◌, ◌++◌, Bool, true, false, refl, sym, ap, ◌∙◌, subst, length, take, get_or, set, inl, inr, ltb, arith, replicate, ltb-true, ltb-false, Token, Any, Node, no_node, node_at, beginning, beginning_at, last_token, heads_of, IsDeep, IsFoundBy, IsNode, AreLinked, IsPlace, KeepNodes, mark_of, first_slot, bits_of, AreGrown, EndAt}
 use Rattle.std.specs.Prelude.{◌⊎◌}
 use Rattle.topic_match.proofs.Lists.{take_push}
 use Rattle.topic_match.proofs.Slots.{found_more}

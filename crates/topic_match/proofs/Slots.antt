@@ -1,5 +1,5 @@
 -- Nodes in their slots.
-use Rattle.topic_match.proofs.Names.{◌≡◌, ℕ, ◌+◌, ◌*◌, ◌-◌, ◌/◌, ◌<◌, List, Bool, false, refl, sym, ap, ◌∙◌, subst, length, get_or, arith, Decides, false≢true, Token, Node, node_at, Found, here, further, IsLast, AreLinked, IsChild, IsFoundBy, IsPlace, KeepNodes, heads_of, slot_behind}
+use Rattle.topic_match.proofs.Names.{◌≡◌, ℕ, ◌/◌, ◌<◌, List, Bool, false, refl, sym, ap, ◌∙◌, subst, length, get_or, arith, Decides, false≢true, Token, Node, node_at, Found, here, further, IsLast, AreLinked, IsChild, IsFoundBy, IsPlace, KeepNodes, heads_of, slot_behind}
 
 -- an empty slot finds nothing but the root
 pub none_found : (heads : ℕ) (slots : List ℕ) (s bits c : ℕ) → get_or slots s 0 ≡ 0 → Found heads slots s bits c → 0 < c → ⊥

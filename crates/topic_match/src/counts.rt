@@ -1,6 +1,6 @@
 //! Which numbers of first words of a key some tokens match.
 
-ghost use Rattle.std.specs.Prelude.{◌≡◌, ◌+◌, ◌<◌, ◌∷◌, ◌++◌, [], List, length, IfOk, if◌then◌else◌};
+ghost use Rattle.std.specs.Prelude.{◌≡◌, ◌+◌, ◌-◌, ◌<◌, ◌∷◌, ◌++◌, [], List, length, IfOk, if◌then◌else◌, take, false};
 ghost use Rattle.model.specs.declared.texts.Token.{Token};
 ghost use Rattle.topic_match.specs.Counts.{AreCounts, HasSome, trues};
 
@@ -11,6 +11,31 @@ use std::alloc::{AllocError, Global};
 
 /// For each number of words, from 0, whether some tokens match that many first words of a key. Up to 31 words need no allocation.
 pub type Counts = SmallVec<bool, 32>;
+
+/// Writes the counts of some tokens followed by `token` to `after`; `before` has the counts of those tokens alone.
+fn write_after(token: &Step<'_>, words: &[KeyWord<'_>], before: &[bool], after: &mut [bool])
+    requires before { length before.now ≡ length words.now + 1 }
+    requires after { length after.old ≡ length words.now + 1 }
+    ensures { (tokens : List Token) → AreCounts tokens words.now before.now → AreCounts (tokens ++ token.now ∷ []) words.now after.new }
+{
+    let mut was = token.stands_first(before[0]);
+    after[0] = was;
+    for place in 0..words.len() {
+        was = token.stands_after(&words[place], before[place], was, before[place + 1]);
+        after[place + 1] = was;
+    }
+}
+
+/// Returns the counts of some tokens followed by `*`; `before` has the counts of those tokens alone. Fails only if an allocation fails.
+fn moved_on(alloc: Global, before: &[bool]) -> Result<Counts, AllocError>
+    requires { 0 < length before.now }
+    ensures { IfOk result (λ after. after.items ≡ false ∷ take (length before.now - 1) before.now) }
+{
+    let mut after = SmallVec::new(alloc);
+    after.push(false)?;
+    after.extend_from_slice(before.split_at(before.len() - 1).0)?;
+    Ok(after)
+}
 
 /// Returns the counts of some tokens followed by `token`; `before` has the counts of those tokens alone. Fails only if an allocation fails.
 pub fn counts_after(
@@ -23,13 +48,11 @@ pub fn counts_after(
     ensures { IfOk result (λ after. (tokens : List Token) → AreCounts tokens words.now before.now
         → AreCounts (tokens ++ token.now ∷ []) words.now after.items) }
 {
-    let mut after = SmallVec::new(alloc);
-    let mut was = token.stands_first(before[0]);
-    after.push(was)?;
-    for place in 0..words.len() {
-        was = token.stands_after(&words[place], before[place], was, before[place + 1]);
-        after.push(was)?;
+    if token.is_one() {
+        return moved_on(alloc, before);
     }
+    let mut after = SmallVec::from_slice(alloc, before)?;
+    write_after(token, words, before, after.as_mut_slice());
     Ok(after)
 }
 

@@ -111,6 +111,17 @@ impl<'a> Step<'a> {
         self.mark
     }
 
+    /// Returns whether the token is `*`.
+    pub fn is_one(&self) -> bool
+        ensures { Decides result (self.now ≡ One) }
+    {
+        match self.taken {
+            Taken::Exactly(_) => false,
+            Taken::Single => true,
+            Taken::Several => false,
+        }
+    }
+
     /// Returns whether the token is `token`.
     pub fn is_by(&self, token: &Token) -> bool
         ensures { Decides result (token.now ≡ self.now) }

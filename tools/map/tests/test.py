@@ -13,6 +13,8 @@ TABLES = "## Crates\n\n### Letters\n\nIn words.\n\n| crate | does |\n|---|---|\n
 LISTED = "# Letters\nbag:\npost: bag\n"
 PAGE = "# A map\n\n" + TABLES + "## The path of a letter\n\nIn words.\n\n1. `post::Office::take`: **the box**\n2. `post::sorting::sort`:\n   by its street\n3. `bag::put`\n\nBehind.\n"
 RULES = "\n## Where a rule is\n\nIn words.\n\n| rule | decided by |\n|---|---|\n| which street a letter is of | `post::sorting::sort` |\n"
+TURN = "\n## A turn of an office\n\nIt is short.\n\nIn a turn (`post::turns::turn`) the office\n\n1. opens (`post::turns::open`);\n2. sorts what\n   is there (`post::sorting::sort`).\n\nThen it rests.\n"
+TURNS = "fn open() {}\n\nfn turn(office: &Office) {\n    open();\n    sort(office);\n}\n"
 OFFICE = "impl Office {\n    pub fn take(&self) {\n        sort(self);\n    }\n}\n\nimpl Other {\n    fn take(&self) {}\n}\n"
 SORTING = "pub(crate) fn sort(office: &Office) {\n    let bag = Bag::new();\n    bag.put(1);\n}\n"
 BAG = "impl Bag {\n    pub fn put(&mut self, one: u64) {}\n}\n"
@@ -48,6 +50,10 @@ class Map(TreeTest):
         self.write("crates/post/src/sorting.rt", SORTING.replace("bag.put(1)", "bag.lay(1)"))
         self.assertEqual(self.told(), "The path of a letter, 3: the item before doesn't call `bag::put`\n")
 
+    def test_a_call_that_another_type_makes(self):
+        self.write("crates/post/src/lib.rt", OFFICE.replace("sort(self)", "Shop::sort(self)"))
+        self.assertEqual(self.told(), "The path of a letter, 2: the item before doesn't call `post::sorting::sort`\n")
+
     def test_an_item_without_a_call(self):
         self.write("docs/inside/ARCHITECTURE.md", PAGE.replace("`bag::put`", "the bag"))
         self.assertIn("3: it names no call", self.told())
@@ -80,6 +86,30 @@ class Map(TreeTest):
     def test_a_rule_without_a_function(self):
         self.write("docs/inside/ARCHITECTURE.md", PAGE + RULES.replace("`post::sorting::sort`", "the office"))
         self.assertEqual(self.told(), "which street a letter is of: the table names no function\n")
+
+    def turn(self, page=TURN):
+        self.write("crates/post/src/turns.rt", TURNS)
+        self.write("docs/inside/ARCHITECTURE.md", PAGE + page)
+        return self.told()
+
+    def test_a_turn(self):
+        self.assertEqual(self.turn(), "")
+
+    def test_a_turn_in_another_order(self):
+        swapped = TURN.replace("turns::open", "x").replace("sorting::sort", "turns::open").replace("post::x", "post::sorting::sort")
+        self.assertEqual(self.turn(swapped), "A turn of an office, 2: `post::turns::open` is not called, or is called before\n")
+
+    def test_a_turn_that_makes_no_such_call(self):
+        self.assertEqual(self.turn(TURN.replace("turns::open", "Office::take")), "A turn of an office, 1: `post::Office::take` is not called, or is called before\n")
+
+    def test_a_turn_with_a_call_that_is_gone(self):
+        self.assertIn("A turn of an office, 2: `post::sorting::weigh` is not there\n", self.turn(TURN.replace("sorting::sort", "sorting::weigh")))
+
+    def test_a_turn_without_calls(self):
+        self.assertEqual(self.turn(TURN.replace("`post::turns::open`", "early")), "A turn of an office, 1: it names no call: opens (early);\n")
+
+    def test_a_turn_of_nobody(self):
+        self.assertEqual(self.turn(TURN.replace("(`post::turns::turn`) ", "")), "A turn of an office: the sentence before the list names no function that is there\n")
 
     def test_a_page_without_paths(self):
         self.write("docs/inside/ARCHITECTURE.md", "# A map\n")

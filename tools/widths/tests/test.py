@@ -1,5 +1,7 @@
 """The tests of widths, which want Python 3 alone: python3 tools/widths/tests/test.py"""
 
+import importlib.machinery
+import importlib.util
 import os
 import sys
 import unittest
@@ -8,6 +10,10 @@ TOOL = os.path.dirname(os.path.dirname(os.path.abspath(__file__)))
 sys.path.insert(0, os.path.join(os.path.dirname(TOOL), "shared"))
 
 from trees import TreeTest
+
+loader = importlib.machinery.SourceFileLoader("widths", os.path.join(TOOL, "__main__.py"))
+widths = importlib.util.module_from_spec(importlib.util.spec_from_loader("widths", loader))
+loader.exec_module(widths)
 
 
 class Widths(TreeTest):
@@ -32,6 +38,41 @@ class Widths(TreeTest):
 
     def test_a_text_that_a_break_would_change(self):
         self.assertEqual(self.told_of("crates/one/src/lib.rt", '    "' + "x" * 200 + '",'), "")
+
+    def test_a_clause_of_several_lines_that_fits_when_joined(self):
+        self.assertEqual(self.told_of("crates/one/src/lib.rt", "    ensures ok { " + "x" * 100 + "\n        " + "y" * 40 + " }"), "")
+
+    def test_a_clause_that_is_too_wide_when_joined(self):
+        told = self.told_of("crates/one/src/lib.rt", "    ensures ok { " + "x" * 100 + "\n        " + "y" * 41 + " }")
+        self.assertEqual(told, "crates/one/src/lib.rt:2: a clause of 161 columns, its lines joined, and not 160 at most\n")
+
+    def test_a_premise_and_an_invariant_are_clauses(self):
+        for head in ("    requires at {", "    ghost invariant = {"):
+            self.assertIn("a clause of", self.told_of("crates/one/src/lib.rt", head + "\n    " + "x" * 150 + "\n }"))
+
+    def test_a_clause_ends_where_its_brace_closes(self):
+        clause = "    ensures { IsOne (record { a = " + "x" * 70 + " }) }\n"
+        self.assertEqual(self.told_of("crates/one/src/lib.rt", clause + "    ensures { " + "y" * 90 + " }\n{"), "")
+
+    def test_imports_and_views_are_lists(self):
+        for head in ("ghost use Rattle.one.specs.A.{", "    ghost view = { λ c. record {"):
+            self.assertEqual(self.told_of("crates/one/src/lib.rt", head + "\n    " + "x" * 140 + ",\n    " + "y" * 140 + ",\n}"), "")
+
+    def test_a_break_inside_parentheses(self):
+        told = self.told_of("crates/one/src/lib.rt", "    ensures { Is (one\n        two)\n        (three (four\n        five)) }")
+        self.assertEqual(told, "crates/one/src/lib.rt:5: a break inside parentheses, without a deeper indent\n")
+
+    def test_a_break_inside_parentheses_at_a_deeper_indent(self):
+        self.assertEqual(self.told_of("crates/one/src/lib.rt", "    ensures { Is\n        (one (two\n            three)) }"), "")
+
+    def test_a_break_between_parentheses(self):
+        self.assertEqual(self.told_of("crates/one/src/lib.rt", "    ensures { Is (one)\n        (two)\n        → (three) }"), "")
+
+    def test_a_crate_may_have_as_many_wide_clauses_as_it_had(self):
+        clause = "    ensures { " + "x" * 100 + "\n" + "y" * 100 + " }\n"
+        for crate, most in list(widths.STILL.items())[:1]:
+            self.assertEqual(self.told_of(f"crates/{crate}/src/lib.rt", clause * most), "")
+            self.assertEqual(len(self.told_of(f"crates/{crate}/src/lib.rt", clause * (most + 1)).splitlines()), most + 1)
 
     def test_proofs_are_not_looked_at(self):
         self.assertEqual(self.told_of("crates/one/proofs/A.antt", "x" * 200), "")

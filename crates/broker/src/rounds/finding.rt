@@ -1,6 +1,6 @@
 //! What a pick finds at a waiter.
 
-ghost use Rattle.std.specs.Prelude.{◌≡◌, ◌<◌, true, false, length};
+ghost use Rattle.std.specs.Prelude.{◌≡◌, ◌<◌, false, length};
 ghost use Rattle.depot.specs.Store.{HasReady};
 ghost use Rattle.commands.specs.State.{topology_kept};
 ghost use Rattle.broker.specs.declared.rounds.finding.Found.TheVariants.{Over};

@@ -4,15 +4,15 @@
 //! message and whose bit is 1. If it finds no consumer that can take a message it leaves no waiter awake there and clears the bit; the next
 //! waiter that is woken or made there sets it. So a queue that lacks one of the two costs nothing.
 
-ghost use Rattle.std.specs.Prelude.{◌≡◌, ◌<◌, ◌≤◌, ◌*◌, [], ℕ, List, None, true, IfSome, IfOk, OnOk, length};
+ghost use Rattle.std.specs.Prelude.{◌≡◌, ◌<◌, ◌≤◌, ◌*◌, ◌+◌, ◌^◌, [], ℕ, List, None, true, IfSome, IfOk, OnOk, length};
 ghost use Rattle.model.specs.Topology.{IsIn};
 ghost use Rattle.marks.specs.Places.{bit_of};
 ghost use Rattle.depot.specs.Store.{HasReady};
 ghost use Rattle.commands.specs.State.{Kept, broker_of, topology_kept};
 ghost use Rattle.commands.specs.Picked.{IsPickFrom};
 ghost use Rattle.broker.specs.Rounds.{round_at, rounds_of, is_of, order, AllAreNoted, IsAwake, IsAsleep, QueuesAreMarked, IsNextMarked, KeepRounds};
-ghost use Rattle.broker.specs.Rounds.{AllAddTheirOwn, LosesWaiter, LeaveLine, LeaveLines, HasRoom, KeepsWaiters, ListsMore, AllWaken};
-ghost use Rattle.broker.specs.Rounds.{NoneInRound, NoneBetween, NonePassed, PicksFrom, SameOrders};
+ghost use Rattle.broker.specs.Rounds.{AllAddTheirOwn, LosesWaiter, LeaveLine, LeaveLines, HasRoom, KeepsWaiters, ListsMore, AllWaken, NoneInRound};
+ghost use Rattle.broker.specs.Rounds.{NoneBetween, NonePassed, PicksFrom, SameOrders, Waiters, AllAreEmpty};
 ghost use Rattle.broker.specs.Moving.{IsMoved, IsOfEither, LinesCome, ArePlacesApart, RoundsAreMoved};
 ghost use Rattle.commands.specs.declared.picks.Pick.{Pick as Consumer};
 
@@ -51,45 +51,6 @@ fn empty_marks(alloc: Global, count: usize) -> Result<PlaceMarks, AllocError>
     let mut marks = <Over<Flat>>::empty(alloc);
     marks.grow(count)?;
     Ok(marks)
-}
-
-/// Reserves capacity for one more waiter in the round of the queue at index `queue`. The waiters are unchanged.
-fn reserve_at(rounds: &mut [Round], queue: usize) -> Result<(), AllocError>
-    requires { queue < length rounds.old }
-    ensures room { OnOk result (HasRoom (round_at rounds.new queue)) }
-    ensures wakens { AllWaken rounds.old rounds.new }
-    ensures marked { (marks : List ℕ) → QueuesAreMarked rounds.old marks → QueuesAreMarked rounds.new marks }
-{
-    rounds[queue].reserve()
-}
-
-/// Adds the waiter of `consumer`, awake, to the round of the queue at index `queue`, which has capacity for it, and returns its index there. All
-/// others stay. Never allocates.
-fn join_at(rounds: &mut [Round], awake: &mut PlaceMarks, queue: usize, consumer: Pick) -> usize
-    requires within { queue < length rounds.old }
-    requires room { HasRoom (round_at rounds.old queue) }
-    requires absent { IsIn consumer (order (round_at rounds.old queue)) → ⊥ }
-    requires marked { QueuesAreMarked rounds.old awake.old }
-    // The waiter is added, all others stay, and the bits are right.
-    ensures joined { IsAwake (round_at rounds.new queue) consumer }
-    ensures kept { (k : Kept) → KeepRounds k rounds.old rounds.new }
-    ensures adds { (k : Kept) → is_of k queue consumer ≡ true → AllAddTheirOwn k rounds.old rounds.new }
-    ensures marked { QueuesAreMarked rounds.new awake.new }
-{
-    awake.set(queue);
-    rounds[queue].join(consumer)
-}
-
-/// Wakes the waiter of `consumer` in the round of the queue at index `queue`. Looks at index `guess` first.
-fn wake_at(rounds: &mut [Round], awake: &mut PlaceMarks, queue: usize, consumer: Pick, guess: usize)
-    requires within { queue < length rounds.old }
-    requires marked { QueuesAreMarked rounds.old awake.old }
-    ensures woken { IsAsleep (round_at rounds.old queue) consumer → IsAwake (round_at rounds.new queue) consumer }
-    ensures wakens { AllWaken rounds.old rounds.new }
-    ensures marked { QueuesAreMarked rounds.new awake.new }
-{
-    awake.set(queue);
-    rounds[queue].wake(consumer, guess);
 }
 
 /// Returns the index of the first queue at or after `from` with a ready message and a bit that is 1. Searches the two sets alternately, so a run of
@@ -224,25 +185,7 @@ fn mark_round(awake: &mut PlaceMarks, round: &Round, place: usize)
     }
 }
 
-/// Removes the waiter of `consumer` from the round of the queue at index `queue`. Looks at index `guess` first.
-fn remove_at(
-    rounds: &mut [Round],
-    awake: &mut PlaceMarks,
-    queue: usize,
-    consumer: Pick,
-    guess: usize,
-)
-    requires within { queue < length rounds.old }
-    requires marked { QueuesAreMarked rounds.old awake.old }
-    ensures loses { LosesWaiter queue consumer rounds.old rounds.new }
-    ensures marked { QueuesAreMarked rounds.new awake.new }
-{
-    rounds[queue].remove(consumer, guess);
-    mark_round(awake, &rounds[queue], queue);
-}
-
-/// Removes the waiters of those consumers of `connection` that are gone from the round of the queue at index `queue`. The order of the others is
-/// unchanged.
+/// Removes the waiters of those consumers of `connection` that are gone from the round of the queue at index `queue`.
 fn leave_at(
     rounds: &mut [Round],
     awake: &mut PlaceMarks,
@@ -252,7 +195,6 @@ fn leave_at(
 )
     requires within { queue < length rounds.old }
     requires marked { QueuesAreMarked rounds.old awake.old }
-    // The waiters of existing consumers stay, the others of this connection are removed, and the bits are right.
     ensures kept { KeepRounds core.now rounds.old rounds.new }
     ensures here { LeaveLine core.now queue connection (round_at rounds.old queue) (round_at rounds.new queue) }
     ensures others { (i : ℕ) → (i ≡ queue → ⊥) → round_at rounds.new i ≡ round_at rounds.old i }
@@ -278,7 +220,6 @@ fn leave_each(rounds: &mut [Round], awake: &mut PlaceMarks, core: &Core, connect
 fn take_round(rounds: &mut [Round], awake: &mut PlaceMarks, place: usize, round: &mut Round)
     requires within { place < length rounds.old }
     requires marked { QueuesAreMarked rounds.old awake.old }
-    // The round is at this index, all others are unchanged, and the bits are right.
     ensures moved { IsMoved round.old (round_at rounds.new place) }
     ensures others { (i : ℕ) → (i ≡ place → ⊥) → round_at rounds.new i ≡ round_at rounds.old i }
     ensures came { (i : ℕ) → IsOfEither place i (round_at rounds.old i) round.old (round_at rounds.new i) }
@@ -307,7 +248,6 @@ fn move_rounds(rounds: &mut [Round], awake: &mut PlaceMarks, old: &mut [Round], 
     requires len { length places.now ≡ length old.old }
     requires apart { ArePlacesApart places.now (length rounds.old) }
     requires marked { QueuesAreMarked rounds.old awake.old }
-    // Each round is at its new index, no other round has a new order, and the bits are right.
     ensures moved { RoundsAreMoved places.now old.old rounds.new }
     ensures came { LinesCome places.now old.old rounds.old rounds.new }
     ensures marked { QueuesAreMarked rounds.new awake.new }
@@ -318,26 +258,14 @@ fn move_rounds(rounds: &mut [Round], awake: &mut PlaceMarks, old: &mut [Round], 
 }
 
 /// The rounds of all queues, in the order of the definitions.
+#[derive(Drop)]
 pub(crate) struct QueueRounds {
     rounds: Vec<Round>,
     /// A bit for each queue, 1 if a waiter in its round is awake.
     awake: PlaceMarks,
 }
 
-/// Not derived: a derived drop is expanded, and proved again, in each function that drops the value.
-impl Drop for QueueRounds {
-    fn drop(self) {
-        let QueueRounds {
-            rounds: _,
-            awake: _,
-        } = self;
-    }
-}
-
 impl Model for QueueRounds {
-    ghost use Rattle.std.specs.Prelude.{List};
-    ghost use Rattle.broker.specs.Rounds.{Waiters, QueuesAreMarked};
-
     ghost Value = { List Waiters };
 
     ghost view = { λ s. s.rounds.items };
@@ -346,15 +274,6 @@ impl Model for QueueRounds {
 }
 
 impl QueueRounds {
-    ghost use Rattle.std.specs.Prelude.{◌≡◌, ◌<◌, ◌+◌, ◌^◌, ℕ, None, true, IfSome, IfOk, OnOk, length};
-    ghost use Rattle.model.specs.Topology.{IsIn};
-    ghost use Rattle.commands.specs.State.{Kept, broker_of, topology_kept};
-    ghost use Rattle.commands.specs.Picked.{IsPickFrom};
-    ghost use Rattle.broker.specs.Rounds.{round_at, rounds_of, is_of, order, AllAreNoted, IsAwake, IsAsleep, HasRoom, KeepRounds, AllAddTheirOwn};
-    ghost use Rattle.broker.specs.Rounds.{LosesWaiter, LeaveLines, KeepsWaiters, ListsMore, AllWaken, NoneBetween, NonePassed};
-    ghost use Rattle.broker.specs.Rounds.{PicksFrom, SameOrders, AllAreEmpty};
-    ghost use Rattle.broker.specs.Moving.{ArePlacesApart, RoundsAreMoved, LinesCome};
-
     /// Makes empty rounds for `queues` queues. Fails only if an allocation fails.
     pub fn new(alloc: Global, queues: usize) -> Result<QueueRounds, AllocError>
         ensures len { IfOk result (λ s. length s ≡ queues) }
@@ -372,32 +291,31 @@ impl QueueRounds {
         ensures wakens { AllWaken self.old self.new }
         ensures len { length self.new ≡ length self.old }
     {
-        reserve_at(&mut self.rounds, queue)
+        self.rounds[queue].reserve()
     }
 
-    /// Adds the waiter of `consumer`, awake, to the round of the queue at index `queue`, which has capacity for it, and returns its index there. All
-    /// others stay. Never allocates.
+    /// Adds the waiter of `consumer`, awake, to the round of the queue at index `queue`, and returns its index there. Never allocates.
     pub fn join(&mut self, queue: usize, consumer: Pick) -> usize
         requires within { queue < length self.old }
         requires room { HasRoom (round_at self.old queue) }
         requires absent { IsIn consumer (order (round_at self.old queue)) → ⊥ }
-        // The waiter is added, and all others stay.
         ensures joined { IsAwake (round_at self.new queue) consumer }
         ensures kept { (k : Kept) → KeepRounds k self.old self.new }
         ensures adds { (k : Kept) → is_of k queue consumer ≡ true → AllAddTheirOwn k self.old self.new }
         ensures len { length self.new ≡ length self.old }
     {
-        join_at(&mut self.rounds, &mut self.awake, queue, consumer)
+        self.awake.set(queue);
+        self.rounds[queue].join(consumer)
     }
 
-    /// Removes the waiter of `consumer` from the round of the queue at index `queue`, if it is there. Looks at index `guess` first. The order of the
-    /// others is unchanged. Never allocates.
+    /// Removes the waiter of `consumer`, if any, from the round of the queue at index `queue`. Looks at index `guess` first. Never allocates.
     pub fn remove(&mut self, queue: usize, consumer: Pick, guess: usize)
         ensures loses { LosesWaiter queue consumer self.old self.new }
         ensures len { length self.new ≡ length self.old }
     {
         if queue < self.rounds.len() {
-            remove_at(&mut self.rounds, &mut self.awake, queue, consumer, guess);
+            self.rounds[queue].remove(consumer, guess);
+            mark_round(&mut self.awake, &self.rounds[queue], queue);
         }
     }
 
@@ -410,20 +328,19 @@ impl QueueRounds {
         leave_each(&mut self.rounds, &mut self.awake, core, connection);
     }
 
-    /// Wakes the waiter of `consumer` in the round of the queue at index `queue`, if it is there. Looks at index `guess` first. Never
-    /// allocates.
+    /// Wakes the waiter of `consumer`, if any, in the round of the queue at index `queue`. Looks at index `guess` first. Never allocates.
     pub fn wake(&mut self, queue: usize, consumer: Pick, guess: usize)
         ensures woken { IsAsleep (round_at self.old queue) consumer → IsAwake (round_at self.new queue) consumer }
         ensures wakens { AllWaken self.old self.new }
         ensures len { length self.new ≡ length self.old }
     {
         if queue < self.rounds.len() {
-            wake_at(&mut self.rounds, &mut self.awake, queue, consumer, guess);
+            self.awake.set(queue);
+            self.rounds[queue].wake(consumer, guess);
         }
     }
 
-    /// Moves each round of `old`, its waiters awake, to the index that `indices` has for it. The waiters of a round whose new index is past the end
-    /// are removed. Never allocates.
+    /// Moves each round of `old`, its waiters awake, to the index that `indices` has for it, if there is such a queue. Never allocates.
     pub fn take_over(&mut self, old: QueueRounds, indices: &[usize])
         requires len { length indices.now ≡ length old }
         requires apart { ArePlacesApart indices.now (length self.old) }

@@ -5,8 +5,8 @@
 //! whose bit is 1. If a waiter is added or removed, the bits of those behind it follow. If several are removed at once, all bits are set: a pick
 //! clears those of waiters that sleep.
 
-ghost use Rattle.std.specs.Prelude.{◌≡◌, ◌<◌, ◌≤◌, ◌+◌, ◌*◌, ◌⊎◌, ◌++◌, ◌∷◌, [], ℕ, true, false};
-ghost use Rattle.std.specs.Prelude.{None, IfSome, OnOk, length, if◌then◌else◌, count_by, filter, min, slice_index_or, vec_len, vec_capacity};
+ghost use Rattle.std.specs.Prelude.{◌≡◌, ◌<◌, ◌≤◌, ◌+◌, ◌*◌, ◌⊎◌, ◌++◌, ◌∷◌, [], ℕ, true, false, None, IfSome, OnOk, length, count_by, filter, min};
+ghost use Rattle.std.specs.Prelude.{slice_index_or, vec_capacity};
 ghost use Rattle.std.specs.List.{position_from};
 ghost use Rattle.model.specs.Topology.{IsIn};
 ghost use Rattle.marks.specs.Places.{bit_of, Differs};
@@ -16,14 +16,14 @@ ghost use Rattle.commands.specs.Picked.{CannotTake, IsPickFrom};
 ghost use Rattle.commands.specs.declared.picks.Pick.{Pick as Consumer};
 ghost use Rattle.broker.specs.declared.rounds.waiters.Waiter.{Waiter as InRound};
 ghost use Rattle.broker.specs.Lines.{turned, AreDistinct};
-ghost use Rattle.broker.specs.Rounds.{round_of, picks, is_consumer, is_other, is_able, is_waiter_of, bit_for, remains, has_remained, listing};
-ghost use Rattle.broker.specs.Rounds.{AllAreNoted, FindsWaiter, IsNoted, IsAwakeAt, IsAwake, IsAsleep, StaysAt, OthersStay};
-ghost use Rattle.broker.specs.Rounds.{KeepsIn, KeepsRound, NoneAwake, NoneAwakePassed, ListsMore, Wakens};
-ghost use Rattle.broker.specs.Moving.{all_awake};
+ghost use Rattle.broker.specs.Rounds.{round_of, picks, is_other, is_able, is_waiter_of, bit_for, remains, has_remained, listing, AllAreNoted, FindsWaiter};
+ghost use Rattle.broker.specs.Rounds.{IsNoted, IsAwakeAt, IsAwake, IsAsleep, StaysAt, OthersStay, KeepsIn, KeepsRound, NoneAwake, NoneAwakePassed, ListsMore};
+ghost use Rattle.broker.specs.Rounds.{Wakens, Waiters, order, NoneInRound, GoesLast, LosesOne, LeaveLine, HasRoom};
+ghost use Rattle.broker.specs.Moving.{all_awake, AllRoused};
 
 use crate::rounds::finding::{Found, find, is_able, is_of};
 use crate::rounds::sleepers::{Sleepers, mark_waiter};
-use crate::rounds::waiters::{PlaceMarks, Waiter, is_same, mark_between};
+use crate::rounds::waiters::{PlaceMarks, Waiter, is_same, make_room, mark_between};
 use commands::{Core, Pick};
 use marks::{Flat, Over, Places};
 use std::alloc::{AllocError, Global};
@@ -50,30 +50,6 @@ fn place_of(waiters: &[Waiter], consumer: Pick, guess: usize) -> Option<usize>
         return Some(guess);
     }
     search(waiters, consumer)
-}
-
-/// Wakes the waiter at index `place`.
-fn wake_up(waiters: &mut [Waiter], awake: &mut PlaceMarks, place: usize)
-    requires within { place < length waiters.old }
-    requires room { length waiters.old ≤ length awake.old * 64 }
-    ensures len { length awake.new ≡ length awake.old }
-    ensures up { (d : InRound) → IsAwakeAt (round_of waiters.new awake.new) place (slice_index_or waiters.old place d).pick }
-    ensures wakens { Wakens (round_of waiters.old awake.old) (round_of waiters.new awake.new) }
-{
-    waiters[place].asleep = false;
-    awake.set(place);
-}
-
-/// Wakes the waiter of `consumer`, if it is there. Looks at index `guess` first.
-fn wake_waiter(waiters: &mut [Waiter], awake: &mut PlaceMarks, consumer: Pick, guess: usize)
-    requires { length waiters.old ≤ length awake.old * 64 }
-    ensures len { length awake.new ≡ length awake.old }
-    ensures woken { IsAsleep (round_of waiters.old awake.old) consumer → IsAwake (round_of waiters.new awake.new) consumer }
-    ensures wakens { Wakens (round_of waiters.old awake.old) (round_of waiters.new awake.new) }
-{
-    if let Some(place) = place_of(waiters, consumer, guess) {
-        wake_up(waiters, awake, place);
-    }
 }
 
 /// Wakes each waiter.
@@ -113,20 +89,6 @@ fn staying(waiters: &[Waiter], core: &Core, queue: usize, connection: u64) -> us
     count
 }
 
-/// Reserves capacity for one more waiter and its bit. Fails only if an allocation fails.
-fn grow(waiters: &mut Vec<Waiter>, awake: &mut PlaceMarks) -> Result<(), AllocError>
-    requires { length waiters.old.items ≤ length awake.old * 64 }
-    // The capacity after the call; waiters and bits are unchanged.
-    ensures room { OnOk result (length waiters.new.items < vec_capacity waiters.new) }
-    ensures mark { OnOk result (length waiters.new.items + 1 ≤ length awake.new * 64) }
-    ensures marks { length waiters.new.items ≤ length awake.new * 64 }
-    ensures same { waiters.new.items ≡ waiters.old.items }
-    ensures bits { (i : ℕ) → bit_of awake.new i ≡ bit_of awake.old i }
-{
-    awake.grow(waiters.len() + 1)?;
-    waiters.reserve(1)
-}
-
 /// Puts `place` into the set, or takes it out if the waiter there sleeps.
 fn fit(awake: &mut PlaceMarks, place: usize, asleep: bool)
     requires { place < length awake.old * 64 }
@@ -160,12 +122,10 @@ fn remove_waiter(
     place: usize,
     consumer: Pick,
 )
-    // What the caller knows of the waiter: it is the consumer's only one.
     requires within { place < length waiters.old.items }
     requires there { (d : InRound) → (slice_index_or waiters.old.items place d).pick ≡ consumer }
     requires once { AreDistinct (picks waiters.old.items) }
     requires room { length waiters.old.items ≤ length awake.old * 64 }
-    // It is removed, and all others stay.
     ensures room { length waiters.new.items ≤ length awake.new * 64 }
     ensures stay { OthersStay consumer (round_of waiters.old.items awake.old) (round_of waiters.new.items awake.new) }
     ensures once { AreDistinct (picks waiters.new.items) }
@@ -178,8 +138,7 @@ fn remove_waiter(
     }
 }
 
-/// Removes the waiters of those consumers of `connection` that are gone or take from another queue than that at index `queue`. The order of the
-/// others is unchanged; if one was removed, picks look at each of them. Never allocates.
+/// Removes the waiters that [`sweep`] removes. If there are any, picks look at each waiter that is left. Never allocates.
 fn remove_gone(
     waiters: &mut Vec<Waiter>,
     awake: &mut PlaceMarks,
@@ -214,8 +173,7 @@ fn line_end(next: usize, count: usize) -> usize
     next.min(count)
 }
 
-/// Adds a waiter for `consumer`, awake, at the end of the order that begins at `next`, and returns its index. There is capacity for it. Picks look
-/// at it, and at those behind it that are awake. Never allocates.
+/// Adds a waiter for `consumer`, awake, at the end of the order that begins at `next`, and returns its index. Never allocates.
 fn add_waiter(
     waiters: &mut Vec<Waiter>,
     awake: &mut PlaceMarks,
@@ -224,7 +182,6 @@ fn add_waiter(
 ) -> usize
     requires room { length waiters.old.items < vec_capacity waiters.old }
     requires mark { length waiters.old.items + 1 ≤ length awake.old * 64 }
-    // The waiter is last in order and awake, and all others stay.
     ensures marks { length waiters.new.items ≤ length awake.new * 64 }
     ensures last { turned next.new (picks waiters.new.items) ≡ turned next.old (picks waiters.old.items) ++ consumer ∷ [] }
     ensures joined { IsAwake (round_of waiters.new.items awake.new) consumer }
@@ -242,19 +199,7 @@ fn add_waiter(
     place
 }
 
-/// Returns whether the bit of an index below `count` is 1, so that picks look at the waiter there.
-fn any_marked(awake: &PlaceMarks, count: usize) -> bool
-    ensures yes { result ≡ true → (i : ℕ) × (i < count) × (bit_of awake.now i ≡ 1) }
-    ensures no { result ≡ false → (i : ℕ) → i < count → bit_of awake.now i ≡ 0 }
-{
-    match awake.first() {
-        Some(place) => place < count,
-        None => false,
-    }
-}
-
-/// Puts the waiter at index `place` to sleep, which is awake and whose consumer can't take a message now, and marks its listing. Never
-/// allocates.
+/// Puts the waiter at index `place` to sleep, which is awake and whose consumer can't take a message now, and marks its listing.
 fn put_to_sleep(
     core: &Core,
     queue: usize,
@@ -398,6 +343,7 @@ fn first_from(
 }
 
 /// The waiters of the consumers of one queue.
+#[derive(Drop)]
 pub(crate) struct Round {
     waiters: Vec<Waiter>,
     /// A bit for each waiter, 1 if picks look at it. An awake waiter has 1. A sleeping one may have 1 after several waiters were removed at once, until
@@ -407,22 +353,7 @@ pub(crate) struct Round {
     next: usize,
 }
 
-/// Not derived: a derived drop is expanded, and proved again, in each function that drops the value.
-impl Drop for Round {
-    fn drop(self) {
-        let Round {
-            waiters: _,
-            awake: _,
-            next: _,
-        } = self;
-    }
-}
-
 impl Model for Round {
-    ghost use Rattle.std.specs.Prelude.{◌≤◌, ◌*◌, length, vec_capacity};
-    ghost use Rattle.broker.specs.Lines.{AreDistinct};
-    ghost use Rattle.broker.specs.Rounds.{Waiters, picks};
-
     ghost Value = { Waiters };
 
     ghost view = { λ r. record { waiters = r.waiters.items; marks = r.awake; next = r.next; capacity = vec_capacity r.waiters } };
@@ -431,17 +362,6 @@ impl Model for Round {
 }
 
 impl Round {
-    ghost use Rattle.std.specs.Prelude.{◌≡◌, ◌<◌, ◌++◌, ◌∷◌, [], ℕ, true, false, None, IfSome, OnOk, length};
-    ghost use Rattle.model.specs.Topology.{IsIn};
-    ghost use Rattle.marks.specs.Places.{bit_of};
-    ghost use Rattle.depot.specs.Store.{HasReady};
-    ghost use Rattle.commands.specs.State.{Kept, broker_of, topology_kept};
-    ghost use Rattle.commands.specs.declared.picks.Pick.{Pick as Consumer};
-    ghost use Rattle.commands.specs.Picked.{IsPickFrom};
-    ghost use Rattle.broker.specs.Rounds.{order, AllAreNoted, IsAwake, IsAsleep, KeepsIn, KeepsRound};
-    ghost use Rattle.broker.specs.Rounds.{NoneInRound, GoesLast, LosesOne, LeaveLine, HasRoom, ListsMore, Wakens};
-    ghost use Rattle.broker.specs.Moving.{AllRoused};
-
     /// Makes an empty round. Never allocates.
     pub fn new(alloc: Global) -> Round
         ensures { result.waiters ≡ [] }
@@ -459,11 +379,10 @@ impl Round {
         ensures wakens { Wakens self.old self.new }
         ensures none { (p : Consumer) → IsAwake self.new p → IsAwake self.old p }
     {
-        grow(&mut self.waiters, &mut self.awake)
+        make_room(&mut self.waiters, &mut self.awake)
     }
 
-    /// Adds a waiter for `consumer`, which has none, awake, at the end of the order, and returns its index. There is capacity for it. Never
-    /// allocates.
+    /// Adds a waiter for `consumer`, which has none, awake, at the end of the order, and returns its index. Never allocates.
     pub fn join(&mut self, consumer: Pick) -> usize
         requires room { HasRoom self.old }
         requires absent { IsIn consumer (order self.old) → ⊥ }
@@ -489,8 +408,7 @@ impl Round {
         }
     }
 
-    /// Removes the waiters of those consumers of `connection` that are gone or take from another queue than that at index `queue`. The order of the
-    /// others is unchanged. Never allocates.
+    /// Removes the waiters of those consumers of `connection` that are gone or take from another queue than that at index `queue`. Never allocates.
     pub fn leave(&mut self, core: &Core, queue: usize, connection: u64)
         ensures kept { KeepsRound core.now queue self.old self.new }
         ensures line { LeaveLine core.now queue connection self.old self.new }
@@ -510,7 +428,10 @@ impl Round {
         ensures woken { IsAsleep self.old consumer → IsAwake self.new consumer }
         ensures wakens { Wakens self.old self.new }
     {
-        wake_waiter(&mut self.waiters, &mut self.awake, consumer, guess);
+        if let Some(place) = place_of(&self.waiters, consumer, guess) {
+            self.waiters[place].asleep = false;
+            self.awake.set(place);
+        }
     }
 
     /// Wakes each waiter. Never allocates.
@@ -527,7 +448,10 @@ impl Round {
         ensures yes { result ≡ true → (i : ℕ) × (i < length self.now.waiters) × (bit_of self.now.marks i ≡ 1) }
         ensures no { result ≡ false → (p : Consumer) → IsAwake self.now p → ⊥ }
     {
-        any_marked(&self.awake, self.waiters.len())
+        match self.awake.first() {
+            Some(place) => place < self.waiters.len(),
+            None => false,
+        }
     }
 
     /// Picks the first consumer, starting behind the waiter picked last, to which a delivery can be made from the queue at index `queue`, which has a

@@ -4,18 +4,18 @@ mod leaving;
 mod moving;
 mod waking;
 
-ghost use Rattle.std.specs.Prelude.{◌≡◌, ◌≤◌, ◌<◌, ◌+◌, ◌*◌, ℕ, true, false, None, IfSome, OnOk, length, filter, vec_capacity};
+ghost use Rattle.std.specs.Prelude.{◌≡◌, ◌≤◌, ◌<◌, ◌+◌, ◌*◌, ◌++◌, ◌∷◌, ℕ, true, false, None, IfSome, OnOk, length, vec_capacity, [], List};
 ghost use Rattle.std.specs.List.{AllWithin};
 ghost use Rattle.model.specs.Topology.{IsIn};
 ghost use Rattle.marks.specs.Places.{bit_of};
 ghost use Rattle.commands.specs.State.{Kept, broker_of};
 ghost use Rattle.broker.specs.Rounds.{is_listed_there, listing, listings_of, listings_on, listed_on, number_of, Listing, HasListRoom, CanListOn, CanList};
-ghost use Rattle.broker.specs.Rounds.{IsAsleepIn, IsListedOn, IsNotedOn, IsNoted, IsListed, HasNoList, NumbersRise, AreBelow, IsListedAt};
-ghost use Rattle.broker.specs.Rounds.{MakesNoList, NotesStay, ListsStay, SameListed, ListsOneMore, ListingsLeave, AddsListing};
-ghost use Rattle.broker.specs.Rounds.{KeepsListings, KeepListingsOn, KeepLists, SleepMore, ListsMore};
+ghost use Rattle.broker.specs.Rounds.{IsAsleepIn, IsListedOn, IsNotedOn, IsNoted, IsListed, HasNoList, NumbersRise, AreBelow, IsListedAt, MakesNoList};
+ghost use Rattle.broker.specs.Rounds.{NotesStay, ListsStay, SameListed, ListsOneMore, ListingsLeave, AddsListing, KeepLists, SleepMore, ListsMore};
+ghost use Rattle.broker.specs.Rounds.{is_listing, Listings};
 
 use crate::rounds::finding::is_of;
-use crate::rounds::waiters::{PlaceMarks, is_same};
+use crate::rounds::waiters::{PlaceMarks, is_same, make_room};
 use commands::{Core, Pick};
 pub(crate) use leaving::{leave_lists, leave_waiters};
 use marks::{Flat, Over, Places};
@@ -38,17 +38,12 @@ pub(crate) struct Listed {
 }
 
 impl Model for Listed {
-    ghost use Rattle.broker.specs.Rounds.{Listing};
-
     ghost Value = { Listing };
 
     ghost view = { λ l. record { queue = l.queue; consumer = l.consumer } };
 }
 
 impl Listed {
-    ghost use Rattle.std.specs.Prelude.{◌≡◌};
-    ghost use Rattle.broker.specs.Rounds.{is_listing, is_listed_there, listing};
-
     /// Lists the waiter of `consumer` at index `place` in the round of the queue at index `queue`.
     fn new(queue: usize, consumer: Pick, place: usize) -> Listed
         ensures { result ≡ listing queue consumer }
@@ -128,7 +123,6 @@ fn mark_in(
     requires room { length listed.old ≤ length asleep.old * 64 }
     requires rising { NumbersRise listed.old }
     requires noted { IsIn (listing queue consumer) listed.old }
-    // The listing is marked; others stay.
     ensures len { length asleep.new ≡ length asleep.old }
     ensures same { listed.new ≡ listed.old }
     ensures marked { IsAsleepIn (listings_of listed.new asleep.new) (listing queue consumer) }
@@ -144,41 +138,15 @@ fn mark_in(
     }
 }
 
-/// Reserves capacity for one more listing and its bit. Fails only if an allocation fails.
-fn make_room(listed: &mut Vec<Listed>, asleep: &mut PlaceMarks) -> Result<(), AllocError>
-    requires { length listed.old.items ≤ length asleep.old * 64 }
-    // The capacity after the call; listings and bits are unchanged.
-    ensures room { OnOk result (length listed.new.items < vec_capacity listed.new) }
-    ensures mark { OnOk result (length listed.new.items + 1 ≤ length asleep.new * 64) }
-    ensures marks { length listed.new.items ≤ length asleep.new * 64 }
-    ensures same { listed.new.items ≡ listed.old.items }
-    ensures bits { (i : ℕ) → bit_of asleep.new i ≡ bit_of asleep.old i }
-{
-    asleep.grow(listed.len() + 1)?;
-    listed.reserve(1)
-}
-
 /// The listings of one channel's consumers.
+#[derive(Drop)]
 pub(crate) struct ChannelSleepers {
     listed: Vec<Listed>,
     /// A bit for each listing, 1 if its waiter sleeps.
     asleep: PlaceMarks,
 }
 
-/// Not derived: a derived drop is expanded, and proved again, in each function that drops the value.
-impl Drop for ChannelSleepers {
-    fn drop(self) {
-        let ChannelSleepers {
-            listed: _,
-            asleep: _,
-        } = self;
-    }
-}
-
 impl Model for ChannelSleepers {
-    ghost use Rattle.std.specs.Prelude.{◌≤◌, ◌*◌, length, vec_capacity};
-    ghost use Rattle.broker.specs.Rounds.{Listings, NumbersRise};
-
     ghost Value = { Listings };
 
     ghost view = { λ s. record { all = s.listed.items; asleep = s.asleep; capacity = vec_capacity s.listed } };
@@ -187,10 +155,6 @@ impl Model for ChannelSleepers {
 }
 
 impl ChannelSleepers {
-    ghost use Rattle.std.specs.Prelude.{◌≡◌, ◌++◌, ◌∷◌, [], OnOk, filter};
-    ghost use Rattle.model.specs.Topology.{IsIn};
-    ghost use Rattle.broker.specs.Rounds.{listing, is_listed_there, Listing, HasListRoom, AreBelow, IsAsleepIn, KeepsListings, SleepMore};
-
     /// Makes an empty list. Never allocates.
     fn new(alloc: Global) -> ChannelSleepers
         ensures { result.all ≡ [] }
@@ -209,8 +173,7 @@ impl ChannelSleepers {
         make_room(&mut self.listed, &mut self.asleep)
     }
 
-    /// Appends the listing of `consumer` in the round of `queue`, whose waiter is at index `place` of the round. There is capacity for it. Never
-    /// allocates.
+    /// Appends the listing of `consumer` in the round of `queue`; its waiter is at index `place` of the round. Never allocates.
     fn join(&mut self, queue: usize, consumer: Pick, place: usize)
         requires room { HasListRoom self.old }
         requires last { AreBelow self.old.all consumer.number }
@@ -242,37 +205,6 @@ fn grow(channels: &mut Vec<ChannelSleepers>, alloc: Global, count: usize) -> Res
     Ok(())
 }
 
-/// Reserves capacity for one more listing on `channel`, which has a list.
-fn reserve_on(channels: &mut [ChannelSleepers], channel: u16) -> Result<(), AllocError>
-    requires { channel < length channels.old }
-    ensures room { OnOk result (HasListRoom (listings_on channels.new channel)) }
-    ensures same { (h : ℕ) → SleepMore (listings_on channels.old h) (listings_on channels.new h) }
-{
-    channels[channel as usize].reserve()
-}
-
-/// Appends the listing of `consumer` in the round of `queue` to the list of its channel; its waiter is at index `place` of the round.
-fn join_on(channels: &mut [ChannelSleepers], queue: usize, consumer: Pick, place: usize)
-    requires within { consumer.channel < length channels.old }
-    requires can { CanListOn channels.old consumer }
-    ensures noted { IsNotedOn channels.new (listing queue consumer) }
-    ensures adds { (h : ℕ) → AddsListing (listing queue consumer) h (listings_on channels.old h) (listings_on channels.new h) }
-{
-    channels[consumer.channel as usize].join(queue, consumer, place);
-}
-
-/// Marks the listing of `consumer` in the round of `queue` as sleeping; its waiter is at index `place` of the round.
-fn mark_on(channels: &mut [ChannelSleepers], queue: usize, consumer: Pick, place: usize)
-    requires { IsNotedOn channels.old (listing queue consumer) }
-    ensures marked { IsListedOn channels.new (listing queue consumer) }
-    ensures more { (h : ℕ) → SleepMore (listings_on channels.old h) (listings_on channels.new h) }
-{
-    let at = consumer.channel as usize;
-    if at < channels.len() {
-        channels[at].mark(queue, consumer, place);
-    }
-}
-
 /// The listings of one connection's consumers: a list for each channel, by channel number.
 #[derive(Drop)]
 pub(crate) struct ConnectionSleepers {
@@ -280,19 +212,12 @@ pub(crate) struct ConnectionSleepers {
 }
 
 impl Model for ConnectionSleepers {
-    ghost use Rattle.std.specs.Prelude.{List};
-    ghost use Rattle.broker.specs.Rounds.{Listings};
-
     ghost Value = { List Listings };
 
     ghost view = { λ d. d.channels.items };
 }
 
 impl ConnectionSleepers {
-    ghost use Rattle.std.specs.Prelude.{◌≡◌, [], ℕ, OnOk, filter};
-    ghost use Rattle.broker.specs.Rounds.{listing, listings_on, is_listed_there, Listing, HasListRoom, CanListOn, AreBelow};
-    ghost use Rattle.broker.specs.Rounds.{AddsListing, IsNotedOn, IsListedOn, KeepListingsOn, SleepMore};
-
     /// Makes the listings of a connection, without a list for any channel. Never allocates.
     fn new(alloc: Global) -> ConnectionSleepers
         ensures { result ≡ [] }
@@ -308,17 +233,16 @@ impl ConnectionSleepers {
         ensures same { (h : ℕ) → SleepMore (listings_on self.old h) (listings_on self.new h) }
     {
         grow(&mut self.channels, alloc, channel as usize + 1)?;
-        reserve_on(&mut self.channels, channel)
+        self.channels[channel as usize].reserve()
     }
 
-    /// Appends the listing of `consumer` in the round of `queue` to the list of its channel; its waiter is at index `place` of the round. Never
-    /// allocates.
+    /// Appends the listing of `consumer` in the round of `queue`; its waiter is at index `place` of the round. Never allocates.
     fn join(&mut self, queue: usize, consumer: Pick, place: usize)
         requires { CanListOn self.old consumer }
         ensures noted { IsNotedOn self.new (listing queue consumer) }
         ensures adds { (h : ℕ) → AddsListing (listing queue consumer) h (listings_on self.old h) (listings_on self.new h) }
     {
-        join_on(&mut self.channels, queue, consumer, place);
+        self.channels[consumer.channel as usize].join(queue, consumer, place);
     }
 
     /// Marks the listing of `consumer` in the round of `queue` as sleeping; its waiter is at index `place` of the round.
@@ -327,7 +251,10 @@ impl ConnectionSleepers {
         ensures marked { IsListedOn self.new (listing queue consumer) }
         ensures more { (h : ℕ) → SleepMore (listings_on self.old h) (listings_on self.new h) }
     {
-        mark_on(&mut self.channels, queue, consumer, place);
+        let at = consumer.channel as usize;
+        if at < self.channels.len() {
+            self.channels[at].mark(queue, consumer, place);
+        }
     }
 }
 
@@ -338,7 +265,6 @@ pub(crate) fn reserve_listing(
     consumer: Pick,
 ) -> Result<(), AllocError>
     requires { AreBelow (listed_on sleepers.old.entries consumer.connection consumer.channel) consumer.number }
-    // The capacity after it; the frame.
     ensures room { OnOk result (CanList sleepers.new.entries consumer) }
     ensures noted { NotesStay sleepers.old.entries sleepers.new.entries }
     ensures asleep { ListsStay sleepers.old.entries sleepers.new.entries }
@@ -361,7 +287,6 @@ pub(crate) fn reserve_listing(
 /// Lists the waiter of `consumer` at index `place` in the round of `queue`. There is capacity for it. Never allocates.
 pub(crate) fn join_listing(sleepers: &mut Sleepers, queue: usize, consumer: Pick, place: usize)
     requires { CanList sleepers.old.entries consumer }
-    // The waiter is listed; nothing else changes.
     ensures noted { IsNoted sleepers.new.entries (listing queue consumer) }
     ensures stay { NotesStay sleepers.old.entries sleepers.new.entries }
     ensures asleep { ListsStay sleepers.old.entries sleepers.new.entries }
@@ -373,8 +298,7 @@ pub(crate) fn join_listing(sleepers: &mut Sleepers, queue: usize, consumer: Pick
     }
 }
 
-/// Marks the listing of `consumer` in the round of `queue` as sleeping; its waiter is at `index` of the round. Never
-/// allocates.
+/// Marks the listing of `consumer` in the round of `queue` as sleeping; its waiter is at `index` of the round. Never allocates.
 pub(crate) fn mark_waiter(sleepers: &mut Sleepers, queue: usize, consumer: Pick, index: usize)
     requires { IsNoted sleepers.old.entries (listing queue consumer) }
     ensures listed { IsListed sleepers.new.entries (listing queue consumer) }

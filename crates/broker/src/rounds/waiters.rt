@@ -1,11 +1,12 @@
 //! The waiters of consumers.
 
-ghost use Rattle.std.specs.Prelude.{◌≡◌, ◌<◌, ◌≤◌, ◌*◌, ℕ, length};
+ghost use Rattle.std.specs.Prelude.{◌≡◌, ◌<◌, ◌≤◌, ◌+◌, ◌*◌, ℕ, OnOk, length, vec_capacity};
 ghost use Rattle.marks.specs.Places.{bit_of};
 ghost use Rattle.broker.specs.Rounds.{is_consumer};
 
 use commands::Pick;
 use marks::{Flat, Over, Places};
+use std::alloc::AllocError;
 
 /// A set of indices, with a bit for each.
 pub(crate) type PlaceMarks = Over<Flat>;
@@ -31,6 +32,19 @@ pub(crate) fn is_same(one: Pick, other: Pick) -> bool
     ensures { result ≡ is_consumer one other }
 {
     one.connection == other.connection && one.channel == other.channel && one.number == other.number
+}
+
+/// Reserves capacity for one more element of `all` and its bit in `set`. Both are unchanged. Fails only if an allocation fails.
+pub(crate) fn make_room<T>(all: &mut Vec<T>, set: &mut PlaceMarks) -> Result<(), AllocError>
+    requires { length all.old.items ≤ length set.old * 64 }
+    ensures room { OnOk result (length all.new.items < vec_capacity all.new) }
+    ensures mark { OnOk result (length all.new.items + 1 ≤ length set.new * 64) }
+    ensures marks { length all.new.items ≤ length set.new * 64 }
+    ensures same { all.new.items ≡ all.old.items }
+    ensures bits { (i : ℕ) → bit_of set.new i ≡ bit_of set.old i }
+{
+    set.grow(all.len() + 1)?;
+    all.reserve(1)
 }
 
 /// Adds the indices `from..to` to the set.

@@ -1,18 +1,12 @@
 //! The consumer that an event is about to make: its numbers, and its queue.
 
 ghost use Rattle.std.specs.Prelude.{◌≡◌, option_map};
-ghost use Rattle.commands.specs.NewConsumers.{is_consume, consumed_by, consumed};
+ghost use Rattle.commands.specs.NewConsumers.{consumed_by, consumed};
 
 use crate::cores::Core;
 use crate::picks::Pick;
-use model::{Event, Method, Text};
-
-/// Returns whether the method is a consume.
-fn is_consume(method: &Method) -> bool
-    ensures { result ≡ is_consume method.now }
-{
-    matches!(method, Method::BasicConsume(_))
-}
+use crate::refusals::judge_consume;
+use model::{Consume, Event, Method, Text};
 
 /// Returns the name of the queue from which `method` consumes, if it is a consume.
 fn consumed_by(method: &Method) -> Option<&Text>
@@ -38,15 +32,19 @@ impl Core {
     ghost use Rattle.std.specs.Prelude.{◌≡◌, ◌<◌, ℕ, Some, IfSome, length};
     ghost use Rattle.channels.specs.RunningConnections.{running_in};
     ghost use Rattle.commands.specs.State.{topology_kept};
-    ghost use Rattle.commands.specs.NewConsumers.{next_consumer, consumer_to_make, IsConsumed, IsNewest};
+    ghost use Rattle.commands.specs.NewConsumers.{seat_on, consumer_to_make, IsConsumed, IsNewest};
+    ghost use Rattle.model.specs.declared.methods.Method.TheVariants.{BasicConsume};
 
-    /// Returns the numbers of this channel's next consumer; each consumer of the channel has a smaller number. `None` if a consume does nothing:
-    /// the connection is not running, or the channel awaits close-ok.
-    fn next_consumer(&self, connection: u64, channel: u16) -> Option<Pick>
-        ensures seat { result ≡ next_consumer connection channel (running_in self.now.connections connection) }
+    /// Returns the numbers of the consumer that `consume` makes on this channel; each consumer of the channel has a smaller number. `None` if the
+    /// consume is refused, or the connection is not running.
+    fn seat_on(&self, connection: u64, channel: u16, consume: &Consume) -> Option<Pick>
+        ensures seat { result ≡ seat_on self.now connection channel (BasicConsume consume.now) (running_in self.now.connections connection) }
         ensures newest { IfSome result (IsNewest self.now) }
     {
         let running = self.connections.get(connection)?;
+        if judge_consume(self.depot.topology(), running, channel, consume).is_some() {
+            return None;
+        }
         let number = running.next_number(channel)?;
         Some(Pick {
             connection,
@@ -55,24 +53,20 @@ impl Core {
         })
     }
 
-    /// Returns the numbers of the consumer that `event` is going to make if it is a consume; each consumer of its channel has a smaller number.
+    /// Returns the numbers of the consumer that `event` is going to make; each consumer of its channel has a smaller number. `None` if the event is
+    /// not a consume, or is refused.
     pub fn consumer_to_make(&self, event: &Event) -> Option<Pick>
         ensures seat { result ≡ consumer_to_make self.now event.now }
         ensures newest { IfSome result (IsNewest self.now) }
     {
-        let Event::Command {
-            connection,
-            channel,
-            method,
-            ..
-        } = event
-        else {
-            return None;
-        };
-        if is_consume(method) {
-            self.next_consumer(*connection, *channel)
-        } else {
-            None
+        match event {
+            Event::Command {
+                connection,
+                channel,
+                method: Method::BasicConsume(consume),
+                ..
+            } => self.seat_on(*connection, *channel, consume),
+            _ => None,
         }
     }
 

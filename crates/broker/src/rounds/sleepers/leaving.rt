@@ -5,9 +5,8 @@
 
 ghost use Rattle.std.specs.Prelude.{◌≡◌, ◌<◌, ◌≤◌, ◌*◌, ℕ, true, false, length, filter, count_by, vec_capacity};
 ghost use Rattle.model.specs.Topology.{IsIn};
-ghost use Rattle.broker.specs.Rounds.{is_listed_there, is_listed_gone, gone_on, listings_of, listings_on, rounds_of, Listing, IsListedOnAny};
-ghost use Rattle.broker.specs.Rounds.{ListsItsWaiters, GoneAreRemoved, KeepRounds, LeaveLines, KeepsListings, KeepListingsOn, KeepLists, ListingsLeave};
-ghost use Rattle.broker.specs.Rounds.{MakesNoList};
+ghost use Rattle.broker.specs.Rounds.{is_listed_there, is_listed_gone, gone_on, listings_of, listings_on, rounds_of, Listing, IsListedOnAny, ListsItsWaiters};
+ghost use Rattle.broker.specs.Rounds.{GoneAreRemoved, KeepRounds, LeaveLines, KeepsListings, KeepListingsOn, KeepLists, ListingsLeave, MakesNoList, gone_in};
 
 use crate::rounds::queue_rounds::QueueRounds;
 use crate::rounds::sleepers::{ChannelSleepers, ConnectionSleepers, Listed, Sleepers};
@@ -15,9 +14,6 @@ use crate::rounds::waiters::{PlaceMarks, mark_between};
 use commands::Core;
 
 impl Listed {
-    ghost use Rattle.std.specs.Prelude.{◌≡◌, length};
-    ghost use Rattle.broker.specs.Rounds.{Listing, GoneAreRemoved};
-
     /// Removes its waiter if its consumer is gone.
     fn leave(&self, core: &Core, rounds: &mut QueueRounds)
         ensures gone { GoneAreRemoved core.now (λ (l : Listing). l ≡ self.now) rounds.old rounds.new }
@@ -63,8 +59,7 @@ fn sweep(listed: &mut Vec<Listed>, core: &Core)
     listed.retain(|one| one.is_there(core));
 }
 
-/// Removes the listings whose consumer is gone. If there are any, all that are left are marked as sleeping, so that they are woken. Never
-/// allocates.
+/// Removes the listings whose consumer is gone. If there are any, all that are left are marked as sleeping, so that they are woken.
 fn remove_gone(listed: &mut Vec<Listed>, asleep: &mut PlaceMarks, core: &Core)
     requires { length listed.old.items ≤ length asleep.old * 64 }
     ensures marks { length listed.new.items ≤ length asleep.new * 64 }
@@ -79,10 +74,6 @@ fn remove_gone(listed: &mut Vec<Listed>, asleep: &mut PlaceMarks, core: &Core)
 }
 
 impl ChannelSleepers {
-    ghost use Rattle.std.specs.Prelude.{◌≡◌, filter, length};
-    ghost use Rattle.model.specs.Topology.{IsIn};
-    ghost use Rattle.broker.specs.Rounds.{is_listed_there, gone_in, Listing, GoneAreRemoved, KeepsListings};
-
     /// Returns how many of its listings have a consumer that is gone.
     fn count_gone(&self, core: &Core) -> usize
         ensures { result ≡ gone_in core.now self.now }
@@ -140,9 +131,6 @@ fn leave_each(channels: &mut [ChannelSleepers], core: &Core)
 }
 
 impl ConnectionSleepers {
-    ghost use Rattle.std.specs.Prelude.{◌≡◌, ◌<◌, ◌≤◌, ℕ, true, false, filter, length};
-    ghost use Rattle.broker.specs.Rounds.{gone_on, listings_on, is_listed_there, IsListedOnAny, GoneAreRemoved, KeepListingsOn};
-
     /// Returns whether more than one of its consumers is gone.
     fn are_several_gone(&self, core: &Core) -> bool
         ensures several { result ≡ true → 1 < gone_on core.now self.now }
@@ -168,8 +156,7 @@ impl ConnectionSleepers {
     }
 }
 
-/// Removes the waiters of those consumers of `connection` that are gone: of one as it is listed, of several by a sweep over all rounds. The order
-/// of the others is unchanged. Never allocates.
+/// Removes the waiters of those consumers of `connection` that are gone: of one as it is listed, of several by a sweep over all rounds.
 pub(crate) fn leave_waiters(
     sleepers: &Sleepers,
     rounds: &mut QueueRounds,

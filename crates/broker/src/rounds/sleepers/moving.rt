@@ -6,9 +6,6 @@ ghost use Rattle.broker.specs.Moving.{listing_moved, listings_moved, channels_mo
 use crate::rounds::sleepers::{ChannelSleepers, ConnectionSleepers, Listed, Sleepers};
 
 impl Listed {
-    ghost use Rattle.std.specs.Prelude.{◌≡◌};
-    ghost use Rattle.broker.specs.Moving.{listing_moved};
-
     /// Sets the queue's index to the one that `places` has for it.
     fn relocate(&mut self, places: &[usize])
         ensures { self.new ≡ listing_moved places.now self.old }
@@ -29,9 +26,6 @@ fn move_listed(listed: &mut [Listed], places: &[usize])
 }
 
 impl ChannelSleepers {
-    ghost use Rattle.std.specs.Prelude.{◌≡◌};
-    ghost use Rattle.broker.specs.Moving.{listings_moved};
-
     /// Sets the queue's index of each listing of the channel to the one that `places` has for it.
     fn relocate(&mut self, places: &[usize])
         ensures { self.new ≡ listings_moved places.now self.old }
@@ -50,9 +44,6 @@ fn move_each(channels: &mut [ChannelSleepers], places: &[usize])
 }
 
 impl ConnectionSleepers {
-    ghost use Rattle.std.specs.Prelude.{◌≡◌};
-    ghost use Rattle.broker.specs.Moving.{channels_moved};
-
     /// Sets the queue's index of each listing of the connection to the one that `places` has for it.
     fn relocate(&mut self, places: &[usize])
         ensures { self.new ≡ channels_moved places.now self.old }

@@ -1,8 +1,8 @@
 //! Wakes waiters that sleep.
 
 ghost use Rattle.std.specs.Prelude.{◌≡◌, ◌≤◌, ◌*◌, ℕ, true, false, length};
-ghost use Rattle.broker.specs.Rounds.{is_on_channel, listings_of, listings_on, Listing, IsAt, IsAsleepIn, IsListedOn, IsNotedOn, IsListed, IsWoken};
-ghost use Rattle.broker.specs.Rounds.{WakesListed, NotesStay, SameListed, MakesNoList, AllWaken};
+ghost use Rattle.broker.specs.Rounds.{is_on_channel, listings_of, listings_on, Listing, IsAt, IsListedOn, IsNotedOn, IsListed, IsWoken, WakesListed};
+ghost use Rattle.broker.specs.Rounds.{NotesStay, SameListed, MakesNoList, AllWaken};
 
 use crate::rounds::queue_rounds::QueueRounds;
 use crate::rounds::sleepers::{ChannelSleepers, ConnectionSleepers, Listed, Sleepers};
@@ -10,9 +10,6 @@ use crate::rounds::waiters::PlaceMarks;
 use marks::Places;
 
 impl Listed {
-    ghost use Rattle.std.specs.Prelude.{◌≡◌, length};
-    ghost use Rattle.broker.specs.Rounds.{IsWoken, AllWaken};
-
     /// Wakes the listed waiter.
     fn wake(&self, rounds: &mut QueueRounds)
         ensures woken { IsWoken rounds.old rounds.new self.now }
@@ -43,9 +40,6 @@ fn wake_listed(listed: &[Listed], asleep: &mut PlaceMarks, rounds: &mut QueueRou
 }
 
 impl ChannelSleepers {
-    ghost use Rattle.std.specs.Prelude.{◌≡◌, length};
-    ghost use Rattle.broker.specs.Rounds.{WakesListed, AllWaken};
-
     /// Wakes the waiters that sleep on this channel.
     fn wake(&mut self, rounds: &mut QueueRounds)
         ensures same { self.new.all ≡ self.old.all }
@@ -101,9 +95,6 @@ fn wake_on(channels: &mut [ChannelSleepers], rounds: &mut QueueRounds, channel: 
 }
 
 impl ConnectionSleepers {
-    ghost use Rattle.std.specs.Prelude.{◌≡◌, ℕ, true, false, length};
-    ghost use Rattle.broker.specs.Rounds.{is_on_channel, listings_on, Listing, IsListedOn, IsNotedOn, IsWoken, AllWaken};
-
     /// Wakes the connection's waiters that sleep on `channel`, or on any channel if that is `None`.
     fn wake(&mut self, rounds: &mut QueueRounds, channel: Option<u16>)
         // The frame: listings stay, and so do sleepers of other channels.

@@ -1,4 +1,4 @@
-use Rattle.depot.proofs.Names.{◌≡◌, ◌∙◌, ◌++◌, ◌∷◌, [], ℕ, List, ap, sym, Some, get_or, Topology, is_held_as, Holder, Note, Rejected, Left, queue_name, entries_of, holder_of_delivery, given_at}
+use Rattle.depot.proofs.Names.{◌≡◌, ◌∙◌, ◌++◌, ◌∷◌, [], ℕ, List, ap, sym, Some, get_or, Topology, is_held_as, Holder, Note, Rejected, Left, queue_name, entries_of, holder_of_delivery, given_at, so_far}
 use Rattle.std.proofs.Common.{find}
 use Rattle.depot.proofs.Foreseen.{given_foreseen}
 use Rattle.depot.proofs.Planned.{name_there}
@@ -21,7 +21,6 @@ returns-clause-ok c =
     let named : name ≡ queue_name t g.queue = c.in_ok-queue.ensures ∙ name_there t.queues g.queue c.queue-2.result.now c.requires.within there_too in
     let first : c.push_reserved.new.self.items ≡ notes ++ Left e.message.number name Rejected ∷ [] =
     c.push_reserved.ensures.items ∙ ap (λ (ns : List Note). ns ++ Left c.number.result name Rejected ∷ []) c.in_ok-reserve.ensures.items ∙ ap (λ (n : ℕ). notes ++ Left n name Rejected ∷ []) c.number.ensures in
-    on_ok c.plan_letter.result _ _
-    (λ letters entries are.
-    given_foreseen t c.args.id.connection c.args.id.number g e name old entries c.args.plan.now.tallies.entries c.plan_letter.new.plan.tallies.entries c.args.plan.now.arrivals.items c.plan_letter.new.plan.arrivals.items
-    notes c.push_reserved.new.self.items c.plan_letter.new.notes.items found named first are letters) c.plan_letter.ensures.ok
+    let from = so_far c.args.plan.now c.args.notes.now in
+    let to = so_far c.plan_letter.new.plan c.plan_letter.new.notes in
+    on_ok c.plan_letter.result _ _ (given_foreseen t c.args.id g e name old from to c.push_reserved.new.self.items found named first) c.plan_letter.ensures.ok

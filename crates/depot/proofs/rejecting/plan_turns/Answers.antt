@@ -1,4 +1,4 @@
-use Rattle.depot.proofs.Names.{◌≡◌, ◌∙◌, ◌+◌, ◌∷◌, map, drop, get_or, refl, ap, arith, drop_all, drop_more, entries_of, turn_at}
+use Rattle.depot.proofs.Names.{◌≡◌, ◌∙◌, ◌+◌, ◌∷◌, map, drop, get_or, refl, ap, arith, drop_all, drop_more, entries_of, turn_at, so_far}
 use Rattle.depot.proofs.Foreseen.{extends_none, extends_then, foreseeing_begins, foreseeing_ends, foreseeing_next}
 use Rattle.depot.proofs.rejecting.plan_turns.Goals as goal
 
@@ -6,7 +6,7 @@ pub loop-target-init : goal.loop-target-init
 loop-target-init c =
     let turns = map (turn_at c.args.declared.now c.args.letter.now) c.args.targets.now in
     record {
-      foreseen = λ entries are. foreseeing_begins c.args.declared.now (entries_of c.args.queues.now) turns entries c.args.plan.now.tallies.entries c.args.plan.now.arrivals.items c.args.notes.now.items are;
+      foreseen = λ entries are. foreseeing_begins c.args.declared.now (entries_of c.args.queues.now) turns entries (so_far c.args.plan.now c.args.notes.now) are;
       within = λ all. all;
       notes = extends_none c.args.notes.now.items c.args.notes.now.items refl;
       notes_len = omega arith;
@@ -31,8 +31,8 @@ loop-target-preserved c =
     record {
       foreseen = λ entries are.
           foreseeing_next qs (entries_of c.args.queues.now) (map turn c.args.targets.now) (map turn (drop i c.args.targets.now)) (map turn (drop (i + 1) c.args.targets.now)) (turn p) entries
-          c.loop-target.plan.tallies.entries c.plan_turn.new.plan.tallies.entries c.args.plan.now.arrivals.items c.loop-target.plan.arrivals.items c.plan_turn.new.plan.arrivals.items
-          c.args.notes.now.items c.loop-target.notes.items c.plan_turn.new.notes.items (inv.foreseen entries are) (ap (map turn) next) c.in_ok-plan_turn.ensures.ok;
+          (so_far c.args.plan.now c.args.notes.now) (so_far c.loop-target.plan c.loop-target.notes) (so_far c.plan_turn.new.plan c.plan_turn.new.notes)
+          (inv.foreseen entries are) (ap (map turn) next) c.in_ok-plan_turn.ensures.ok;
       within = λ all. c.plan_turn.ensures.within _ within (inv.within all);
       notes = extends_then c.args.notes.now.items c.loop-target.notes.items c.plan_turn.new.notes.items inv.notes c.plan_turn.ensures.notes;
       notes_len = let had = inv.notes_len in let more = c.plan_turn.ensures.notes_len in omega (arith, had, more);
@@ -51,5 +51,5 @@ returns-clause-ok c = λ entries are.
     let qs = c.args.declared.now in
     let turn = turn_at qs c.args.letter.now in
     let none = drop_all c.loop-target.target-index c.args.targets.now (omega (arith, c.loop-target-test.false, c.loop-target.auto.target-index-end)) in
-    foreseeing_ends qs (entries_of c.args.queues.now) (map turn c.args.targets.now) (map turn (drop c.loop-target.target-index c.args.targets.now)) entries c.loop-target.plan.tallies.entries
-    c.args.plan.now.arrivals.items c.loop-target.plan.arrivals.items c.args.notes.now.items c.loop-target.notes.items (c.loop-target.invariant.foreseen entries are) (ap (map turn) none)
+    foreseeing_ends qs (entries_of c.args.queues.now) (map turn c.args.targets.now) (map turn (drop c.loop-target.target-index c.args.targets.now)) entries
+    (so_far c.args.plan.now c.args.notes.now) (so_far c.loop-target.plan c.loop-target.notes) (c.loop-target.invariant.foreseen entries are) (ap (map turn) none)

@@ -22,7 +22,7 @@ loop-given-preserved c =
     }
 
 pub returns-clause-settled : goal.returns-clause-settled
-returns-clause-settled c = λ t n formed len.
+returns-clause-settled c = λ t formed len n.
     let past = c.loop-given-test.false in
     c.loop-given.invariant.returned t n (store_of t (entries_of c.loop-given.queues) n) formed len
     (subst (λ (ds : List Delivery). AreSettledBy Returns (store_of t (entries_of c.loop-given.queues) n) c.args.id.connection c.args.id.number (waiting ds) [] [] (store_of t (entries_of c.loop-given.queues) n))

@@ -1,4 +1,4 @@
-use Rattle.topic_match.proofs.Names.{◌-◌, ◌<◌, ℕ, List, length, get_or, Found, IsChild, IsFoundBy, KeepNodes, heads_of}
+use Rattle.topic_match.proofs.Names.{◌-◌, ◌<◌, ℕ, List, length, Found, IsChild, IsFoundBy, KeepNodes}
 use Rattle.topic_match.proofs.children.place_of.Given as goal
 
 abbrev pub invariant-tree : goal.invariant-tree

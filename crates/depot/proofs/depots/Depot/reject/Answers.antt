@@ -14,5 +14,5 @@ returns-clause-ok c =
     let within : AreWithin was.topology (waiting c.args.gone.now) = subst (λ (s : Store). AreWithin s.topology (waiting c.args.gone.now)) (sym c.self.view_is) c.requires.within in
     let apart : IsApart was = subst IsApart (sym c.self.view_is) c.requires.apart in
     subst (λ (s : Store). OnOk c.reject_in.result (AreSettledBy given.Rejects s c.args.id.connection c.args.id.number (waiting c.args.gone.now) c.args.notes.now.items c.reject_in.new.notes.items now)) c.self.view_is
-    (on_ok c.reject_in.result (Rejects was.topology c.args.id.connection c.args.id.number (waiting c.args.gone.now) was.queues now.queues c.args.notes.now.items c.reject_in.new.notes.items) _
-    (rejecting was now c.args.id.connection c.args.id.number (waiting c.args.gone.now) c.args.notes.now.items c.reject_in.new.notes.items whole apart c.requires.ordered within refl c.reject_in.ensures.same) c.reject_in.ensures.ok)
+    (on_ok c.reject_in.result (Rejects was.topology c.args.id (waiting c.args.gone.now) was.queues now.queues c.args.notes.now.items c.reject_in.new.notes.items) _
+    (rejecting was now c.args.id (waiting c.args.gone.now) c.args.notes.now.items c.reject_in.new.notes.items whole apart c.requires.ordered within refl c.reject_in.ensures.same) c.reject_in.ensures.ok)

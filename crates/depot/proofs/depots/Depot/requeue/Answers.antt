@@ -6,4 +6,4 @@ returns c =
     let t = c.self.inside.router in
     let new : Store = store_of t (entries_of c.requeue_in.new.queues) c.self.inside.published in
     subst (λ (s : Store). AreSettledBy Returns s c.args.id.connection c.args.id.number (waiting c.args.gone.now) [] [] new) c.self.view_is
-    (c.requeue_in.ensures.settled t c.self.inside.published (subst IsWellFormed c.topology.ensures c.ghost_is_well_formed.ensures) c.self.invariant)
+    (c.requeue_in.ensures.settled t (subst IsWellFormed c.topology.ensures c.ghost_is_well_formed.ensures) c.self.invariant c.self.inside.published)

@@ -1,17 +1,23 @@
-use Rattle.broker.proofs.Names.{◌∙◌, List, sym, subst, take_at, Waiters, round_at, HasRoom, AllWaken, QueuesAreMarked}
+use Rattle.broker.proofs.Names.{◌<◌, [], List, length, set, sym, subst, get_or-set_same, Waiters, HasRoom, IsAwake, Wakens, AllWaken}
+use Rattle.broker.proofs.Marked.{borrowed, marked_still, waken_set}
 use Rattle.broker.proofs.Outcomes.{on_ok}
 use Rattle.broker.proofs.rounds.queue_rounds.QueueRounds.reserve.Goals as goal
 
 pub returns-clause-room : goal.returns-clause-room
 returns-clause-room c =
-    on_ok c.reserve_at.result (λ room. subst (λ (xs : List Waiters). HasRoom (round_at xs c.args.queue)) (sym (take_at c.reserve_at.new.rounds _ c.self.inside.rounds.len (c.reserve_at.auto.rounds ∙ c.deref_mut.ensures.len))) room) c.reserve_at.ensures.room
+    let lt = subst (λ (xs : List Waiters). c.args.queue < length xs) (sym c.self.view_is) c.requires in
+    on_ok c.reserve.result (λ room. subst HasRoom (sym (get_or-set_same c.self.inside.rounds.items c.args.queue c.reserve.new.self (record { waiters = []; marks = []; next = 0; capacity = 0 }) lt)) room) c.reserve.ensures.room
 
 pub returns-clause-wakens : goal.returns-clause-wakens
 returns-clause-wakens c =
-    subst (λ (xs : List Waiters). AllWaken c.args.self.now xs) (sym (take_at c.reserve_at.new.rounds _ c.self.inside.rounds.len (c.reserve_at.auto.rounds ∙ c.deref_mut.ensures.len)))
-    (subst (λ (xs : List Waiters). AllWaken xs c.reserve_at.new.rounds) (c.deref_mut.ensures.value ∙ c.self.view_is) c.reserve_at.ensures.wakens)
+    let items = c.self.inside.rounds.items in
+    let lt = subst (λ (xs : List Waiters). c.args.queue < length xs) (sym c.self.view_is) c.requires in
+    subst (λ (xs : List Waiters). AllWaken xs (set items c.args.queue c.reserve.new.self)) c.self.view_is
+    (waken_set items c.args.queue c.reserve.new.self lt (subst (λ (r : Waiters). Wakens r c.reserve.new.self) (sym (borrowed items c.args.queue c.index_mut.result.now lt c.index_mut.ensures.value)) c.reserve.ensures.wakens))
 
 pub invariant_of-self : goal.invariant_of-self
 invariant_of-self c =
-    subst (λ (xs : List Waiters). QueuesAreMarked xs c.self.inside.awake) (sym (take_at c.reserve_at.new.rounds _ c.self.inside.rounds.len (c.reserve_at.auto.rounds ∙ c.deref_mut.ensures.len)))
-    (c.reserve_at.ensures.marked c.self.inside.awake (subst (λ (xs : List Waiters). QueuesAreMarked xs c.self.inside.awake) (sym c.deref_mut.ensures.value) c.self.invariant))
+    let items = c.self.inside.rounds.items in
+    let lt = subst (λ (xs : List Waiters). c.args.queue < length xs) (sym c.self.view_is) c.requires in
+    marked_still items c.self.inside.awake c.args.queue c.reserve.new.self lt
+    (λ p up. subst (λ (r : Waiters). IsAwake r p) (sym (borrowed items c.args.queue c.index_mut.result.now lt c.index_mut.ensures.value)) (c.reserve.ensures.none p up)) c.self.invariant

@@ -1,17 +1,49 @@
-use Rattle.broker.proofs.Names.{◌∙◌, List, inl, inr, sym, ap, subst, vec_capacity, take_at, Waiter, Waiters, round_of, picks, IsAwake, IsAsleep}
+use Rattle.broker.proofs.Names.{◌∙◌, ◌<◌, List, length, get_or, set, refl, sym, ap, subst, arith, rules, length-set, get_or-set_same, same_default, AreDistinct, Pick, Waiter, Waiters, asleep_waiter, awake_waiter, picks, IsAwake, IsAsleep}
+use Rattle.std.proofs.Common.{◌≡◌}
+use Rattle.broker.proofs.Picks.{picks_set}
+use Rattle.broker.proofs.Sleeping.{roused}
 use Rattle.broker.proofs.rounds.round.Round.wake.Goals as goal
 
-pub returns-clause-wakens : goal.returns-clause-wakens
-returns-clause-wakens c =
-    let was = ap (λ (xs : List Waiter). record { waiters = xs; marks = c.self.inside.awake; next = c.self.inside.next; capacity = vec_capacity c.self.inside.waiters }) c.deref_mut.ensures.value ∙ c.self.view_is in
-    let back = take_at c.wake_waiter.new.waiters _ c.self.inside.waiters.len (c.wake_waiter.auto.waiters ∙ c.deref_mut.ensures.len) in
-    let w = c.wake_waiter.ensures.wakens in
+pub returns-in-Some-clause-woken : goal.returns-in-Some-clause-woken
+returns-in-Some-clause-woken c = λ i.
+    let items = c.self.inside.waiters.items in
+    let place = c.in-Some.place in
+    let s = c.index_mut.result.now in
+    let lt = subst (λ (ws : List Waiter). place < length ws) c.deref.ensures.value c.in-Some.ensures.within in
+    let pick = c.index_mut.ensures.value ∙ ap (λ (ws : List Waiter). get_or ws place s) (sym c.deref.ensures.value) in
+    let own = ap (λ (w : Waiter). w.pick) pick ∙ c.in-Some.ensures.there s in (
+      place,
+      record {
+        within = search rules;
+        there = λ d. get_or-set_same items place (awake_waiter s.pick) d lt ∙ ap awake_waiter own;
+        marked = c.set.ensures.set.there;
+      },
+    )
+
+pub returns-in-Some-clause-wakens : goal.returns-in-Some-clause-wakens
+returns-in-Some-clause-wakens c =
+    let items = c.self.inside.waiters.items in
+    let place = c.in-Some.place in
+    let s = c.index_mut.result.now in
+    let lt = subst (λ (ws : List Waiter). place < length ws) c.deref.ensures.value c.in-Some.ensures.within in
+    let w = roused items c.self.inside.awake c.set.new.self place s lt (λ d. same_default items place d s lt ∙ sym c.index_mut.ensures.value) c.set.ensures.set in
     record {
-      awake = λ p up. subst (λ (xs : List Waiter). IsAwake (round_of xs c.wake_waiter.new.awake) p) (sym back) (w.awake p (subst (λ (r : Waiters). IsAwake r p) (sym was) up));
-      asleep = λ p i. elim (w.asleep p (subst (λ (r : Waiters). IsAsleep r p) (sym was) i)) [
-        | inl still ↦ inl (subst (λ (xs : List Waiter). IsAsleep (round_of xs c.wake_waiter.new.awake) p) (sym back) still)
-        | inr up ↦ inr (subst (λ (xs : List Waiter). IsAwake (round_of xs c.wake_waiter.new.awake) p) (sym back) up)
-      ];
-      same = ap picks back ∙ w.same ∙ ap (λ (r : Waiters). picks r.waiters) was;
+      awake = λ p up. w.awake p (subst (λ (r : Waiters). IsAwake r p) (sym c.self.view_is) up);
+      asleep = λ p i. w.asleep p (subst (λ (r : Waiters). IsAsleep r p) (sym c.self.view_is) i);
+      same = w.same ∙ ap (λ (r : Waiters). picks r.waiters) c.self.view_is;
       next = ap (λ (r : Waiters). r.next) c.self.view_is;
     }
+
+pub returns-in_default-clause-woken : goal.returns-in_default-clause-woken
+returns-in_default-clause-woken c = λ i. absurd (c.in_default.ensures.none refl (asleep_waiter c.args.consumer) (search rules) refl)
+
+pub invariant_of-self : goal.invariant_of-self
+invariant_of-self c =
+    let items = c.self.inside.waiters.items in
+    let s = c.index_mut.result.now in
+    let lt = subst (λ (ws : List Waiter). c.in-Some.place < length ws) c.deref.ensures.value c.in-Some.ensures.within in
+    let same = picks_set items c.in-Some.place (awake_waiter s.pick) s lt (ap (λ (w : Waiter). w.pick) c.index_mut.ensures.value) in
+    let long = length-set items c.in-Some.place (awake_waiter s.pick) in
+    let size = c.set.ensures.size in
+    let room = c.self.invariant.0 in
+    (omega (arith, long, size, room), subst (λ (ps : List Pick). AreDistinct ps) (sym same) c.self.invariant.1)
