@@ -43,6 +43,16 @@ def publish(exchange, key, body, given=properties()):
     return method(1, 60, 40, arguments) + frame(2, 1, header) + content
 
 
+def consume(queue, tag):
+    """The frame of a consume on channel 1, with acknowledgement."""
+    return method(1, 60, 20, b"\0\0" + short_text(queue) + short_text(tag) + b"\0" + struct.pack(">I", 0))
+
+
+def cancel(tag):
+    """The frame of the cancel of a consumer on channel 1."""
+    return method(1, 60, 30, short_text(tag) + b"\0")
+
+
 START_OK = struct.pack(">I", 0) + short_text("PLAIN") + struct.pack(">I", 10) + b"\0till\0till" + short_text("en_US")
 
 
@@ -100,7 +110,7 @@ class Client:
 
     def consume(self, queue):
         """Consumes with acknowledgement and no limit. The first deliveries may come with the answer."""
-        self.socket.sendall(method(1, 60, 20, b"\0\0" + short_text(queue) + short_text("c") + b"\0" + struct.pack(">I", 0)))
+        self.socket.sendall(consume(queue, "c"))
         answer, *self.early = self.methods()
         if answer[:2] != (60, 21):
             raise ValueError(f"60 21 was to come, and {answer[:2]} came")

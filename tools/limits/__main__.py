@@ -27,12 +27,14 @@ FAMILIES = [
     ("64 `never` over such a ring", families.ring_of_many, ("check --out", "verify")),
     ("a `never` that is broken through such a ring", families.broken_through_the_ring, ("check",)),
     ("47 certificates of 32,769 states, in each of which a message comes through 255 exchanges", families.many_listed, ("verify",)),
+    ("16 certificates of 16,385 states, each of which other patterns accept, through 255 exchanges", families.many_that_differ, ("verify",)),
     ("34,660 states of 63 patterns and 1,893 letters", families.many_letters, ("check --out", "verify")),
     ("64,000 states, 64 letters of each", families.letters_that_all_lead, ("check --out", "verify")),
     ("more than 65,536 states by all patterns and by a slice", families.undecided_by_states, ("check",)),
-    ("a `never` that is broken through 255 keys", families.broken_at_the_end, ("check",)),
+    ("a `never` through 255 keys, each of which reaches 256 exchanges: undecided", families.broken_at_the_end, ("check",)),
     ("3,500 patterns of 31 words, chosen for one slot of the trie", families.one_slot, ("route",)),
     ("4,096 patterns whose first words have one mark", families.same_marks, ("route",)),
+    ("2 guarantees of 59,062 states of 59 patterns, with numbers near 2^32, too long for a file", families.wide_numbers, ("check", "check --out")),
     ("24 guarantees of 59,050 states, too long for a file", families.many_certificates, ("check", "check --out")),
 ]
 

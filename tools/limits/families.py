@@ -102,6 +102,17 @@ def many_certificates():
     return topology.file(), [guarantee("never", "#", f"z{number}") for number in range(24)]
 
 
+def wide_numbers(count=2):
+    """So many guarantees, each with a certificate of 59,062 states of 59 patterns. Its numbers are just below 2^31 and 2^32."""
+    topology = topic_beside("q", *(f"z{number}" for number in range(count)))
+    for first in ("a", "b"):
+        topology.bind("x", stars(first, 9), "q")
+    for place in range(28):
+        for words in ("*", "*.*"):
+            topology.bind("x", ".".join(["#"] * place + [words] + ["#"] * (29 - place)), "q")
+    return topology.file(), [guarantee("never", "#", f"z{number}") for number in range(count)]
+
+
 def letters_that_all_lead():
     """64,000 states, from each of which each of 64 letters leads elsewhere."""
     topology = topic_beside("q", "z")
@@ -177,20 +188,37 @@ def broken_through_the_ring():
     return topology.file(), [guarantee("never", "a.#", "z")]
 
 
-def many_listed(count=47, words=14):
-    """So many `never`, each with a certificate of 2^(words + 1) + 1 states of two patterns: as many as a file has room for. In each state a message comes
-    through 255 fanout exchanges, each of which leads to 14 others."""
-    topology = topic_beside("q", *(f"z{number}" for number in range(count)))
+def through_fanouts(topology):
+    """Each message of `x` comes through 255 fanout exchanges, each of which leads to 14 others."""
     for number in range(255):
         topology.exchange(f"e{number}", "fanout")
     for number in range(255):
         for further in range(14):
             topology.bind(f"e{number}", "", f"e{(number + 1 + further * 17) % 255}", "exchange")
     topology.bind("x", "#", "e0", "exchange")
+
+
+def many_listed(count=47, words=14):
+    """So many `never`, each with a certificate of 2^(words + 1) + 1 states of two patterns: as many as a file has room for. In each state a message comes
+    through 255 fanout exchanges, each of which leads to 14 others."""
+    topology = topic_beside("q", *(f"z{number}" for number in range(count)))
+    through_fanouts(topology)
     topology.bind("x", stars("a", words), "q")
     states = [*([2, 2 + 4 * number] for number in range(2 ** (words + 1))), [3, 3]]
     guarantees = [guarantee("never", "#", f"z{number}") for number in range(count)]
     return topology.file(), guarantees, [{"form": 1, "states": states, **it} for it in guarantees]
+
+
+def many_that_differ(count=16, words=14):
+    """So many `never`, each with a certificate of 2^words + 1 states: as many as a file has room for. No two of its states are accepted by the same patterns,
+    and in each of them a message comes through 255 fanout exchanges, each of which leads to 14 others."""
+    topology = topic_beside("q", *(f"z{number}" for number in range(count)))
+    through_fanouts(topology)
+    for place in range(words):
+        topology.bind("x", stars("a", place), "q")
+    states = [[2, *(2 + 4 * (number % 2 ** (place + 1)) for place in range(words))] for number in range(2**words)]
+    guarantees = [guarantee("never", "#", f"z{number}") for number in range(count)]
+    return topology.file(), guarantees, [{"form": 1, "states": sorted([*states, [3] * (words + 1)]), **it} for it in guarantees]
 
 
 def mark(text):

@@ -41,6 +41,6 @@ empty_body h p header c body is empty none b =
 pub small_at : (payload : List ℕ) (n : ℕ) → SaysSize payload (Ok n) → is_too_large payload n ≡ false → is_too_large payload (size_at payload) ≡ false
 small_at payload n (size l c w) e = e
 
--- and so it is the size in the header
+-- so the size that was read is the one in the header
 pub same_size : (payload : List ℕ) (n : ℕ) (h : Headers.Header) → SaysSize payload (Ok n) → SaysHeader payload (Ok h) → n ≡ h.size
 same_size payload n h (size l c w) says = (declared payload h says).0

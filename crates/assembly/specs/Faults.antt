@@ -22,7 +22,7 @@ RefusesMethod payload refusal fault = methods.MethodIsRefused payload refusal �
 -- if the reader of a header's size is right to refuse the payload by `refusal`, the fault is right:
 -- its reply code, if any, is one with which the payload is refused
 abbrev pub RefusesSize : List ℕ → headers_refusal.BadHeader → Fault → Type 0
-RefusesSize payload refusal fault = headers.TellsSize payload (Err refusal) → IsFault (λ code. SaysSize payload (Err code)) fault
+RefusesSize payload refusal fault = headers.ReturnsSize payload (Err refusal) → IsFault (λ code. SaysSize payload (Err code)) fault
 
 -- if the reader of headers is right to refuse the payload by `refusal`, the fault is right: its reply code, if any, is one by which the payload is refused
 abbrev pub RefusesHeader : List ℕ → headers_refusal.BadHeader → Fault → Type 0

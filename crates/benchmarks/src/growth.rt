@@ -30,7 +30,13 @@ const LETTERS: u64 = 10;
 const BOUND: u64 = 2_000_000;
 
 /// Prints whether the process has grown from `before` to `after` bytes, and by how many bytes if it has.
-fn tell(rt: &HostRuntime, what: &str, before: u64, after: u64, is_whole: bool) -> io::Result<()> {
+fn print_growth(
+    rt: &HostRuntime,
+    what: &str,
+    before: u64,
+    after: u64,
+    is_whole: bool,
+) -> io::Result<()> {
     let grown = after.saturating_sub(before);
     if before == 0 {
         return println!(rt; "{what}: how much memory it has is not known");
@@ -56,7 +62,7 @@ fn messages(rt: &HostRuntime) -> io::Result<()> {
     running.pass(FIRST);
     let before = resident_bytes(rt)?;
     running.pass(MESSAGES);
-    tell(rt, what, before, resident_bytes(rt)?, running.is_whole())
+    print_growth(rt, what, before, resident_bytes(rt)?, running.is_whole())
 }
 
 /// A connection that starts consumers of a queue and cancels them, one after another.
@@ -111,11 +117,11 @@ fn consumers(rt: &HostRuntime) -> io::Result<()> {
     consuming.pass(FIRST);
     let before = resident_bytes(rt)?;
     consuming.pass(CONSUMERS);
-    tell(rt, what, before, resident_bytes(rt)?, consuming.is_whole())
+    print_growth(rt, what, before, resident_bytes(rt)?, consuming.is_whole())
 }
 
-/// Rejects all messages of a queue at once, each of whose dead letters goes to twenty queues that may have ten messages. What the process has at
-/// most meanwhile counts, room that is reserved and given back included.
+/// Rejects all messages of a queue at once. The dead letter of each goes to twenty queues, which may have ten messages each. Counts the most address
+/// space that the process has meanwhile, with what it reserves and gives back.
 fn rejection(rt: &HostRuntime) -> io::Result<()> {
     let what = "a rejection of 100,000 messages";
     let load = rejects::LIMITED.with_messages(REJECTED);
@@ -134,7 +140,7 @@ fn rejection(rt: &HostRuntime) -> io::Result<()> {
             holder.held
         );
     }
-    tell(rt, what, before, after, is_whole)
+    print_growth(rt, what, before, after, is_whole)
 }
 
 /// Checks messages, consumers and a rejection.

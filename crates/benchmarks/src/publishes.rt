@@ -65,7 +65,7 @@ fn open_all(engine: &mut Measured, load: &Load) {
 }
 
 /// Prints by how much a publish grew the process, which had `before` resident bytes, and the number of bytes put out.
-fn tell(rt: &HostRuntime, running: &mut Running, before: u64) -> io::Result<()> {
+fn print_growth(rt: &HostRuntime, running: &mut Running, before: u64) -> io::Result<()> {
     let grown = resident_bytes(rt)?.saturating_sub(before) / running.load.publishes.max(1);
     let written = running.engine.take_written();
     println!(rt; " ns a publish; {grown} bytes a publish; {written} bytes put out")
@@ -77,7 +77,7 @@ fn measure_over(rt: &HostRuntime, engine: Measured, load: &Load) -> io::Result<(
     let before = resident_bytes(rt)?;
     print!(rt; "{}:", load.name)?;
     running.print_publishes(rt)?;
-    tell(rt, &mut running, before)?;
+    print_growth(rt, &mut running, before)?;
     if running.engine.is_whole() && running.client.is_whole() {
         return Ok(());
     }

@@ -127,8 +127,7 @@ pub fn reject(engine: &mut Measured, alloc: Global, holder: Holder) {
     engine.perform(holder.connection, bytes.as_slice());
 }
 
-/// Prints the time of a message that is rejected with all others, and by how many bytes for each the process has grown, and had
-/// grown at most.
+/// Rejects all messages at once. Prints the time for each, and by how many bytes for each the process has grown, afterwards and at most meanwhile.
 fn measure_over(rt: &HostRuntime, mut engine: Measured, load: RejectLoad) -> io::Result<()> {
     let holder = hold(&mut engine, rt.alloc(), b"q0", load.rejected);
     let before = resident_bytes(rt)?;

@@ -21,7 +21,7 @@ struct Losing {
     engine: Measured,
     /// The connection that holds them.
     holder: u64,
-    /// The number of messages held at all losses together.
+    /// The number of messages held at each loss, summed over the losses.
     held: u64,
 }
 

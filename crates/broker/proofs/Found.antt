@@ -56,7 +56,7 @@ its_queue : (kept : Kept) (queue : ℕ) (p : Pick) (k : Consumer) (ch : seen.Cha
 its_queue kept queue p k ch whole there only within has =
     let same : has.was.0 ≡ ch = same_Some has.was.0 ch (sym has.was.1 ∙ there) in
     let one : has.consumer ≡ consumer_in (names_of kept) k = only has.consumer (subst (λ (x : seen.Channel). IsIn has.consumer x.consumers) same has.was.2) has.numbered in
-    same_place (topology_kept kept) k.queue queue whole.formed.queues_apart within has.within (sym (has.named ∙ ap (λ (x : seen.Consumer). x.queue) one))
+    same_place (topology_kept kept) k.queue queue whole.formed.queues_distinct within has.within (sym (has.named ∙ ap (λ (x : seen.Consumer). x.queue) one))
 
 pub kept_queue : (kept : Kept) (queue : ℕ) (p : Pick) (k : Consumer) → IsStoreWhole kept.store → IsKeptAs kept p k → HasConsumer (topology_kept kept) (broker_of kept) queue p → k.queue ≡ queue
 kept_queue kept queue p k whole t has = its_queue kept queue p k t.channel whole t.there t.only t.within has

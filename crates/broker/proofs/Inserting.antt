@@ -1,5 +1,5 @@
 -- A waiter comes in as the last of its line.
-use Rattle.broker.proofs.Names.{◌∙◌, ◌<◌, ◌≤◌, ◌+◌, ◌++◌, ℕ, zero, suc, List, [], ◌∷◌, Bool, Result, if◌then◌else◌, length, take, drop, get_or, min, inl, inr, refl, sym, ap, subst, arith, insert, is_ok, IsOk, leb_tells, drop_min, take_min, drop_all, take_all, append-nil, take-append-drop, IsIn, bit_of, Kept, Pick, Waiter, turned, AreDistinct, round_of, picks, awake_waiter, asleep_waiter, bit_for, IsAwake, KeepsRound}
+use Rattle.broker.proofs.Names.{◌∙◌, ◌<◌, ◌≤◌, ◌+◌, ◌++◌, ℕ, zero, suc, List, [], ◌∷◌, Bool, Result, if◌then◌else◌, length, take, drop, get_or, min, inl, inr, refl, sym, ap, subst, arith, insert, is_ok, IsOk, leb_tells, drop_min, take_min, drop_all, take_all, append-nil, take-append-drop, IsIn, bit_of, Kept, Pick, Waiter, turned, AllDistinct, round_of, picks, awake_waiter, asleep_waiter, bit_for, IsAwake, KeepsRound}
 use Rattle.std.proofs.Common.{◌≡◌, ◌⊎◌}
 use Rattle.std.proofs.lemmas.List.{append_assoc}
 use Rattle.broker.proofs.Lining.{in_place}
@@ -72,8 +72,8 @@ module _ {X : Type 0} where
       ap (λ (n : ℕ). turned n (insert xs place x)) behind ∙ turned_inserted xs place x le ∙ ap (λ (ys : List X). ys ++ x ∷ []) (end_turned xs next place end)
 
   -- where no two of a line are one, no two of the list are that is gone round
-  pub distinct_list : (xs : List X) (next : ℕ) → AreDistinct (turned next xs) → AreDistinct xs
-  distinct_list xs next d = subst AreDistinct (take-append-drop next xs) (distinct_parts (drop next xs) (take next xs) d)
+  pub distinct_list : (xs : List X) (next : ℕ) → AllDistinct (turned next xs) → AllDistinct xs
+  distinct_list xs next d = subst AllDistinct (take-append-drop next xs) (distinct_parts (drop next xs) (take next xs) d)
 
 -- what an insert leaves that had room
 pub did_insert : {T E X : Type 0} (r : Result T E) (old inserted new : List X) → new ≡ (if is_ok r then inserted else old) → IsOk r → new ≡ inserted

@@ -264,7 +264,7 @@ running_but old new before after c others gone makes running d none = go (d == c
   where
     go : (v : Bool) → (d == c) ≡ v → HasNoList after d
     go true at = let one = eqb-true d c at in subst (HasNoList after) (sym one) (gone (ap new.connection (sym one) ∙ none))
-    go false apart = makes d (running d (others d apart none))
+    go false distinct = makes d (running d (others d distinct none))
 
 -- each event that is no command leaves it so
 pub serves_still : StayAgreed → ConsumersAreMade → (t : Topology) (old new : Kept) (e : Event) (sends : List Send) (notes : List Note) (rounds : Rounds)

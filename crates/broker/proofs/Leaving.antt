@@ -1,14 +1,56 @@
 -- Consumers of a connection are gone, and so are their waiters.
-use Rattle.broker.proofs.Names.{◌∙◌, ℕ, List, Bool, true, false, Option, filter, inl, inr, refl, sym, ap, subst, not, ◌==◌, ◌||◌, nat_eq, lookup, eqb-true, eq-eqb, false≢true, IsIn, Kept, Pick, Waiters, Rounds, Lists, Listing, Listings, round_at, order, is_of, is_other, remains, is_listed_there, listing, listings_on, channels_of, IsNoted, IsInRound, IsListedUnder, LosesWaiter, GoneAreRemoved, ListsItsWaiters, LeaveLines, KeepLists, ListingsLeave, IsServing}
+use Rattle.broker.proofs.Names.{◌∙◌, ◌<◌, ◌≤◌, ◌+◌, ◌++◌, ◌∷◌, ℕ, List, [], Bool, true, false, Option, length, take, get_or, filter, inl, inr, refl, sym, ap, subst, arith, not, ◌==◌, ◌||◌, is_some, nat_eq, lookup, leb_tells, eqb-true, eq-eqb, false≢true, get_or_past, IsIn, Kept, Pick, Waiters, Rounds, Listing, Listings, Gone, Nobody, One, Several, round_at, order, is_of, is_other, remains, is_listed_there, listing, listings_on, channels_of, IsInRound, IsListedUnder, LosesWaiter, ListsItsWaiters, KeepRounds, LeaveLine, LeaveLines, LeaveNamed, IsAmongGone, AddsGone, only_gone, IsServing}
 use Rattle.std.proofs.Common.{◌≡◌, ◌⊎◌}
+use Rattle.commands.specs.State.{broker_of}
 use Rattle.broker.proofs.Later.{filter_all, remains_of}
-use Rattle.broker.proofs.Lining.{filter_in}
+use Rattle.std.proofs.lemmas.List.{take_more}
+use Rattle.broker.proofs.Lining.{filter_in, in_either}
 use Rattle.broker.proofs.Removing.{is_self, other}
-use Rattle.broker.proofs.Sleeping.{apart}
-use Rattle.broker.proofs.Standing.{passes, filter_twice}
+use Rattle.broker.proofs.Sleeping.{distinct}
+use Rattle.broker.proofs.Standing.{passes, filter_twice, in_left, in_right}
 use Rattle.broker.proofs.Takers.{of_has}
 
--- ---- one of them
+-- ---- who is gone
+
+module _ (kept : Kept) (count : ℕ) where
+  -- nobody of these
+  pub adds_nobody : (listed : Listing → Type 0) (gone : Gone) (named : List ℕ) → ((l : Listing) → listed l → is_listed_there kept l ≡ true) → AddsGone kept listed count gone named gone named
+  adds_nobody listed gone named all = record {
+    size = refl;
+    stay = λ l i. i;
+    come = λ l i far. absurd (false≢true (sym far ∙ all l i));
+    one = λ l e. inl e;
+  }
+
+  -- first those, then these, which are all
+  pub adds_then : (first second all : Listing → Type 0) (old mid new : Gone) (a b d : List ℕ) → ((l : Listing) → first l → all l) → ((l : Listing) → second l → all l) → ((l : Listing) → all l → first l ⊎ second l)
+      → AddsGone kept first count old a mid b → AddsGone kept second count mid b new d → AddsGone kept all count old a new d
+  adds_then first second all old mid new a b d of_first of_second either f s = record {
+    size = s.size ∙ f.size;
+    stay = λ l i. s.stay l (f.stay l i);
+    come = λ l i far. elim (either l i) [ inl j ↦ s.stay l (f.come l j far) | inr j ↦ s.come l j far ];
+    one = λ l e. elim (s.one l e) [ inl was ↦ elim (f.one l was) [ inl same ↦ inl same | inr came ↦ inr (of_first l came.0, came.1) ] | inr came ↦ inr (of_second l came.0, came.1) ];
+  }
+
+  -- the same, said otherwise
+  pub adds_as : (those these : Listing → Type 0) (old new : Gone) (a b : List ℕ) → ((l : Listing) → those l → these l) → ((l : Listing) → these l → those l) → AddsGone kept those count old a new b → AddsGone kept these count old a new b
+  adds_as those these old new a b into out g = record {
+    size = g.size;
+    stay = g.stay;
+    come = λ l i. g.come l (out l i);
+    one = λ l e. elim (g.one l e) [ inl was ↦ inl was | inr came ↦ inr (into l came.0, came.1) ];
+  }
+
+  -- one more of a list
+  pub adds_next : (ls : List Listing) (at : ℕ) (next : Listing) (old mid new : Gone) (a b d : List ℕ) → at < length ls → next ≡ get_or ls at next → AddsGone kept (λ m. IsIn m (take at ls)) count old a mid b
+      → AddsGone kept (λ m. m ≡ next) count mid b new d → AddsGone kept (λ m. IsIn m (take (at + 1) ls)) count old a new d
+  adds_next ls at next old mid new a b d lt is f s =
+      let more : take (at + 1) ls ≡ take at ls ++ next ∷ [] = take_more ls at next lt ∙ ap (λ (m : Listing). take at ls ++ m ∷ []) (sym is) in
+      adds_then (λ m. IsIn m (take at ls)) (λ m. m ≡ next) (λ m. IsIn m (take (at + 1) ls)) old mid new a b d (λ m i. subst (IsIn m) (sym more) (in_left m (take at ls) (next ∷ []) i))
+      (λ m e. subst (IsIn m) (sym more) (in_right m (take at ls) (next ∷ []) (inl e)))
+      (λ m i. elim (in_either m (take at ls) (next ∷ []) (subst (IsIn m) more i)) [ inl j ↦ inl j | inr j ↦ elim j [ inl e ↦ inr e | inr none ↦ absurd none ] ]) f s
+
+-- ---- one waiter is removed
 
 module _ (kept : Kept) (queue : ℕ) (p : Pick) (old new : List Waiters) (loses : LosesWaiter queue p old new) (gone : is_of kept queue p ≡ false) where
   -- what is so of the queue's round, and of others that are as they were, is so of all
@@ -17,86 +59,86 @@ module _ (kept : Kept) (queue : ℕ) (p : Pick) (old new : List Waiters) (loses 
     where
       go : (v : Bool) → (place == queue) ≡ v → P place (round_at old place) (round_at new place)
       go true f = subst (λ (n : ℕ). P n (round_at old n) (round_at new n)) (sym (eqb-true place queue f)) here
-      go false f = subst (P place (round_at old place)) (sym (loses.others place (apart place queue f))) (others place (round_at old place))
+      go false f = subst (P place (round_at old place)) (sym (loses.others place (distinct place queue f))) (others place (round_at old place))
 
   -- whoever remains is another
   remains_other : (c : ℕ) → p.connection ≡ c → (q : Pick) → remains kept queue c q ≡ true → is_other p q ≡ true
   remains_other c its q e = other p q (λ same. false≢true (sym gone ∙ ap (is_of kept queue) same ∙ remains_of kept queue c q e (eq-eqb q.connection c (ap (λ (z : Pick). z.connection) (sym same) ∙ its))))
 
-  pub one_gone : GoneAreRemoved kept (λ (l : Listing). l ≡ listing queue p) old new
-  one_gone = record {
-    left = λ l e far i.
-        let here = subst (λ (m : Listing). IsIn m.consumer (order (round_at new m.queue))) e i in
-        false≢true (sym (is_self p) ∙ passes (is_other p) p (order (round_at old queue)) (subst (IsIn p) loses.round.line here));
-    were = λ place q. at_each (λ n r s. IsIn q (order s) → IsIn q (order r)) (λ i. filter_in (is_other p) q (order (round_at old queue)) (subst (IsIn q) loses.round.line i)) (λ n r i. i) place;
-    stay = λ b lists place q.
-        at_each (λ n r s. is_of kept n q ≡ true → IsInRound b lists n r q → IsInRound b lists n s q)
-        (λ has. loses.round.stay b lists queue q (λ same. false≢true (sym gone ∙ ap (is_of kept queue) (sym same) ∙ has))) (λ n r has i. i) place;
-    same = λ c own place.
-        at_each (λ n r s. filter (remains kept n c) (order s) ≡ filter (remains kept n c) (order r))
-        (ap (filter (remains kept queue c)) loses.round.line ∙ filter_twice (remains kept queue c) (is_other p) (order (round_at old queue)) (remains_other c (own (listing queue p) refl))) (λ n r. refl) place;
-  }
+  pub one_left : (l : Listing) → l ≡ listing queue p → IsIn l.consumer (order (round_at new l.queue)) → ⊥
+  one_left l e i =
+      let here = subst (λ (m : Listing). IsIn m.consumer (order (round_at new m.queue))) e i in
+      false≢true (sym (is_self p) ∙ passes (is_other p) p (order (round_at old queue)) (subst (IsIn p) loses.round.line here))
 
--- one that is there is left
-pub one_there : (kept : Kept) (one : Listing) (rounds : List Waiters) → is_listed_there kept one ≡ true → GoneAreRemoved kept (λ (l : Listing). l ≡ one) rounds rounds
-one_there kept one rounds its = record {
-  left = λ l e far i. false≢true (sym far ∙ ap (is_listed_there kept) e ∙ its);
-  were = λ place p i. i;
-  stay = λ b lists place p has i. i;
-  same = λ c own place. refl;
-}
+  pub one_were : (place : ℕ) (q : Pick) → IsIn q (order (round_at new place)) → IsIn q (order (round_at old place))
+  one_were place q = at_each (λ n r s. IsIn q (order s) → IsIn q (order r)) (λ i. filter_in (is_other p) q (order (round_at old queue)) (subst (IsIn q) loses.round.line i)) (λ n r i. i) place
 
--- ---- several
+  pub one_kept : KeepRounds kept old new
+  one_kept place lists q i has =
+      at_each (λ n r s. is_of kept n q ≡ true → IsInRound (broker_of kept) lists n r q → IsInRound (broker_of kept) lists n s q)
+      (λ its. loses.round.stay (broker_of kept) lists queue q (λ same. false≢true (sym gone ∙ ap (is_of kept queue) (sym same) ∙ its))) (λ n r its j. j) place has i
 
--- where none is listed
-pub none_gone : (kept : Kept) (listed : Listing → Type 0) (rounds : List Waiters) → ((l : Listing) → listed l → ⊥) → GoneAreRemoved kept listed rounds rounds
-none_gone kept listed rounds none = record {
-  left = λ l i. absurd (none l i);
-  were = λ place p i. i;
-  stay = λ b lists place p has i. i;
-  same = λ c own place. refl;
-}
-
--- first those, then these, which are all
-pub gone_then : (kept : Kept) (first second all : Listing → Type 0) (old mid new : List Waiters) → ((l : Listing) → first l → all l) → ((l : Listing) → second l → all l) → ((l : Listing) → all l → first l ⊎ second l)
-    → GoneAreRemoved kept first old mid → GoneAreRemoved kept second mid new → GoneAreRemoved kept all old new
-gone_then kept first second all old mid new of_first of_second either f g = record {
-  left = λ l i. elim (either l i) [ inl j ↦ λ far there. f.left l j far (g.were l.queue l.consumer there) | inr j ↦ g.left l j ];
-  were = λ place p i. f.were place p (g.were place p i);
-  stay = λ b lists place p has i. g.stay b lists place p has (f.stay b lists place p has i);
-  same = λ c own place. g.same c (λ l i. own l (of_second l i)) place ∙ f.same c (λ l i. own l (of_first l i)) place;
-}
-
--- the same, said otherwise
-pub gone_as : (kept : Kept) (those these : Listing → Type 0) (old new : List Waiters) → ((l : Listing) → those l → these l) → ((l : Listing) → these l → those l) → GoneAreRemoved kept those old new → GoneAreRemoved kept these old new
-gone_as kept those these old new into out g = record {
-  left = λ l i. g.left l (out l i);
-  were = g.were;
-  stay = g.stay;
-  same = λ c own place. g.same c (λ l i. own l (into l i)) place;
-}
+  pub one_same : (c : ℕ) → p.connection ≡ c → (place : ℕ) → filter (remains kept place c) (order (round_at new place)) ≡ filter (remains kept place c) (order (round_at old place))
+  one_same c its place =
+      at_each (λ n r s. filter (remains kept n c) (order s) ≡ filter (remains kept n c) (order r))
+      (ap (filter (remains kept queue c)) loses.round.line ∙ filter_twice (remains kept queue c) (is_other p) (order (round_at old queue)) (remains_other c its)) (λ n r. refl) place
 
 -- ---- all of a connection
 
--- a waiter that is listed is listed under its connection
-noted_under : (lists : Lists) (c : ℕ) (l : Listing) → IsNoted lists l → l.consumer.connection ≡ c → IsListedUnder lists c l
-noted_under lists c l noted its =
-    let found = ap (λ (n : ℕ). lookup (nat_eq n) lists) (sym its) ∙ noted.there in
-    (l.consumer.channel, subst (λ (o : Option (List Listings)). IsIn l (listings_on (channels_of o) l.consumer.channel).all) (sym found) noted.among)
+module _ (kept : Kept) (c : ℕ) (old : Rounds) (its : ListsItsWaiters c old) (count : ℕ) (before after : List ℕ) (gone : Gone) (found : AddsGone kept (IsListedUnder old.lists c) count Nobody before gone after) where
+  -- a waiter of the connection whose consumer is gone was found
+  among : (place : ℕ) (p : Pick) → IsIn p (order (round_at old.rounds place)) → p.connection ≡ c → is_of kept place p ≡ false → IsAmongGone count gone after (listing place p)
+  among place p i here far =
+      let noted = its.noted place p i here in
+      let under = ap (λ (n : ℕ). lookup (nat_eq n) old.lists) (sym here) ∙ noted.there in
+      found.come (listing place p) (p.channel, subst (λ (o : Option (List Listings)). IsIn (listing place p) (listings_on (channels_of o) p.channel).all) (sym under) noted.among) far
 
--- those that are left remain
-pub lines_left : (kept : Kept) (c : ℕ) (old : Rounds) (new : List Waiters) → ListsItsWaiters c old → GoneAreRemoved kept (IsListedUnder old.lists c) old.rounds new → LeaveLines kept c old.rounds new
-lines_left kept c old new its gone place = sym (filter_all (remains kept place c) (order (round_at new place)) all) ∙ gone.same c its.own place
-  where
-    all : (p : Pick) → IsIn p (order (round_at new place)) → remains kept place c p ≡ true
-    all p i = go (p.connection == c) (is_of kept place p) refl refl
-      where
-        go : (u v : Bool) → (p.connection == c) ≡ u → is_of kept place p ≡ v → (not u || v) ≡ true
-        go true true here there = refl
-        go true false here far =
-            let same = eqb-true p.connection c here in
-            absurd (gone.left (listing place p) (noted_under old.lists c (listing place p) (its.noted place p (gone.were place p i) same) same) far i)
-        go false v far there = refl
+  -- those that are left in a line remain
+  line_left : (place : ℕ) (new : Waiters) → ((p : Pick) → IsIn p (order new) → p.connection ≡ c → is_of kept place p ≡ false → ⊥)
+      → filter (remains kept place c) (order new) ≡ filter (remains kept place c) (order (round_at old.rounds place)) → LeaveLine kept place c (round_at old.rounds place) new
+  line_left place new none same = sym (filter_all (remains kept place c) (order new) all) ∙ same
+    where
+      all : (p : Pick) → IsIn p (order new) → remains kept place c p ≡ true
+      all p i = go (p.connection == c) (is_of kept place p) refl refl
+        where
+          go : (u v : Bool) → (p.connection == c) ≡ u → is_of kept place p ≡ v → (not u || v) ≡ true
+          go true true here there = refl
+          go true false here far = absurd (none p i (eqb-true p.connection c here) far)
+          go false v far there = refl
+
+  -- nobody is gone
+  pub lines_stay : gone ≡ Nobody → LeaveLines kept c old.rounds old.rounds
+  lines_stay e place = line_left place (round_at old.rounds place) (λ p i here far. subst (λ (g : Gone). IsAmongGone count g after (listing place p)) e (among place p i here far)) refl
+
+  -- one is
+  pub one_gone : (queue : ℕ) (p : Pick) (guess : ℕ) → gone ≡ One queue p guess → (p.connection ≡ c) × (is_of kept queue p ≡ false)
+  one_gone queue p guess e = elim (found.one (listing queue p) (ap only_gone e)) [ inl none ↦ absurd (false≢true (ap is_some none)) | inr one ↦ (its.own (listing queue p) one.0, one.1) ]
+
+  pub lines_without : (queue : ℕ) (p : Pick) (guess : ℕ) (new : List Waiters) → gone ≡ One queue p guess → LosesWaiter queue p old.rounds new → LeaveLines kept c old.rounds new
+  lines_without queue p guess new e loses place =
+      let one = one_gone queue p guess e in
+      line_left place (round_at new place)
+      (λ q i here far.
+      let was = one_were kept queue p old.rounds new loses one.1 place q i in
+      one_left kept queue p old.rounds new loses one.1 (listing place q) (subst (λ (g : Gone). IsAmongGone count g after (listing place q)) e (among place q was here far)) i)
+      (one_same kept queue p old.rounds new loses one.1 c one.0 place)
+
+  -- several are
+  pub lines_swept : (new : List Waiters) → gone ≡ Several → length old.rounds ≤ count → LeaveNamed kept c after old.rounds new → LeaveLines kept c old.rounds new
+  lines_swept new e most left place = elim (left place) [
+    | inl line ↦ line
+    | inr stays ↦
+        subst (LeaveLine kept place c (round_at old.rounds place)) (sym stays.1)
+        (line_left place (round_at old.rounds place) (λ p i here far. stays.0 (subst (λ (g : Gone). IsAmongGone count g after (listing place p)) e (among place p i here far) (within place p i))) refl)
+  ]
+    where
+      within : (place : ℕ) (p : Pick) → IsIn p (order (round_at old.rounds place)) → place < count
+      within place p i = elim (leb_tells (place + 1) (length old.rounds)) [
+        | inl a ↦ let le = a.1 in omega (arith, le, most)
+        | inr a ↦
+            let gt = a.1 in
+            absurd (subst (λ (r : Waiters). IsIn p (order r)) (get_or_past old.rounds place (record { waiters = []; marks = []; next = 0; capacity = 0 }) (omega (arith, gt))) i)
+      ]
 
 -- ---- a broker's
 

@@ -1,5 +1,5 @@
 -- Lines that are gone round.
-use Rattle.broker.proofs.Names.{◌∙◌, ◌<◌, ◌≤◌, ◌+◌, ◌-◌, ◌++◌, ℕ, zero, suc, List, [], ◌∷◌, Bool, true, false, if◌then◌else◌, length, take, drop, get_or, filter, cond, min, inl, inr, refl, sym, ap, subst, arith, nat_lt, lt-ltb, false≢true, leb_tells, take_at, drop_at, take-append-drop, length-append, length-take, length-drop, take_all, drop_all, IsIn, turned, ahead, IsPassed, AreDistinct}
+use Rattle.broker.proofs.Names.{◌∙◌, ◌<◌, ◌≤◌, ◌+◌, ◌-◌, ◌++◌, ℕ, zero, suc, List, [], ◌∷◌, Bool, true, false, if◌then◌else◌, length, take, drop, get_or, filter, cond, min, inl, inr, refl, sym, ap, subst, arith, nat_lt, lt-ltb, false≢true, leb_tells, take_at, drop_at, take-append-drop, length-append, length-take, length-drop, take_all, drop_all, IsIn, turned, ahead, IsPassed, AllDistinct}
 use Rattle.std.proofs.Common.{◌≡◌, ◌⊎◌}
 use Rattle.std.proofs.lemmas.Bool.{ltb-true}
 use Rattle.std.proofs.lemmas.List.{append_assoc}
@@ -83,7 +83,7 @@ ahead_nearer count next to at lt within far none = elim (leb_tells next count) [
       | inr d ↦
           let less = d.1 in
           elim (leb_tells next at) [
-            | inl e ↦ absurd (none (is_passed_on count next to at e.1 (apart less) lt))
+            | inl e ↦ absurd (none (is_passed_on count next to at e.1 (distinct less) lt))
             | inr e ↦
                 let before = e.1 in
                 let one = ahead_before count (to + 1) at (omega (arith, less)) in
@@ -102,7 +102,7 @@ ahead_nearer count next to at lt within far none = elim (leb_tells next count) [
                 let two = ahead_before count next at (omega (arith, less)) in
                 omega (arith, one, two, gt, most)
           ]
-      | inr d ↦ absurd (none (is_passed_round count next to at (omega (arith, before)) most within (inr (apart d.1))))
+      | inr d ↦ absurd (none (is_passed_round count next to at (omega (arith, before)) most within (inr (distinct d.1))))
     ]
   ]
   | inr a ↦ let over = a.1 in elim (leb_tells (to + 1) at) [
@@ -112,15 +112,15 @@ ahead_nearer count next to at lt within far none = elim (leb_tells next count) [
         let two = ahead_end count next at (omega (arith, over)) within in
         omega (arith, one, two, gt)
     | inr d ↦
-        let less = apart d.1 in
+        let less = distinct d.1 in
         let one = ahead_end count next at (omega (arith, over)) within in
         let two = ahead_end count next to (omega (arith, over)) lt in
         absurd (none (within, omega (arith, one, two, less)))
   ]
 ]
   where
-    apart : at < to + 1 → at < to
-    apart le = elim (leb_tells (at + 1) to) [
+    distinct : at < to + 1 → at < to
+    distinct le = elim (leb_tells (at + 1) to) [
       | inl e ↦ let lt = e.1 in omega (arith, lt)
       | inr e ↦ let ge = e.1 in let same : at ≡ to = omega (arith, ge, le) in absurd (far same)
     ]
@@ -308,23 +308,23 @@ filter_in test y (x ∷ xs) i = go (test x) (filter_in test y xs) i
     go true more (inr j) = inr (more j)
     go false more j = inr (more j)
 
-pub filter_distinct : {X : Type 0} (test : X → Bool) (xs : List X) → AreDistinct xs → AreDistinct (filter test xs)
+pub filter_distinct : {X : Type 0} (test : X → Bool) (xs : List X) → AllDistinct xs → AllDistinct (filter test xs)
 filter_distinct test [] d = d
 filter_distinct test (x ∷ xs) d = go (test x) (filter_distinct test xs d.1)
   where
-    go : (v : Bool) → AreDistinct (filter test xs) → AreDistinct (cond v (x ∷ filter test xs) (filter test xs))
+    go : (v : Bool) → AllDistinct (filter test xs) → AllDistinct (cond v (x ∷ filter test xs) (filter test xs))
     go true rest = (λ i. d.0 (filter_in test x xs i), rest)
     go false rest = rest
 
 -- one more at the end that was not there
-pub distinct_end : {X : Type 0} (y : X) (xs : List X) → AreDistinct xs → (IsIn y xs → ⊥) → AreDistinct (xs ++ y ∷ [])
+pub distinct_end : {X : Type 0} (y : X) (xs : List X) → AllDistinct xs → (IsIn y xs → ⊥) → AllDistinct (xs ++ y ∷ [])
 distinct_end y [] d none = (λ i. i, tt)
-distinct_end y (x ∷ xs) d none = (λ i. apart (in_either x xs (y ∷ []) i), distinct_end y xs d.1 (λ i. none (inr i)))
+distinct_end y (x ∷ xs) d none = (λ i. distinct (in_either x xs (y ∷ []) i), distinct_end y xs d.1 (λ i. none (inr i)))
   where
-    apart : IsIn x xs ⊎ IsIn x (y ∷ []) → ⊥
-    apart (inl i) = d.0 i
-    apart (inr (inl s)) = none (inl (sym s))
-    apart (inr (inr i)) = i
+    distinct : IsIn x xs ⊎ IsIn x (y ∷ []) → ⊥
+    distinct (inl i) = d.0 i
+    distinct (inr (inl s)) = none (inl (sym s))
+    distinct (inr (inr i)) = i
 
 pub in_place : {X : Type 0} (y e : X) (xs : List X) (j : ℕ) → j < length xs → get_or xs j e ≡ y → IsIn y xs
 in_place y e [] j lt is = absurd (omega (arith, lt))
@@ -332,7 +332,7 @@ in_place y e (x ∷ xs) zero lt is = inl (sym is)
 in_place y e (x ∷ xs) (suc j) lt is = inr (in_place y e xs j (omega (arith, lt)) is)
 
 -- each is at one index
-pub distinct_place : {X : Type 0} (y e : X) (xs : List X) (i j : ℕ) → AreDistinct xs → i < length xs → j < length xs → get_or xs i e ≡ y → get_or xs j e ≡ y → i ≡ j
+pub distinct_place : {X : Type 0} (y e : X) (xs : List X) (i j : ℕ) → AllDistinct xs → i < length xs → j < length xs → get_or xs i e ≡ y → get_or xs j e ≡ y → i ≡ j
 distinct_place y e [] i j d l m a b = absurd (omega (arith, l))
 distinct_place y e (x ∷ xs) zero zero d l m a b = refl
 distinct_place y e (x ∷ xs) zero (suc j) d l m a b = absurd (d.0 (in_place x e xs j (omega (arith, m)) (b ∙ sym a)))

@@ -4,7 +4,7 @@ use Rattle.std.proofs.Common.{◌≡◌, ◌⊎◌}
 use Rattle.broker.proofs.Among.{stays, place_in, in_at, in_front, front_at, one_consumer, same_consumer}
 use Rattle.broker.proofs.Lining.{in_either}
 use Rattle.broker.proofs.Rising.{rises_end}
-use Rattle.broker.proofs.Sleeping.{apart, set_more}
+use Rattle.broker.proofs.Sleeping.{distinct, set_more}
 use Rattle.broker.proofs.Waking.{both, and}
 
 -- ---- one listing
@@ -107,7 +107,7 @@ module _ (channels : List Listings) (at : ℕ) (s : Listings) (lt : at < length 
     where
       go : (v : Bool) → (h == at) ≡ v → P (listings_on channels h) (listings_on (set channels at s) h)
       go true f = subst (λ (n : ℕ). P (listings_on channels n) (listings_on (set channels at s) n)) (sym (eqb-true h at f)) (subst (P (listings_on channels at)) (sym on_same) one)
-      go false f = subst (P (listings_on channels h)) (sym (on_other h (apart h at f))) (others h)
+      go false f = subst (P (listings_on channels h)) (sym (on_other h (distinct h at f))) (others h)
 
 -- past the end nothing is listed
 pub past_end : (channels : List Listings) (h : ℕ) → (h < length channels → ⊥) → (listings_on channels h).all ≡ []
@@ -167,7 +167,7 @@ adds_on channels one s lt its h = go (h == one.consumer.channel) refl
     go true f =
         subst (λ (n : ℕ). AddsListing one n (listings_on channels n) (listings_on (set channels one.consumer.channel s) n)) (sym (eqb-true h one.consumer.channel f))
         (subst (AddsListing one one.consumer.channel (listings_on channels one.consumer.channel)) (sym (on_same channels one.consumer.channel s lt)) its)
-    go false f = subst (AddsListing one h (listings_on channels h)) (sym (on_other channels one.consumer.channel s lt h (apart h one.consumer.channel f))) (adds_none one h (listings_on channels h))
+    go false f = subst (AddsListing one h (listings_on channels h)) (sym (on_other channels one.consumer.channel s lt h (distinct h one.consumer.channel f))) (adds_none one h (listings_on channels h))
 
 -- ---- those of a list that sleep are woken
 

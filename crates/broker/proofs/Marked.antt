@@ -2,7 +2,7 @@
 use Rattle.broker.proofs.Names.{◌∙◌, ◌<◌, ◌≤◌, ◌+◌, ◌*◌, ℕ, List, [], Bool, true, false, length, get_or, set, inl, inr, refl, sym, ap, subst, arith, ◌==◌, eqb-true, leb_tells, length-set, get_or-set_same, get_or-set_other, same_default, bit_of, Differs, Kept, IsPickFrom, Pick, Waiters, Lists, round_at, rounds_of, is_of, IsAwake, IsInRound, QueuesAreMarked, NoneMarked, KeepsIn, KeepsRound, KeepRounds, KeepsWaiters, ListsMore, Wakens, AllWaken}
 use Rattle.std.proofs.Common.{◌≡◌}
 use Rattle.commands.specs.State.{broker_of}
-use Rattle.broker.proofs.Sleeping.{apart, set_more, cannot_pick, joined_more}
+use Rattle.broker.proofs.Sleeping.{distinct, set_more, cannot_pick, joined_more}
 
 -- a queue from which a delivery can be made to one who has a waiter there is marked
 pub marked_by : (kept : Kept) (lists : Lists) (rounds : List Waiters) (marks : List ℕ) (place : ℕ) (p : Pick) → QueuesAreMarked rounds marks → IsInRound (broker_of kept) lists place (round_at rounds place) p → IsPickFrom kept place p → bit_of marks place ≡ 1
@@ -45,7 +45,7 @@ marked_less rounds old new queue len d none m = record {
   where
     go : (place : ℕ) (p : Pick) → IsAwake (round_at rounds place) p → (v : Bool) → (place == queue) ≡ v → bit_of new place ≡ 1
     go place p up true f = absurd (none p (subst (λ (n : ℕ). IsAwake (round_at rounds n) p) (eqb-true place queue f) up))
-    go place p up false f = d.others place (apart place queue f) ∙ m.awake place p up
+    go place p up false f = d.others place (distinct place queue f) ∙ m.awake place p up
 
 -- the round of one queue changes that is marked
 pub marked_set : (rounds : List Waiters) (marks : List ℕ) (queue : ℕ) (r : Waiters) → bit_of marks queue ≡ 1 → QueuesAreMarked rounds marks → QueuesAreMarked (set rounds queue r) marks
@@ -56,7 +56,7 @@ marked_set rounds marks queue r here m = record {
   where
     go : (place : ℕ) (p : Pick) → IsAwake (round_at (set rounds queue r) place) p → (v : Bool) → (place == queue) ≡ v → bit_of marks place ≡ 1
     go place p up true f = ap (bit_of marks) (eqb-true place queue f) ∙ here
-    go place p up false f = m.awake place p (subst (λ (x : Waiters). IsAwake x p) (get_or-set_other rounds queue place r (record { waiters = []; marks = []; next = 0; capacity = 0 }) (apart place queue f)) up)
+    go place p up false f = m.awake place p (subst (λ (x : Waiters). IsAwake x p) (get_or-set_other rounds queue place r (record { waiters = []; marks = []; next = 0; capacity = 0 }) (distinct place queue f)) up)
 
 -- the round of one queue changes, and no other
 module _ (rounds : List Waiters) (queue : ℕ) (r : Waiters) (lt : queue < length rounds) where
@@ -70,7 +70,7 @@ module _ (rounds : List Waiters) (queue : ℕ) (r : Waiters) (lt : queue < lengt
   was_here place f = ap (round_at rounds) (eqb-true place queue f)
 
   pub set_there : (place : ℕ) → (place == queue) ≡ false → round_at (set rounds queue r) place ≡ round_at rounds place
-  set_there place f = get_or-set_other rounds queue place r no_waiters (apart place queue f)
+  set_there place f = get_or-set_other rounds queue place r no_waiters (distinct place queue f)
 
   -- no waiter of a consumer that is there is gone
   pub keep_set : (kept : Kept) → KeepsRound kept queue (round_at rounds queue) r → KeepRounds kept rounds (set rounds queue r)

@@ -1,8 +1,8 @@
 -- Rounds of queues that have new indices, and the consumers in them.
-use Rattle.broker.proofs.Names.{◌∙◌, ◌<◌, ◌+◌, ℕ, zero, suc, List, [], ◌∷◌, Bool, true, false, Option, Some, None, length, map, get_or, set, inl, inr, refl, sym, ap, subst, arith, ◌==◌, nat_eq, option_map, lookup, eqb-true, leb_tells, length-set, length-map, get_or-set_same, get_or-set_other, lookup-map_values, IsIn, bit_of, place_now, Pick, Waiter, Waiters, Lists, Listing, Listings, round_of, round_at, awake_waiter, asleep_waiter, listings_on, channels_of, order, IsAwake, QueuesAreMarked, all_awake, StandsIn, AllRoused, IsMoved, IsOfEither, ArePlacesApart, listing_moved, channels_moved, all_moved, ListsAreMoved}
+use Rattle.broker.proofs.Names.{◌∙◌, ◌<◌, ◌+◌, ℕ, zero, suc, List, [], ◌∷◌, Bool, true, false, Option, Some, None, length, map, get_or, set, inl, inr, refl, sym, ap, subst, arith, ◌==◌, nat_eq, option_map, lookup, eqb-true, leb_tells, length-set, length-map, get_or-set_same, get_or-set_other, lookup-map_values, IsIn, bit_of, place_now, Pick, Waiter, Waiters, Lists, Listing, Listings, round_of, round_at, awake_waiter, asleep_waiter, listings_on, channels_of, order, IsAwake, QueuesAreMarked, all_awake, HasWaiter, AllRoused, IsMoved, IsOfEither, IndicesDiffer, listing_moved, channels_moved, all_moved, ListsAreMoved}
 use Rattle.std.proofs.Common.{◌≡◌}
 use Rattle.broker.proofs.Among.{place_in}
-use Rattle.broker.proofs.Sleeping.{apart}
+use Rattle.broker.proofs.Sleeping.{distinct}
 
 -- ---- one round
 
@@ -13,7 +13,7 @@ awake_at (s ∷ waiters) (suc i) d e lt = awake_at waiters i d e (omega (arith, 
 
 -- all waiters of a round are awake
 pub all_roused : (waiters : List Waiter) (old new : List ℕ) → ((i : ℕ) → i < length waiters → bit_of new i ≡ 1) → AllRoused (round_of waiters old) (round_of (all_awake waiters) new)
-all_roused waiters old new marked p stands = go stands
+all_roused waiters old new marked p in_line = go in_line
   where
     at : (i : ℕ) (e : Waiter) → i < length waiters → (get_or waiters i e).pick ≡ p → IsAwake (round_of (all_awake waiters) new) p
     at i e lt is = (
@@ -25,7 +25,7 @@ all_roused waiters old new marked p stands = go stands
       },
     )
 
-    go : StandsIn (round_of waiters old) p → IsAwake (round_of (all_awake waiters) new) p
+    go : HasWaiter (round_of waiters old) p → IsAwake (round_of (all_awake waiters) new) p
     go (inl (i, up)) = at i (awake_waiter p) up.within (ap (λ (s : Waiter). s.pick) (up.there (awake_waiter p)))
     go (inr i) = let (j, lt, e) = place_in (asleep_waiter p) waiters i in at j (asleep_waiter p) lt (ap (λ (s : Waiter). s.pick) e)
 
@@ -46,7 +46,7 @@ marked_moved rounds old new place r lt len stay here m = record {
     go q p up true f =
         let same = eqb-true q place f in
         ap (bit_of new) same ∙ here p (subst (λ (x : Waiters). IsAwake x p) (ap (round_at (set rounds place r)) same ∙ get_or-set_same rounds place r none lt) up)
-    go q p up false f = stay q (m.awake q p (subst (λ (x : Waiters). IsAwake x p) (get_or-set_other rounds place q r none (apart q place f)) up))
+    go q p up false f = stay q (m.awake q p (subst (λ (x : Waiters). IsAwake x p) (get_or-set_other rounds place q r none (distinct q place f)) up))
 
 -- it goes on there as it did, and all others do
 pub either_set : (rounds : List Waiters) (place : ℕ) (r other : Waiters) → place < length rounds → order r ≡ order other → (i : ℕ) → IsOfEither place i (round_at rounds i) other (round_at (set rounds place r) i)
@@ -59,18 +59,18 @@ either_set rounds place r other lt same i = go (i == place) refl
     go true f =
         let here = eqb-true i place f in
         inr (here, ap order (ap (round_at (set rounds place r)) here ∙ get_or-set_same rounds place r none lt) ∙ same)
-    go false f = inl (ap order (get_or-set_other rounds place i r none (apart i place f)))
+    go false f = inl (ap order (get_or-set_other rounds place i r none (distinct i place f)))
 
 -- one more round is at its new index
-pub one_moved : (places : List ℕ) (olds mid new : List Waiters) (from : ℕ) → from < length places → ArePlacesApart places (length mid)
+pub one_moved : (places : List ℕ) (olds mid new : List Waiters) (from : ℕ) → from < length places → IndicesDiffer places (length mid)
     → ((i : ℕ) → i < from → place_now places i < length mid → IsMoved (round_at olds i) (round_at mid (place_now places i)))
     → (place_now places from < length mid → IsMoved (round_at olds from) (round_at new (place_now places from)))
     → ((i : ℕ) → (i ≡ place_now places from → ⊥) → round_at new i ≡ round_at mid i)
     → (i : ℕ) → i < from + 1 → place_now places i < length mid → IsMoved (round_at olds i) (round_at new (place_now places i))
-one_moved places olds mid new from lt apart before here others i le there = elim (leb_tells (i + 1) from) [
+one_moved places olds mid new from lt distinct before here others i le there = elim (leb_tells (i + 1) from) [
   | inl a ↦
       let less = a.1 in
-      let far : place_now places i ≡ place_now places from → ⊥ = λ same. let one = apart i from (omega (arith, less, lt)) lt there same in omega (arith, one, less) in
+      let far : place_now places i ≡ place_now places from → ⊥ = λ same. let one = distinct i from (omega (arith, less, lt)) lt there same in omega (arith, one, less) in
       subst (IsMoved (round_at olds i)) (sym (others (place_now places i) far)) (before i (omega (arith, less)) there)
   | inr a ↦
       let more = a.1 in

@@ -1,10 +1,12 @@
 -- The names that several files of these proofs use.
-pub use Rattle.broker.specs.Lines.{AreDistinct, IsPassed, ahead, standing, turned}
-pub use Rattle.broker.specs.Moving.{AllRoused, ArePlacesApart, IsMoved, IsOfEither, LinesCome, ListsAreMoved, RoundsAreMoved, StandsIn, all_awake, all_moved, channels_moved, listing_moved, listings_moved}
-pub use Rattle.broker.specs.Rounds.{AddsItsOwn, AddsListing, AllAddTheirOwn, AllAreConsumers, AllAreEmpty, AllAreInRounds, AllAreNoted, AllListedAreThere, AllRun, AllWaken, AreBelow, CanListOn, AreItsConsumers, AreItsListings, Dozes, FallsAsleep, FindsWaiter, GoesLast, GoesOn, GoneAreRemoved, HasConsumer, HasJoined, HasLeft, HasListRoom, HasNoList, HasNoWaiter, HasRoom, IsAsleep, IsAsleepAt, IsAsleepIn, IsAt, IsAwake, IsAwakeAt, IsExpected, IsInItsRound, IsInRound, IsItsOwn, IsListed, IsListedAt, IsListedOn, IsListedOnAny, IsListedUnder, IsNextMarked, IsNoted, IsNotedOn, IsServing, IsWoken, KeepListingsOn, KeepLists, KeepRounds, KeepsAll, KeepsIn, KeepsListings, KeepsRound, KeepsWaiters, LeaveLine, LeaveLines, Listing, Listings, ListingsLeave, Lists, ListsItsOwn, ListsItsWaiters, ListsMore, ListsOneMore, ListsRunning, ListsStay, LosesOne, LosesWaiter, MakesNoList, NoneAwake, NoneAwakePassed, NoneBetween, NoneInRound, NoneMarked, NonePassed, NotesStay, NumbersRise, OthersStay, PicksFirst, PicksFrom, QueuesAreMarked, Rounds, SameListed, SameOrders, SleepMore, StaysAt, Waiters, Wakens, WakesListed, WakesWaiter, asleep_waiter, awake_waiter, bit_for, channels_of, gone_in, gone_on, has_remained, has_taker, is_able, is_consumer, is_listed_gone, is_listed_there, is_listing, is_numbered_of, is_of, is_on_channel, is_other, is_waiter_of, listed_on, listing, listings_of, listings_on, number_of, order, picks, remains, round_at, round_of, rounds_of, takes_from, wakes, wakes_on}
+pub use Rattle.broker.specs.Lines.{AllDistinct, IsPassed, ahead, count_before, turned}
+pub use Rattle.broker.specs.Moving.{AllRoused, IndicesDiffer, IsMoved, IsOfEither, LinesCome, ListsAreMoved, RoundsAreMoved, HasWaiter, all_awake, all_moved, channels_moved, listing_moved, listings_moved}
+pub use Rattle.broker.specs.Rounds.{AddsGone, AddsItsOwn, AddsListing, AllAddTheirOwn, AllAreConsumers, AllAreEmpty, AllAreInRounds, AllAreNoted, AllListedAreThere, AllRun, AllWaken, AreBelow, CanListOn, AreItsConsumers, AreItsListings, Dozes, FallsAsleep, FindsWaiter, GoesLast, GoesOn, HasConsumer, HasJoined, HasListRoom, HasNoList, HasNoWaiter, HasRoom, IsAsleep, IsAsleepAt, IsAmongGone, IsAsleepIn, IsAt, IsAwake, IsAwakeAt, IsExpected, IsInItsRound, IsInRound, IsItsOwn, IsListed, IsListedAt, IsListedOn, IsListedOnAny, IsListedUnder, IsNextMarked, IsNoted, IsNotedOn, IsServing, IsWoken, KeepListingsOn, KeepLists, KeepRounds, KeepsAll, KeepsIn, KeepsListings, KeepsRound, KeepsWaiters, LeaveLine, LeaveLines, LeaveNamed, LeavesIfNamed, Listing, Listings, ListingsLeave, Lists, ListsItsOwn, ListsItsWaiters, ListsMore, ListsOneMore, ListsRunning, ListsStay, LosesOne, LosesWaiter, MakesNoList, NoneAwake, NoneAwakePassed, NoneBetween, NoneInRound, NoneMarked, NonePassed, NotesStay, NumbersRise, OthersStay, PicksFirst, PicksFrom, QueuesAreMarked, Rounds, SameListed, SameOrders, SleepMore, StaysAt, Waiters, Wakens, WakesListed, WakesWaiter, asleep_waiter, awake_waiter, bit_for, channels_of, has_remained, has_taker, is_able, is_consumer, is_listed_there, is_listing, is_numbered_of, is_of, is_on_channel, is_other, is_waiter_of, listed_on, listing, listings_of, listings_on, number_of, only_gone, order, picks, remains, round_at, round_of, rounds_of, takes_from, wakes, wakes_on}
 pub use Rattle.broker.specs.Turns.{WithTurn, with_turn}
-pub use Rattle.broker.specs.Waiting.{AllStand, CanGive, IsFirst, IsServedSoon, IsToldInTurn, LinesMove, LinesStay, NobodyIsPutBack, NobodyWaits, NoneIsLater, QueueWaits, ServesSoon, Stands, WaitersAreConsumers, Waits, ahead_at, line_at, owed, queues, standing_at}
+pub use Rattle.broker.specs.Waiting.{AllInLine, CanGive, IsFirst, IsServedSoon, IsPickedInTurn, LinesMove, LinesStay, NobodyIsPutBack, NobodyWaits, NoneIsLater, QueueWaits, ServesSoon, IsInLine, WaitersAreConsumers, Waits, ahead_at, line_at, owed, queues, count_before_at}
 pub use Rattle.broker.specs.declared.rounds.finding.Found.{Found}
+pub use Rattle.broker.specs.declared.rounds.sleepers.leaving.Gone.{Gone}
+pub use Rattle.broker.specs.declared.rounds.sleepers.leaving.Gone.TheVariants.{Nobody, One, Several}
 pub use Rattle.broker.specs.declared.rounds.waiters.Waiter.{Waiter}
 pub use Rattle.channels.proofs.Moving.{changed_to, one_changed}
 pub use Rattle.channels.proofs.Setting.{same_default}
@@ -35,9 +37,9 @@ pub use Rattle.model.specs.Consuming.{CanDeliver, MayTake, consumer_of, may_take
 pub use Rattle.model.specs.Deliveries.{channel_after, first_ready, outstanding_after}
 pub use Rattle.model.specs.Entries.{by_channel, is_held_as}
 pub use Rattle.model.specs.Grammar.{Ids, ids_of}
-pub use Rattle.model.specs.Reloading.{NoneIsOrphaned, by_consumer, stood_now, with_all_stood}
+pub use Rattle.model.specs.Reloading.{NoneIsOrphaned, by_consumer, survived_now, with_all_survived}
 pub use Rattle.model.specs.Step.{Acts, Decides, Does, Gets, Ignored, Is, IsDelivery, Of_channel, Of_connection, OnConnection, OnLarge, Performs, Refusal, Refuses, channel_or_new, channels_up_to, empty_publish, paused, refusal, refusal_of_large, with_channel, with_freed}
-pub use Rattle.model.specs.Topology.{AreApart, IsIn, Topology, queue_names}
+pub use Rattle.model.specs.Topology.{AreDistinct, IsIn, Topology, queue_names}
 pub use Rattle.model.specs.Words.{Text}
 pub use Rattle.model.specs.declared.contents.Content.{Content}
 pub use Rattle.model.specs.declared.events.Event.{Event}

@@ -1,5 +1,5 @@
 -- Whoever could be told and is not is nearer to its turn.
-use Rattle.broker.proofs.Names.{◌∙◌, ◌<◌, ◌+◌, ◌++◌, ℕ, List, [], ◌∷◌, Bool, true, false, Option, Some, None, if◌then◌else◌, length, inl, inr, refl, sym, ap, subst, arith, IfSome, false≢true, Topology, IsIn, Broker, Kept, IsPickFrom, Pick, Waiter, ahead, standing, IsPassed, Waiters, Rounds, Lists, picks, order, awake_waiter, asleep_waiter, is_consumer, IsInRound, GoesOn, PicksFirst, WithTurn, with_turn, line_at, queues, standing_at, ahead_at, Stands, CanGive, IsFirst, IsToldInTurn, LinesStay}
+use Rattle.broker.proofs.Names.{◌∙◌, ◌<◌, ◌+◌, ◌++◌, ℕ, List, [], ◌∷◌, Bool, true, false, Option, Some, None, if◌then◌else◌, length, inl, inr, refl, sym, ap, subst, arith, IfSome, false≢true, Topology, IsIn, Broker, Kept, IsPickFrom, Pick, Waiter, ahead, count_before, IsPassed, Waiters, Rounds, Lists, picks, order, awake_waiter, asleep_waiter, is_consumer, IsInRound, GoesOn, PicksFirst, WithTurn, with_turn, line_at, queues, count_before_at, ahead_at, IsInLine, CanGive, IsFirst, IsPickedInTurn, LinesStay}
 use Rattle.std.proofs.Common.{◌≡◌, ◌⊎◌}
 use Rattle.broker.specs.Turns.{topology_kept}
 use Rattle.broker.proofs.Among.{one_consumer, same_consumer}
@@ -29,32 +29,32 @@ in_order b lists queue r p (inr s) = in_turned p (picks r.waiters) r.next (in_pi
 -- ---- how many are before one
 
 -- before those that follow one who is not in front, and is not the next
-standing_behind : (p q : Pick) (front back : List Pick) → (IsIn p front → ⊥) → (p ≡ q → ⊥) → standing (is_consumer p) (front ++ q ∷ back) ≡ length front + 1 + standing (is_consumer p) back
+standing_behind : (p q : Pick) (front back : List Pick) → (IsIn p front → ⊥) → (p ≡ q → ⊥) → count_before (is_consumer p) (front ++ q ∷ back) ≡ length front + 1 + count_before (is_consumer p) back
 standing_behind p q [] back none far = go (is_consumer p q) refl
   where
-    go : (v : Bool) → is_consumer p q ≡ v → (if v then 0 else 1 + standing (is_consumer p) back) ≡ 0 + 1 + standing (is_consumer p) back
+    go : (v : Bool) → is_consumer p q ≡ v → (if v then 0 else 1 + count_before (is_consumer p) back) ≡ 0 + 1 + count_before (is_consumer p) back
     go true e = absurd (far (same_consumer p q e))
     go false e = omega arith
 standing_behind p q (x ∷ front) back none far = go (is_consumer p x) refl (standing_behind p q front back (λ i. none (inr i)) far)
   where
-    go : (v : Bool) → is_consumer p x ≡ v → standing (is_consumer p) (front ++ q ∷ back) ≡ length front + 1 + standing (is_consumer p) back
-        → (if v then 0 else 1 + standing (is_consumer p) (front ++ q ∷ back)) ≡ length (x ∷ front) + 1 + standing (is_consumer p) back
+    go : (v : Bool) → is_consumer p x ≡ v → count_before (is_consumer p) (front ++ q ∷ back) ≡ length front + 1 + count_before (is_consumer p) back
+        → (if v then 0 else 1 + count_before (is_consumer p) (front ++ q ∷ back)) ≡ length (x ∷ front) + 1 + count_before (is_consumer p) back
     go true e more = absurd (none (inl (same_consumer p x e)))
     go false e more = omega (arith, more)
 
 -- nobody who comes behind it matters
-pub standing_before : (p : Pick) (back more : List Pick) → IsIn p back → standing (is_consumer p) (back ++ more) ≡ standing (is_consumer p) back
+pub standing_before : (p : Pick) (back more : List Pick) → IsIn p back → count_before (is_consumer p) (back ++ more) ≡ count_before (is_consumer p) back
 standing_before p [] more i = absurd i
 standing_before p (x ∷ back) more i = go (is_consumer p x) refl i (standing_before p back more)
   where
-    go : (v : Bool) → is_consumer p x ≡ v → IsIn p (x ∷ back) → (IsIn p back → standing (is_consumer p) (back ++ more) ≡ standing (is_consumer p) back)
-        → (if v then 0 else 1 + standing (is_consumer p) (back ++ more)) ≡ (if v then 0 else 1 + standing (is_consumer p) back)
+    go : (v : Bool) → is_consumer p x ≡ v → IsIn p (x ∷ back) → (IsIn p back → count_before (is_consumer p) (back ++ more) ≡ count_before (is_consumer p) back)
+        → (if v then 0 else 1 + count_before (is_consumer p) (back ++ more)) ≡ (if v then 0 else 1 + count_before (is_consumer p) back)
     go true e j rest = refl
     go false e (inl s) rest = absurd (false≢true (sym e ∙ ap (is_consumer p) (sym s) ∙ one_consumer p))
     go false e (inr j) rest = ap (λ (n : ℕ). 1 + n) (rest j)
 
 -- one that is behind those in front, and not among them, is nearer if those in front, and the one behind them, go to the end
-told_last : (p q : Pick) (front back : List Pick) → (IsIn p front → ⊥) → (p ≡ q → ⊥) → IsIn p (front ++ q ∷ back) → standing (is_consumer p) (back ++ front ++ q ∷ []) < standing (is_consumer p) (front ++ q ∷ back)
+told_last : (p q : Pick) (front back : List Pick) → (IsIn p front → ⊥) → (p ≡ q → ⊥) → IsIn p (front ++ q ∷ back) → count_before (is_consumer p) (back ++ front ++ q ∷ []) < count_before (is_consumer p) (front ++ q ∷ back)
 told_last p q front back none far i = less
   where
     behind : IsIn p front ⊎ IsIn p (q ∷ back) → IsIn p back
@@ -65,7 +65,7 @@ told_last p q front back none far i = less
     there : IsIn p back
     there = behind (in_either p front (q ∷ back) i)
 
-    less : standing (is_consumer p) (back ++ front ++ q ∷ []) < standing (is_consumer p) (front ++ q ∷ back)
+    less : count_before (is_consumer p) (back ++ front ++ q ∷ []) < count_before (is_consumer p) (front ++ q ∷ back)
     less =
         let was = standing_behind p q front back none far in
         let now = standing_before p (back ++ front) (q ∷ []) (in_left p back front there) in
@@ -75,15 +75,15 @@ told_last p q front back none far i = less
 -- ---- whoever is not told
 
 -- a consumer to which a delivery could be made while another is picked from its queue is nearer then
-pub nearer_here : (old new : WithTurn) (place : ℕ) (q p : Pick) → IsFirst old q place new → Stands old place p → IsPickFrom old.kept place p → (p ≡ q → ⊥) → standing_at new place p < standing_at old place p
-nearer_here old new place q p t stands pick far =
-    subst (λ (ps : List Pick). standing (is_consumer p) ps < standing_at old place p) (sym t.now)
-    (subst (λ (ps : List Pick). standing (is_consumer p) (t.back ++ t.front ++ q ∷ []) < standing (is_consumer p) ps) (sym t.was)
-    (told_last p q t.front t.back (λ i. t.before p i pick) far (subst (IsIn p) t.was stands)))
+pub nearer_here : (old new : WithTurn) (place : ℕ) (q p : Pick) → IsFirst old q place new → IsInLine old place p → IsPickFrom old.kept place p → (p ≡ q → ⊥) → count_before_at new place p < count_before_at old place p
+nearer_here old new place q p t in_line pick far =
+    subst (λ (ps : List Pick). count_before (is_consumer p) ps < count_before_at old place p) (sym t.now)
+    (subst (λ (ps : List Pick). count_before (is_consumer p) (t.back ++ t.front ++ q ∷ []) < count_before (is_consumer p) ps) (sym t.was)
+    (told_last p q t.front t.back (λ i. t.before p i pick) far (subst (IsIn p) t.was in_line)))
 
 -- a line stays as far as it was
-pub same_line : (old new : WithTurn) (place : ℕ) (p : Pick) → line_at new place ≡ line_at old place → standing_at new place p ≡ standing_at old place p
-same_line old new place p same = ap (standing (is_consumer p)) same
+pub same_line : (old new : WithTurn) (place : ℕ) (p : Pick) → line_at new place ≡ line_at old place → count_before_at new place p ≡ count_before_at old place p
+same_line old new place p same = ap (count_before (is_consumer p)) same
 
 -- a queue that can give something, while one is told from another queue, is nearer
 pub queue_nearer : (old new : WithTurn) (place queue : ℕ) (q : Pick) → IsFirst old q queue new → CanGive old place → (place ≡ queue → ⊥) → topology_kept new ≡ topology_kept old → ahead_at new place < ahead_at old place
@@ -99,7 +99,7 @@ module _ (kept : Kept) (old new : Rounds) (x : Option Pick) where
   was = with_turn kept old x
 
   abbrev now : Option Pick → WithTurn
-  now told = with_turn kept new told
+  now reported = with_turn kept new reported
 
   -- whoever is told is the first
   pub is_first : (q : Pick) (held : Holds kept old) (t : PicksFirst kept old new q) → IsFirst was q t.queue (now (Some q))
@@ -108,18 +108,18 @@ module _ (kept : Kept) (old new : Rounds) (x : Option Pick) where
     queues_before = λ at passed can.
         t.passed at can.0 (subst (λ (n : ℕ). IsPassed n old.next t.queue at) (sym held.rounds_for) passed) (held.joined at can.0 (has_picked kept at can.0 can.1)) can.1;
     next = t.next;
-    front = t.told.round.front;
-    back = t.told.round.back;
-    was = order_at old.rounds t.queue ∙ t.told.round.was;
-    now = order_at new.rounds t.queue ∙ t.told.round.now;
-    before = λ p i pick. t.told.round.passed p i (held.joined t.queue p (has_picked kept t.queue p pick)) pick;
-    others = λ at far. order_at new.rounds at ∙ t.told.others at far ∙ sym (order_at old.rounds at);
+    front = t.reported.round.front;
+    back = t.reported.round.back;
+    was = order_at old.rounds t.queue ∙ t.reported.round.was;
+    now = order_at new.rounds t.queue ∙ t.reported.round.now;
+    before = λ p i pick. t.reported.round.passed p i (held.joined t.queue p (has_picked kept t.queue p pick)) pick;
+    others = λ at far. order_at new.rounds at ∙ t.reported.others at far ∙ sym (order_at old.rounds at);
   }
 
-  pub told_first : (o : Option Pick) → Holds kept old → IfSome o (PicksFirst kept old new) → IfSome o (λ (q : Pick). IsToldInTurn was q (now o))
-  told_first None held told = tt
-  told_first (Some q) held told = inr (told.queue, is_first q held told)
+  pub told_first : (o : Option Pick) → Holds kept old → IfSome o (PicksFirst kept old new) → IfSome o (λ (q : Pick). IsPickedInTurn was q (now o))
+  told_first None held reported = tt
+  told_first (Some q) held reported = inr (reported.queue, is_first q held reported)
 
   -- where nobody is told, lines stay
-  pub lines_stay : (told : Option Pick) → GoesOn old new → LinesStay was (now told)
-  lines_stay told on = record { next = on.next; lines = λ at. order_at new.rounds at ∙ on.same at ∙ sym (order_at old.rounds at) }
+  pub lines_stay : (reported : Option Pick) → GoesOn old new → LinesStay was (now reported)
+  lines_stay reported on = record { next = on.next; lines = λ at. order_at new.rounds at ∙ on.same at ∙ sym (order_at old.rounds at) }

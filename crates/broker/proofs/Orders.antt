@@ -1,5 +1,5 @@
 -- Rounds and queues are gone over in turn.
-use Rattle.broker.proofs.Names.{◌∙◌, ◌<◌, ◌≤◌, ◌+◌, ◌++◌, ℕ, List, [], ◌∷◌, Bool, true, false, length, get_or, set, min, inl, inr, refl, sym, ap, subst, arith, ◌==◌, eqb-true, eq-eqb, Kept, IsPickFrom, Pick, Waiter, IsIn, turned, IsPassed, AreDistinct, Waiters, Rounds, Lists, round_at, picks, order, awake_waiter, IsInRound, NoneAwake, NoneAwakePassed, NoneBetween, NonePassed, GoesLast, SameOrders, PicksFrom, KeepsWaiters, AddsItsOwn, AllAddTheirOwn, GoesOn, StaysAt, Wakens, AllWaken, is_of}
+use Rattle.broker.proofs.Names.{◌∙◌, ◌<◌, ◌≤◌, ◌+◌, ◌++◌, ℕ, List, [], ◌∷◌, Bool, true, false, length, get_or, set, min, inl, inr, refl, sym, ap, subst, arith, ◌==◌, eqb-true, eq-eqb, Kept, IsPickFrom, Pick, Waiter, IsIn, turned, IsPassed, AllDistinct, Waiters, Rounds, Lists, round_at, picks, order, awake_waiter, IsInRound, NoneAwake, NoneAwakePassed, NoneBetween, NonePassed, GoesLast, SameOrders, PicksFrom, KeepsWaiters, AddsItsOwn, AllAddTheirOwn, GoesOn, StaysAt, Wakens, AllWaken, is_of}
 use Rattle.std.proofs.Common.{◌≡◌}
 use Rattle.commands.specs.State.{broker_of}
 use Rattle.broker.proofs.Lining.{GoneRound, gone_round, passed_on, passed_round, passed_least, distinct_place}
@@ -11,7 +11,7 @@ use Rattle.broker.proofs.Sleeping.{cannot_pick}
 -- ---- one round
 
 -- the waiter at this place is the first to whose consumer a delivery can be made, and the round goes on from behind it
-pub goes_last : (kept : Kept) (lists : Lists) (queue : ℕ) (old new : Waiters) (place : ℕ) (d : Waiter) → place < length old.waiters → AreDistinct (picks old.waiters) → picks new.waiters ≡ picks old.waiters → new.next ≡ place + 1
+pub goes_last : (kept : Kept) (lists : Lists) (queue : ℕ) (old new : Waiters) (place : ℕ) (d : Waiter) → place < length old.waiters → AllDistinct (picks old.waiters) → picks new.waiters ≡ picks old.waiters → new.next ≡ place + 1
     → NoneAwakePassed kept queue old old.next place → GoesLast kept lists queue old new (get_or old.waiters place d).pick
 goes_last kept lists queue old new place d lt distinct same next none = record {
   front = r.front;

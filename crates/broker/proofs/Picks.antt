@@ -1,5 +1,5 @@
 -- The consumers of waiters, in their order.
-use Rattle.broker.proofs.Names.{◌∙◌, ◌<◌, ℕ, zero, suc, List, [], ◌∷◌, Bool, true, false, cond, length, get_or, set, filter, refl, sym, ap, subst, inl, inr, ◌++◌, arith, IsIn, Pick, Waiter, AreDistinct, picks, all_awake}
+use Rattle.broker.proofs.Names.{◌∙◌, ◌<◌, ℕ, zero, suc, List, [], ◌∷◌, Bool, true, false, cond, length, get_or, set, filter, refl, sym, ap, subst, inl, inr, ◌++◌, arith, IsIn, Pick, Waiter, AllDistinct, picks, all_awake}
 use Rattle.std.proofs.Common.{◌≡◌}
 use Rattle.broker.proofs.Lining.{filter_distinct, distinct_end}
 
@@ -36,8 +36,8 @@ picks_swept test (s ∷ waiters) = go (test s.pick) (picks_swept test waiters)
     go true e = ap (λ (ps : List Pick). s.pick ∷ ps) e
     go false e = e
 
-pub apart_swept : (test : Pick → Bool) (old new : List Waiter) → new ≡ filter (of_waiter test) old → AreDistinct (picks old) → AreDistinct (picks new)
-apart_swept test old new is apart = subst (λ (ps : List Pick). AreDistinct ps) (sym (ap picks is ∙ picks_swept test old)) (filter_distinct test (picks old) apart)
+pub apart_swept : (test : Pick → Bool) (old new : List Waiter) → new ≡ filter (of_waiter test) old → AllDistinct (picks old) → AllDistinct (picks new)
+apart_swept test old new is distinct = subst (λ (ps : List Pick). AllDistinct ps) (sym (ap picks is ∙ picks_swept test old)) (filter_distinct test (picks old) distinct)
 
 -- a waiter more at the end, of a consumer that had none
 pub picks_end : (waiters : List Waiter) (s : Waiter) → picks (waiters ++ s ∷ []) ≡ picks waiters ++ s.pick ∷ []

@@ -1,5 +1,5 @@
 -- Another topology is in force: what every broker keeps.
-use Rattle.broker.proofs.Names.{◌∙◌, ◌<◌, ◌+◌, ℕ, zero, suc, List, [], true, Option, None, length, get_or, inl, inr, refl, sym, ap, subst, arith, leb_tells, get_or_past, Text, IsIn, AreApart, Broker, IsAgreed, is_held_as, by_consumer, NoneIsOrphaned, stood_now, with_all_stood, Is, Entry, count-map, place_now, consumer_in, goes, AreMoved, IsStoreWhole, names-length, is_in, channel_of, same_default, Kept, ArePlaced, names_of, Pick, seen_there, queue_name, Waiter, turned, AreDistinct, Rounds, Lists, Listing, Waiters, round_at, listed_on, is_listed_there, NumbersRise, picks, order, is_of, IsItsOwn, AllListedAreThere, IsAwake, IsInRound, listing, HasConsumer, AllAreInRounds, AllAreNoted, AreItsConsumers, AllAreConsumers, IsNoted, IsServing, AllAreEmpty, listing_moved, StandsIn, IsMoved, ArePlacesApart, RoundsAreMoved, LinesCome, ListsAreMoved, with_turn, LinesMove}
+use Rattle.broker.proofs.Names.{◌∙◌, ◌<◌, ◌+◌, ℕ, zero, suc, List, [], true, Option, None, length, get_or, inl, inr, refl, sym, ap, subst, arith, leb_tells, get_or_past, Text, IsIn, AreDistinct, Broker, IsAgreed, is_held_as, by_consumer, NoneIsOrphaned, survived_now, with_all_survived, Is, Entry, count-map, place_now, consumer_in, goes, AreMoved, IsStoreWhole, names-length, is_in, channel_of, same_default, Kept, ArePlaced, names_of, Pick, seen_there, queue_name, Waiter, turned, AllDistinct, Rounds, Lists, Listing, Waiters, round_at, listed_on, is_listed_there, NumbersRise, picks, order, is_of, IsItsOwn, AllListedAreThere, IsAwake, IsInRound, listing, HasConsumer, AllAreInRounds, AllAreNoted, AreItsConsumers, AllAreConsumers, IsNoted, IsServing, AllAreEmpty, listing_moved, HasWaiter, IsMoved, IndicesDiffer, RoundsAreMoved, LinesCome, ListsAreMoved, with_turn, LinesMove}
 use Rattle.std.proofs.Common.{◌≡◌}
 use Rattle.std.specs.Prelude.{count_by}
 use Rattle.model.specs.Broker as seen
@@ -14,10 +14,10 @@ use Rattle.broker.proofs.Takers.{has_of, of_has, order_at}
 -- ---- what is held and what is outstanding
 
 -- a mark is no holder
-pub agreed_stood : (b new : Broker) → Is (with_all_stood b) new → IsAgreed b → IsAgreed new
+pub agreed_stood : (b new : Broker) → Is (with_all_survived b) new → IsAgreed b → IsAgreed new
 agreed_stood b new is a = record {
   held = λ q e holder i m.
-      let was = seen_of stood_now e (b.queue q) (subst (λ (es : List Entry). IsIn e es) (is.queues q) i) in
+      let was = seen_of survived_now e (b.queue q) (subst (λ (es : List Entry). IsIn e es) (is.queues q) i) in
       let out = a.held q was.one holder was.among (ap (λ (x : Entry). x.mark) was.is ∙ m) in record {
         channel = out.channel;
         there = is.channels holder.connection holder.channel ∙ out.there;
@@ -29,13 +29,13 @@ agreed_stood b new is a = record {
       };
   given = λ c h ch o e i.
       let was = a.given c h ch o (sym (is.channels c h) ∙ e) i in record {
-        entry = stood_now was.entry;
-        there = subst (λ (es : List Entry). IsIn (stood_now was.entry) es) (sym (is.queues o.queue)) (in_mapped stood_now was.entry (b.queue o.queue) was.there);
+        entry = survived_now was.entry;
+        there = subst (λ (es : List Entry). IsIn (survived_now was.entry) es) (sym (is.queues o.queue)) (in_mapped survived_now was.entry (b.queue o.queue) was.there);
         mark = was.mark;
       };
-  apart = λ q holder.
-      let same = ap (count_by (is_held_as holder)) (is.queues q) ∙ count-map (is_held_as holder) stood_now (λ x. refl) (b.queue q) in
-      let few = a.apart q holder in
+  distinct = λ q holder.
+      let same = ap (count_by (is_held_as holder)) (is.queues q) ∙ count-map (is_held_as holder) survived_now (λ x. refl) (b.queue q) in
+      let few = a.distinct q holder in
       omega (arith, same, few);
   rising = λ c h ch e. a.rising c h ch (sym (is.channels c h) ∙ e);
   before = λ c h ch e. a.before c h ch (sym (is.channels c h) ∙ e);
@@ -45,10 +45,10 @@ agreed_stood b new is a = record {
 -- ---- places
 
 -- two queues that stay don't come to one place
-pub places_apart : (old new : List Text) (places : List ℕ) (count : ℕ) → AreApart old → AreMoved old new places → count ≡ length new → ArePlacesApart places count
-places_apart old new places count apart moved most i j l m there same =
+pub places_apart : (old new : List Text) (places : List ℕ) (count : ℕ) → AreDistinct old → AreMoved old new places → count ≡ length new → IndicesDiffer places count
+places_apart old new places count distinct moved most i j l m there same =
     let len = moved.len in
-    one_place old i j apart (omega (arith, l, len)) (omega (arith, m, len)) (sym (at i l there) ∙ ap (λ (k : ℕ). get_or new k []) same ∙ at j m (omega (arith, there, same)))
+    one_place old i j distinct (omega (arith, l, len)) (omega (arith, m, len)) (sym (at i l there) ∙ ap (λ (k : ℕ). get_or new k []) same ∙ at j m (omega (arith, there, same)))
   where
     at : (k : ℕ) → k < length places → place_now places k < count → get_or new (place_now places k) [] ≡ get_or old k []
     at k lt there =
@@ -67,9 +67,9 @@ pub record Was (old : Kept) (places : List ℕ) (place : ℕ) (p : Pick) : Type 
   pub has : HasConsumer (topology_kept old) (broker_of old) from p
 
 -- a consumer with a waiter is in the round
-stands : (b : Broker) (lists : Lists) (queue : ℕ) (r : Waiters) (p : Pick) → IsInRound b lists queue r p → StandsIn r p
-stands b lists queue r p (inl up) = inl up
-stands b lists queue r p (inr s) = inr s.asleep
+in_line : (b : Broker) (lists : Lists) (queue : ℕ) (r : Waiters) (p : Pick) → IsInRound b lists queue r p → HasWaiter r p
+in_line b lists queue r p (inl up) = inl up
+in_line b lists queue r p (inr s) = inr s.asleep
 
 -- a round that isn't there
 abbrev no_round : Waiters
@@ -84,16 +84,16 @@ order_none r none = ap (λ (ws : List Waiter). turned r.next (picks ws)) none �
     turned_none (suc n) = refl
 
 own_none : (kept : Kept) (r : Waiters) (place : ℕ) → order r ≡ [] → AreItsConsumers kept place (order r)
-own_none kept r place none = record { there = λ p i. absurd (subst (IsIn p) none i); once = subst (λ (ps : List Pick). AreDistinct ps) (sym none) tt }
+own_none kept r place none = record { there = λ p i. absurd (subst (IsIn p) none i); once = subst (λ (ps : List Pick). AllDistinct ps) (sym none) tt }
 
 pub own_empty : (kept : Kept) (rounds : List Waiters) → AllAreEmpty rounds → AllAreConsumers kept rounds
 own_empty kept rounds none place = own_none kept (round_at rounds place) place (order_none (round_at rounds place) (none place))
 
 module _ (old new : Kept) (places : List ℕ) (after : IsStoreWhole new.store) (placed : ArePlaced old) (moved : AreMoved (names_of old) (names_of new) places)
-    (stood : Is (with_all_stood (broker_of old)) (broker_of new)) where
+    (survived : Is (with_all_survived (broker_of old)) (broker_of new)) where
   was_at : (place : ℕ) (p : Pick) → HasConsumer (topology_kept new) (broker_of new) place p → Was old places place p
   was_at place p has =
-      let there = sym (stood.channels p.connection p.channel) ∙ has.was.1 in
+      let there = sym (survived.channels p.connection p.channel) ∙ has.was.1 in
       let its = seen_there (names_of old) (channel_of old.connections p.connection p.channel) has.was.0 there in
       let one = seen_of (consumer_in (names_of old)) has.consumer its.kept.given.consumers (subst (λ (ch : seen.Channel). IsIn has.consumer ch.consumers) (sym its.same) has.was.2) in
       let from = one.one.queue in
@@ -106,7 +106,7 @@ module _ (old new : Kept) (places : List ℕ) (after : IsStoreWhole new.store) (
       let at : get_or (names_of new) place [] ≡ get_or (names_of old) from [] = has.named ∙ sym named in
       let stays_at : get_or places from 0 ≡ place =
       elim (moved.each from (omega (arith, lt, long))) [
-        | stays inside is ↦ one_place (names_of new) (get_or places from 0) place after.formed.queues_apart inside (omega (arith, within, more)) (is ∙ sym at)
+        | stays inside is ↦ one_place (names_of new) (get_or places from 0) place after.formed.queues_distinct inside (omega (arith, within, more)) (is ∙ sym at)
         | goes gone behind ↦ absurd (gone (subst (λ (q : Text). IsIn q (names_of new)) at (is_in (names_of new) place (omega (arith, within, more)))))
       ] in record {
         from = from;
@@ -123,7 +123,7 @@ module _ (old new : Kept) (places : List ℕ) (after : IsStoreWhole new.store) (
       let within = has.within in
       let now = was.now in
       inl (subst (λ (n : ℕ). IsAwake (round_at left.rounds n) p) was.now
-      ((rounds was.from was.within (omega (arith, within, now, len))).roused p (stands (broker_of old) before.lists was.from (round_at before.rounds was.from) p (joined was.from p was.has))))
+      ((rounds was.from was.within (omega (arith, within, now, len))).roused p (in_line (broker_of old) before.lists was.from (round_at before.rounds was.from) p (joined was.from p was.has))))
 
   -- and is listed there
   noted_moved : (before left : Rounds) → AllAreNoted (topology_kept old) (broker_of old) before.lists → ListsAreMoved places before.lists left.lists → AllAreNoted (topology_kept new) (broker_of new) left.lists
@@ -144,7 +144,7 @@ module _ (old new : Kept) (places : List ℕ) (after : IsStoreWhole new.store) (
         | goes gone behind ↦ absurd (omega (arith, behind, here, within, more))
       ] in
       has_of new place p
-      (record { consumer = has.consumer; was = (has.was.0, stood.channels p.connection p.channel ∙ has.was.1, has.was.2); numbered = has.numbered; within = within; named = named ∙ has.named })
+      (record { consumer = has.consumer; was = (has.was.0, survived.channels p.connection p.channel ∙ has.was.1, has.was.2); numbered = has.numbered; within = within; named = named ∙ has.named })
 
   -- so each line has its consumers, each once
   own_moved : (before empty left : Rounds) → AllAreConsumers old before.rounds → LinesCome places before.rounds empty.rounds left.rounds → AllAreEmpty empty.rounds → length left.rounds ≡ length (topology_kept new).queues → AllAreConsumers new left.rounds
@@ -156,7 +156,7 @@ module _ (old new : Kept) (places : List ℕ) (after : IsStoreWhole new.store) (
           there = λ p i.
               let from = its.from in
               of_moved from place p its.within its.there (inside place p i) (was.there p (subst (IsIn p) its.same i));
-          once = subst (λ (ps : List Pick). AreDistinct ps) (sym its.same) was.once;
+          once = subst (λ (ps : List Pick). AllDistinct ps) (sym its.same) was.once;
         }
   ]
     where
@@ -196,8 +196,8 @@ module _ (old new : Kept) (places : List ℕ) (after : IsStoreWhole new.store) (
       → length left.rounds ≡ length (topology_kept new).queues → IsServing new left
   serves_moved none_stranded before empty left serving rounds came none lists len =
       serves new left
-      (record { agreed = agreed_stood (broker_of old) (broker_of new) stood serving.agreed; rounds_for = len; joined = joined_moved before left serving.joined rounds len; noted = noted_moved before left serving.noted lists })
-      (running_still (broker_of old) (broker_of new) before.lists left.lists (λ d none. sym (stood.connections d) ∙ none) lists.made serving.running)
+      (record { agreed = agreed_stood (broker_of old) (broker_of new) survived serving.agreed; rounds_for = len; joined = joined_moved before left serving.joined rounds len; noted = noted_moved before left serving.noted lists })
+      (running_still (broker_of old) (broker_of new) before.lists left.lists (λ d none. sym (survived.connections d) ∙ none) lists.made serving.running)
       (own_moved before empty left serving.own came none len) (listed_moved none_stranded before.lists left.lists serving.listed lists)
 
   -- the round of each queue that is still declared is at its new index
@@ -210,7 +210,7 @@ module _ (old new : Kept) (places : List ℕ) (after : IsStoreWhole new.store) (
       let size = moved.len in
       let stands_at : get_or places from 0 ≡ to =
       elim (moved.each from (omega (arith, lt, long))) [
-        | stays inside is ↦ one_place (names_of new) (get_or places from 0) to after.formed.queues_apart inside (omega (arith, within, more)) (is ∙ named)
+        | stays inside is ↦ one_place (names_of new) (get_or places from 0) to after.formed.queues_distinct inside (omega (arith, within, more)) (is ∙ named)
         | goes gone behind ↦ absurd (gone (subst (λ (q : Text). IsIn q (names_of new)) (sym named) (is_in (names_of new) to (omega (arith, within, more)))))
       ] in
       let now : place_now places from ≡ to = same_default places from from 0 (omega (arith, lt, long, size)) ∙ stands_at in

@@ -1,5 +1,5 @@
 -- A waiter is removed from its round: who stays, and in what order.
-use Rattle.broker.proofs.Names.{◌∙◌, ◌<◌, ◌≤◌, ◌+◌, ℕ, zero, suc, List, [], ◌∷◌, Bool, true, false, cond, length, take, get_or, filter, inl, inr, refl, sym, ap, subst, arith, not, leb_tells, drop_all, take_all, get_or_past, length-remove, get_or-remove_above, get_or-remove_below, remove, count-cons, IsIn, bit_of, Pick, Waiter, turned, AreDistinct, round_of, picks, awake_waiter, asleep_waiter, bit_for, is_consumer, is_other, Waiters, round_at, order, OthersStay, LosesOne, LosesWaiter, IsAwake}
+use Rattle.broker.proofs.Names.{◌∙◌, ◌<◌, ◌≤◌, ◌+◌, ℕ, zero, suc, List, [], ◌∷◌, Bool, true, false, cond, length, take, get_or, filter, inl, inr, refl, sym, ap, subst, arith, not, leb_tells, drop_all, take_all, get_or_past, length-remove, get_or-remove_above, get_or-remove_below, remove, count-cons, IsIn, bit_of, Pick, Waiter, turned, AllDistinct, round_of, picks, awake_waiter, asleep_waiter, bit_for, is_consumer, is_other, Waiters, round_at, order, OthersStay, LosesOne, LosesWaiter, IsAwake}
 use Rattle.std.proofs.Common.{◌≡◌, ◌⊎◌}
 use Rattle.std.specs.Prelude.{count_by}
 use Rattle.broker.proofs.Among.{stays, one_consumer, same_consumer}
@@ -41,7 +41,7 @@ module _ (p : Pick) where
   test = of_waiter (is_other p)
 
   -- where its waiter is the first, all others are of others
-  rest_pass : (s : Waiter) (ws : List Waiter) → AreDistinct (picks (s ∷ ws)) → s.pick ≡ p → (t : Waiter) → IsIn t ws → test t ≡ true
+  rest_pass : (s : Waiter) (ws : List Waiter) → AllDistinct (picks (s ∷ ws)) → s.pick ≡ p → (t : Waiter) → IsIn t ws → test t ≡ true
   rest_pass s ws d here t i = other p t.pick (λ e. d.0 (subst (λ (q : Pick). IsIn q (picks ws)) (sym (here ∙ e)) (pick_in ws t i)))
     where
       pick_in : (ws : List Waiter) (t : Waiter) → IsIn t ws → IsIn t.pick (picks ws)
@@ -50,13 +50,13 @@ module _ (p : Pick) where
       pick_in (x ∷ ws) t (inr j) = inr (pick_in ws t j)
 
   -- and where it is behind, the first is of another
-  first_passes : (s : Waiter) (ws : List Waiter) (i : ℕ) (d : Waiter) → AreDistinct (picks (s ∷ ws)) → i < length ws → (get_or ws i d).pick ≡ p → test s ≡ true
+  first_passes : (s : Waiter) (ws : List Waiter) (i : ℕ) (d : Waiter) → AllDistinct (picks (s ∷ ws)) → i < length ws → (get_or ws i d).pick ≡ p → test s ≡ true
   first_passes s ws i d once lt here =
       other p s.pick
       (λ e. once.0 (let long = picks_length ws in in_place s.pick d.pick (picks ws) i (omega (arith, lt, long)) (picks_at ws i d ∙ here ∙ e)))
 
   -- to remove it is to keep the others
-  pub removed_is : (ws : List Waiter) (i : ℕ) (d : Waiter) → AreDistinct (picks ws) → i < length ws → (get_or ws i d).pick ≡ p → remove ws i ≡ filter test ws
+  pub removed_is : (ws : List Waiter) (i : ℕ) (d : Waiter) → AllDistinct (picks ws) → i < length ws → (get_or ws i d).pick ≡ p → remove ws i ≡ filter test ws
   removed_is [] i d once lt here = absurd (omega (arith, lt))
   removed_is (s ∷ ws) zero d once lt here =
       sym (ap (λ (v : Bool). cond v (s ∷ filter test ws) (filter test ws)) (ap (is_other p) here ∙ is_self p) ∙ filter_all test ws (rest_pass s ws once here))
@@ -74,7 +74,7 @@ module _ (p : Pick) where
       let first : cond (test s) 1 0 + count_by test (take n ws) ≡ 1 + count_by test (take n ws) = ap (λ (v : Bool). cond v 1 0 + count_by test (take n ws)) (all s (inl refl)) in
       omega (arith, one, more, first)
 
-  count_front : (ws : List Waiter) (i n : ℕ) (d : Waiter) → AreDistinct (picks ws) → i < length ws → (get_or ws i d).pick ≡ p → n ≤ i → count_by test (take n ws) ≡ n
+  count_front : (ws : List Waiter) (i n : ℕ) (d : Waiter) → AllDistinct (picks ws) → i < length ws → (get_or ws i d).pick ≡ p → n ≤ i → count_by test (take n ws) ≡ n
   count_front ws i zero d once lt here le = refl
   count_front [] i (suc n) d once lt here le = absurd (omega (arith, lt))
   count_front (s ∷ ws) zero (suc n) d once lt here le = absurd (omega (arith, le))
@@ -85,7 +85,7 @@ module _ (p : Pick) where
       omega (arith, one, more, first)
 
   -- and one less if it is
-  count_behind : (ws : List Waiter) (i n : ℕ) (d : Waiter) → AreDistinct (picks ws) → i < length ws → (get_or ws i d).pick ≡ p → i < n → n ≤ length ws → count_by test (take n ws) + 1 ≡ n
+  count_behind : (ws : List Waiter) (i n : ℕ) (d : Waiter) → AllDistinct (picks ws) → i < length ws → (get_or ws i d).pick ≡ p → i < n → n ≤ length ws → count_by test (take n ws) + 1 ≡ n
   count_behind [] i n d once lt here less le = absurd (omega (arith, lt))
   count_behind (s ∷ ws) i zero d once lt here less le = absurd (omega (arith, less))
   count_behind (s ∷ ws) zero (suc n) d once lt here less le =
@@ -104,7 +104,7 @@ module _ (p : Pick) where
   past xs m n le more = cc (drop_all m xs le, take_all m xs le, drop_all n xs more, take_all n xs more)
 
   -- the order of the others is unchanged
-  pub line_removed : (ws : List Waiter) (i next now : ℕ) (d : Waiter) → AreDistinct (picks ws) → i < length ws → (get_or ws i d).pick ≡ p
+  pub line_removed : (ws : List Waiter) (i next now : ℕ) (d : Waiter) → AllDistinct (picks ws) → i < length ws → (get_or ws i d).pick ≡ p
       → ((i < next) × (now + 1 ≡ next)) ⊎ ((next ≤ i) × (now ≡ next)) → turned now (picks (remove ws i)) ≡ filter (is_other p) (turned next (picks ws))
   line_removed ws i next now d once lt here (inr e) =
       let le = e.0 in
@@ -130,7 +130,7 @@ module _ (p : Pick) where
   ]
 
   -- all others stay where picks look at those that are awake
-  pub others_stay : (ws : List Waiter) (i : ℕ) (e : Waiter) (old new : List ℕ) → AreDistinct (picks ws) → i < length ws → ((d : Waiter) → (get_or ws i d).pick ≡ p) → ((k : ℕ) → k < i → bit_of new k ≡ bit_of old k)
+  pub others_stay : (ws : List Waiter) (i : ℕ) (e : Waiter) (old new : List ℕ) → AllDistinct (picks ws) → i < length ws → ((d : Waiter) → (get_or ws i d).pick ≡ p) → ((k : ℕ) → k < i → bit_of new k ≡ bit_of old k)
       → ((k : ℕ) (d : Waiter) → i ≤ k → k < length (remove ws i) → bit_of new k ≡ bit_for (get_or (remove ws i) k d).asleep) → OthersStay p (round_of ws old) (round_of (remove ws i) new)
   others_stay ws i e old new once lt here before fits b lists queue q far (inr f) =
       inr (record {

@@ -14,8 +14,8 @@ cannot_pick kept queue p cannot from =
 -- ---- bits of a set of places
 
 -- another place than one
-pub apart : (i place : ℕ) → (i == place) ≡ false → i ≡ place → ⊥
-apart i place e same = false≢true (sym e ∙ eq-eqb i place same)
+pub distinct : (i place : ℕ) → (i == place) ≡ false → i ≡ place → ⊥
+distinct i place e same = false≢true (sym e ∙ eq-eqb i place same)
 
 -- a place that was put in leaves the others in
 pub set_more : (old new : ℕ → ℕ) (place i : ℕ) → Differs old new place 1 → old i ≡ 1 → new i ≡ 1
@@ -23,7 +23,7 @@ set_more old new place i d e = go (i == place) refl
   where
     go : (v : Bool) → (i == place) ≡ v → new i ≡ 1
     go true f = subst (λ (n : ℕ). new n ≡ 1) (sym (eqb-true i place f)) d.there
-    go false f = d.others i (apart i place f) ∙ e
+    go false f = d.others i (distinct i place f) ∙ e
 
 -- and one that was taken out leaves those out that are
 pub set_less : (old new : ℕ → ℕ) (place i : ℕ) → Differs old new place 0 → old i ≡ 0 → new i ≡ 0
@@ -31,7 +31,7 @@ set_less old new place i d e = go (i == place) refl
   where
     go : (v : Bool) → (i == place) ≡ v → new i ≡ 0
     go true f = subst (λ (n : ℕ). new n ≡ 0) (sym (eqb-true i place f)) d.there
-    go false f = d.others i (apart i place f) ∙ e
+    go false f = d.others i (distinct i place f) ∙ e
 
 -- ---- one waiter is set
 
@@ -75,7 +75,7 @@ module _ (waiters : List Waiter) (old new : List ℕ) (place : ℕ) (s : Waiter)
         where
           go : (v : Bool) → (i == place) ≡ v → IsAwake (round_of (set waiters place (awake_waiter s.pick)) new) p
           go true f = here p (ap (λ (z : Waiter). z.pick) (sym (there s) ∙ ap (λ (n : ℕ). get_or waiters n s) (sym (eqb-true i place f)) ∙ at.there s))
-          go false f = (i, awake_apart (awake_waiter s.pick) d.others i (apart i place f) p at)
+          go false f = (i, awake_apart (awake_waiter s.pick) d.others i (distinct i place f) p at)
 
       asleep : (p : Pick) → IsAsleep (round_of waiters old) p → IsAsleep (round_of (set waiters place (awake_waiter s.pick)) new) p ⊎ IsAwake (round_of (set waiters place (awake_waiter s.pick)) new) p
       asleep p i = go (asleep_at waiters p i)
@@ -85,7 +85,7 @@ module _ (waiters : List Waiter) (old new : List ℕ) (place : ℕ) (s : Waiter)
             where
               by : (v : Bool) → (j == place) ≡ v → IsAsleep (round_of (set waiters place (awake_waiter s.pick)) new) p ⊎ IsAwake (round_of (set waiters place (awake_waiter s.pick)) new) p
               by true f = inr (here p (ap (λ (z : Waiter). z.pick) (sym (there s) ∙ ap (λ (n : ℕ). get_or waiters n s) (sym (eqb-true j place f)) ∙ at s)))
-              by false f = inl (asleep_apart (awake_waiter s.pick) p j (apart j place f) lt at)
+              by false f = inl (asleep_apart (awake_waiter s.pick) p j (distinct j place f) lt at)
 
   -- it was looked at, and fell asleep if it might
   pub rested : (kept : Kept) (queue : ℕ) (before after : Lists) (t : Waiter) → ((d : Waiter) → get_or waiters place d ≡ s) → ListsMore before after → (s.asleep ≡ true → t ≡ s)
@@ -116,7 +116,7 @@ module _ (waiters : List Waiter) (old new : List ℕ) (place : ℕ) (s : Waiter)
           go true f =
               let same = eqb-true i place f in
               looked (sym (there s) ∙ ap (λ (n : ℕ). get_or waiters n s) (sym same) ∙ at.there s) (ap (bit_of old) (sym same) ∙ at.marked) has fell
-          go false f = inl (i, awake_apart t others i (apart i place f) p at)
+          go false f = inl (i, awake_apart t others i (distinct i place f) p at)
       keep (inr f) has = inr (record { asleep = go (asleep_at waiters p f.asleep); cannot = f.cannot; listed = more.stay (record { queue = queue; consumer = p }) f.listed })
         where
           go : (j : ℕ) × (j < length waiters) × ((d : Waiter) → get_or waiters j d ≡ asleep_waiter p) → IsAsleep (round_of (set waiters place t) new) p
@@ -126,7 +126,7 @@ module _ (waiters : List Waiter) (old new : List ℕ) (place : ℕ) (s : Waiter)
               by true e =
                   let is : s ≡ asleep_waiter p = sym (there s) ∙ ap (λ (n : ℕ). get_or waiters n s) (sym (eqb-true j place e)) ∙ at s in
                   asleep_here t p (still (ap (λ (z : Waiter). z.asleep) is) ∙ is)
-              by false e = asleep_apart t p j (apart j place e) lt at
+              by false e = asleep_apart t p j (distinct j place e) lt at
 
 -- picks pass over one whose consumer is gone, or takes from another queue
 pub passed_over : (kept : Kept) (queue : ℕ) (lists : Lists) (waiters : List Waiter) (old new : List ℕ) (place : ℕ) (s : Waiter) → ((d : Waiter) → get_or waiters place d ≡ s) → (s.asleep ≡ false → is_of kept queue s.pick ≡ false)
@@ -138,7 +138,7 @@ passed_over kept queue lists waiters old new place s there none others p (inl (i
     go true f =
         let is : s ≡ awake_waiter p = sym (there s) ∙ ap (λ (n : ℕ). get_or waiters n s) (sym (eqb-true i place f)) ∙ at.there s in
         absurd (false≢true (sym (none (ap (λ (z : Waiter). z.asleep) is)) ∙ ap (λ (z : Waiter). is_of kept queue z.pick) is ∙ has))
-    go false f = inl (i, record { within = at.within; there = at.there; marked = others i (apart i place f) ∙ at.marked })
+    go false f = inl (i, record { within = at.within; there = at.there; marked = others i (distinct i place f) ∙ at.marked })
 
 -- ---- those to whom no delivery can be made
 

@@ -1,5 +1,5 @@
 -- Those of an order that pass a test, and how many are before one.
-use Rattle.broker.proofs.Names.{◌∙◌, ◌≤◌, ◌+◌, ◌++◌, ℕ, List, [], ◌∷◌, Bool, true, false, if◌then◌else◌, cond, take, drop, filter, inl, inr, refl, sym, ap, subst, arith, false≢true, take-append-drop, append-nil, IsIn, turned, standing, AreDistinct}
+use Rattle.broker.proofs.Names.{◌∙◌, ◌≤◌, ◌+◌, ◌++◌, ℕ, List, [], ◌∷◌, Bool, true, false, if◌then◌else◌, cond, take, drop, filter, inl, inr, refl, sym, ap, subst, arith, false≢true, take-append-drop, append-nil, IsIn, turned, count_before, AllDistinct}
 use Rattle.std.proofs.Common.{◌≡◌, ◌⊎◌}
 use Rattle.broker.proofs.Lining.{in_either}
 
@@ -7,20 +7,20 @@ use Rattle.broker.proofs.Lining.{in_either}
 
 module _ {X : Type 0} (is : X → Bool) (p : X) (own : is p ≡ true) (only : (x : X) → is x ≡ true → p ≡ x) where
   -- where fewer pass, but this one if it may
-  pub fewer : (f g : X → Bool) (xs : List X) → ((x : X) → IsIn x xs → f x ≡ true → g x ≡ true) → (g p ≡ true → f p ≡ true) → standing is (filter f xs) ≤ standing is (filter g xs)
+  pub fewer : (f g : X → Bool) (xs : List X) → ((x : X) → IsIn x xs → f x ≡ true → g x ≡ true) → (g p ≡ true → f p ≡ true) → count_before is (filter f xs) ≤ count_before is (filter g xs)
   fewer f g [] sub its = omega arith
   fewer f g (x ∷ xs) sub its = go (f x) (g x) (is x) refl refl refl (fewer f g xs (λ y i. sub y (inr i)) its)
     where
-      go : (u v w : Bool) → f x ≡ u → g x ≡ v → is x ≡ w → standing is (filter f xs) ≤ standing is (filter g xs)
-          → standing is (cond u (x ∷ filter f xs) (filter f xs)) ≤ standing is (cond v (x ∷ filter g xs) (filter g xs))
-      go true true w a b e le = subst (λ (z : Bool). (if z then 0 else 1 + standing is (filter f xs)) ≤ (if z then 0 else 1 + standing is (filter g xs))) (sym e) (by w)
+      go : (u v w : Bool) → f x ≡ u → g x ≡ v → is x ≡ w → count_before is (filter f xs) ≤ count_before is (filter g xs)
+          → count_before is (cond u (x ∷ filter f xs) (filter f xs)) ≤ count_before is (cond v (x ∷ filter g xs) (filter g xs))
+      go true true w a b e le = subst (λ (z : Bool). (if z then 0 else 1 + count_before is (filter f xs)) ≤ (if z then 0 else 1 + count_before is (filter g xs))) (sym e) (by w)
         where
-          by : (z : Bool) → (if z then 0 else 1 + standing is (filter f xs)) ≤ (if z then 0 else 1 + standing is (filter g xs))
+          by : (z : Bool) → (if z then 0 else 1 + count_before is (filter f xs)) ≤ (if z then 0 else 1 + count_before is (filter g xs))
           by true = omega arith
           by false = omega (arith, le)
       go true false w a b e le = absurd (false≢true (sym b ∙ sub x (inl refl) a))
       go false true true a b e le = absurd (false≢true (sym a ∙ ap f (sym (only x e)) ∙ its (ap g (only x e) ∙ b)))
-      go false true false a b e le = subst (λ (z : Bool). standing is (filter f xs) ≤ (if z then 0 else 1 + standing is (filter g xs))) (sym e) (omega (arith, le))
+      go false true false a b e le = subst (λ (z : Bool). count_before is (filter f xs) ≤ (if z then 0 else 1 + count_before is (filter g xs))) (sym e) (omega (arith, le))
       go false false w a b e le = le
 
 -- ---- no two are one
@@ -38,7 +38,7 @@ in_parts : {X : Type 0} (y : X) (xs ys : List X) → IsIn y (xs ++ ys) → IsIn 
 in_parts y xs ys i = elim (in_either y xs ys i) [ inl j ↦ in_right y ys xs j | inr j ↦ in_left y ys xs j ]
 
 -- one that is nowhere in a list may be anywhere in it
-distinct_among : {X : Type 0} (x : X) (ys xs : List X) → (IsIn x (ys ++ xs) → ⊥) → AreDistinct (ys ++ xs) → AreDistinct (ys ++ x ∷ xs)
+distinct_among : {X : Type 0} (x : X) (ys xs : List X) → (IsIn x (ys ++ xs) → ⊥) → AllDistinct (ys ++ xs) → AllDistinct (ys ++ x ∷ xs)
 distinct_among x [] xs none d = (none, d)
 distinct_among x (y ∷ ys) xs none d = ((λ i. other (in_parts y ys (x ∷ xs) i)), distinct_among x ys xs (λ i. none (inr i)) d.1)
   where
@@ -46,12 +46,12 @@ distinct_among x (y ∷ ys) xs none d = ((λ i. other (in_parts y ys (x ∷ xs) 
     other (inl s) = none (inl (sym s))
     other (inr i) = d.0 (in_parts y xs ys i)
 
-pub distinct_parts : {X : Type 0} (xs ys : List X) → AreDistinct (xs ++ ys) → AreDistinct (ys ++ xs)
-distinct_parts [] ys d = subst AreDistinct (sym (append-nil ys)) d
+pub distinct_parts : {X : Type 0} (xs ys : List X) → AllDistinct (xs ++ ys) → AllDistinct (ys ++ xs)
+distinct_parts [] ys d = subst AllDistinct (sym (append-nil ys)) d
 distinct_parts (x ∷ xs) ys d = distinct_among x ys xs (λ i. d.0 (in_parts x ys xs i)) (distinct_parts xs ys d.1)
 
-pub distinct_turned : {X : Type 0} (n : ℕ) (xs : List X) → AreDistinct xs → AreDistinct (turned n xs)
-distinct_turned n xs d = distinct_parts (take n xs) (drop n xs) (subst AreDistinct (sym (take-append-drop n xs)) d)
+pub distinct_turned : {X : Type 0} (n : ℕ) (xs : List X) → AllDistinct xs → AllDistinct (turned n xs)
+distinct_turned n xs d = distinct_parts (take n xs) (drop n xs) (subst AllDistinct (sym (take-append-drop n xs)) d)
 
 -- ---- those who pass
 

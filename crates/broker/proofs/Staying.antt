@@ -1,5 +1,5 @@
 -- Consumers that are there still after an event, and those whose waiters are kept.
-use Rattle.broker.proofs.Names.{◌∙◌, ◌++◌, ℕ, List, [], ◌∷◌, Bool, true, false, Option, Some, None, inl, inr, refl, sym, ap, subst, if◌then◌else◌, ◌==◌, ◌&&◌, IfSome, eqb-true, Channel, Broker, with_pair, with_row, Acts, IsDelivery, channel_or_new, Topology, IsIn, Event, First, Command, TooLarge, Fault, Lose, Pause, Resume, Deliver, Send, Note, WasConsumer, connection_of_event, one_stays, AllConsumersStay, Kept, Pick, AreDistinct, Waiters, Rounds, Lists, Listing, IsItsOwn, AreItsListings, AllListedAreThere, is_listed_there, SameListed, ListsItsOwn, ListingsLeave, round_at, order, is_of, remains, AreItsConsumers, AllAreConsumers, AddsItsOwn, AllAddTheirOwn, LeaveLines, SameOrders, GoesOn, PicksFirst}
+use Rattle.broker.proofs.Names.{◌∙◌, ◌++◌, ℕ, List, [], ◌∷◌, Bool, true, false, Option, Some, None, inl, inr, refl, sym, ap, subst, if◌then◌else◌, ◌==◌, ◌&&◌, IfSome, eqb-true, Channel, Broker, with_pair, with_row, Acts, IsDelivery, channel_or_new, Topology, IsIn, Event, First, Command, TooLarge, Fault, Lose, Pause, Resume, Deliver, Send, Note, WasConsumer, connection_of_event, one_stays, AllConsumersStay, Kept, Pick, AllDistinct, Waiters, Rounds, Lists, Listing, IsItsOwn, AreItsListings, AllListedAreThere, is_listed_there, SameListed, ListsItsOwn, ListingsLeave, round_at, order, is_of, remains, AreItsConsumers, AllAreConsumers, AddsItsOwn, AllAddTheirOwn, LeaveLines, SameOrders, GoesOn, PicksFirst}
 use Rattle.std.proofs.Common.{◌≡◌, ◌⊎◌, append_assoc}
 use Rattle.model.specs.Alone.{event_connection}
 use Rattle.model.specs.Broker.{Consumer}
@@ -9,7 +9,7 @@ use Rattle.commands.specs.State.{broker_of, topology_kept}
 use Rattle.broker.proofs.Later.{remains_of}
 use Rattle.broker.proofs.Lining.{in_either, filter_in, filter_distinct, distinct_end}
 use Rattle.broker.proofs.Standing.{in_left, in_right, passes, distinct_parts}
-use Rattle.broker.proofs.Sleeping.{apart}
+use Rattle.broker.proofs.Sleeping.{distinct}
 use Rattle.broker.proofs.Takers.{of_stays}
 
 -- ---- events
@@ -80,9 +80,9 @@ who_came kept queue old new (inr c) p i = elim (in_either p (order old) (c.newco
 ]
 
 -- and none is there twice
-pub comes_once : (kept : Kept) (queue : ℕ) (old new : Waiters) → AddsItsOwn kept queue old new → AreDistinct (order old) → AreDistinct (order new)
-comes_once kept queue old new (inl same) apart = subst (λ (ps : List Pick). AreDistinct ps) (sym same) apart
-comes_once kept queue old new (inr c) apart = subst (λ (ps : List Pick). AreDistinct ps) (sym c.line) (distinct_end c.newcomer (order old) apart c.absent)
+pub comes_once : (kept : Kept) (queue : ℕ) (old new : Waiters) → AddsItsOwn kept queue old new → AllDistinct (order old) → AllDistinct (order new)
+comes_once kept queue old new (inl same) distinct = subst (λ (ps : List Pick). AllDistinct ps) (sym same) distinct
+comes_once kept queue old new (inr c) distinct = subst (λ (ps : List Pick). AllDistinct ps) (sym c.line) (distinct_end c.newcomer (order old) distinct c.absent)
 
 -- where one comes in that is there
 pub own_joined : (kept : Kept) (old new : List Waiters) → AllAddTheirOwn kept old new → AllAreConsumers kept old → AllAreConsumers kept new
@@ -103,12 +103,12 @@ module _ (old new : Kept) (c : ℕ) (before after left : List Waiters) (is : top
       go true here = remains_of new place c p remained here
       go false far = of_stays old new place p is (stay p.connection p.channel far) ((own place).there p was)
 
-  own_after : ((place : ℕ) (p : Pick) → IsIn p (order (round_at after place)) → IsIn p (order (round_at before place)) ⊎ (is_of new place p ≡ true)) → ((place : ℕ) → AreDistinct (order (round_at after place))) → AllAreConsumers new left
+  own_after : ((place : ℕ) (p : Pick) → IsIn p (order (round_at after place)) → IsIn p (order (round_at before place)) ⊎ (is_of new place p ≡ true)) → ((place : ℕ) → AllDistinct (order (round_at after place))) → AllAreConsumers new left
   own_after came once place = record {
     there = λ p i.
         let j = subst (IsIn p) (leave place) i in
         left_there place p (came place p (filter_in (remains new place c) p (order (round_at after place)) j)) (passes (remains new place c) p (order (round_at after place)) j);
-    once = subst (λ (ps : List Pick). AreDistinct ps) (sym (leave place)) (filter_distinct (remains new place c) (order (round_at after place)) (once place));
+    once = subst (λ (ps : List Pick). AllDistinct ps) (sym (leave place)) (filter_distinct (remains new place c) (order (round_at after place)) (once place));
   }
 
 -- where nobody came in
@@ -178,7 +178,7 @@ none_listed kept lists = record { came = λ c h l i. inl i; once = λ c h rises.
 last_own : (kept : Kept) (place : ℕ) (front back : List Pick) (q : Pick) (old new : List Pick) → old ≡ front ++ q ∷ back → new ≡ back ++ front ++ q ∷ [] → AreItsConsumers kept place old → AreItsConsumers kept place new
 last_own kept place front back q old new was now own = record {
   there = λ p i. own.there p (subst (IsIn p) (sym was) (there p (in_either p back (front ++ q ∷ []) (subst (IsIn p) (now ∙ append_assoc back front (q ∷ [])) i))));
-  once = subst (λ (ps : List Pick). AreDistinct ps) (sym (now ∙ append_assoc back front (q ∷ []))) (distinct_parts (front ++ q ∷ []) back (subst (λ (ps : List Pick). AreDistinct ps) (was ∙ sym (append_assoc front (q ∷ []) back)) own.once));
+  once = subst (λ (ps : List Pick). AllDistinct ps) (sym (now ∙ append_assoc back front (q ∷ []))) (distinct_parts (front ++ q ∷ []) back (subst (λ (ps : List Pick). AllDistinct ps) (was ∙ sym (append_assoc front (q ∷ []) back)) own.once));
 }
   where
     ahead : (p : Pick) → IsIn p front ⊎ IsIn p (q ∷ []) → IsIn p (front ++ q ∷ back)
@@ -191,16 +191,16 @@ last_own kept place front back q old new was now own = record {
     there p (inr j) = ahead p (in_either p front (q ∷ []) j)
 
 own_told : (kept : Kept) (old new : Rounds) (q : Pick) → PicksFirst kept old new q → AllAreConsumers kept old.rounds → AllAreConsumers kept new.rounds
-own_told kept old new q told own place = go (place == told.queue) refl
+own_told kept old new q reported own place = go (place == reported.queue) refl
   where
-    its : AreItsConsumers kept told.queue (order (round_at new.rounds told.queue))
-    its = let goes = told.told.round in last_own kept told.queue goes.front goes.back q (order (round_at old.rounds told.queue)) (order (round_at new.rounds told.queue)) goes.was goes.now (own told.queue)
+    its : AreItsConsumers kept reported.queue (order (round_at new.rounds reported.queue))
+    its = let goes = reported.reported.round in last_own kept reported.queue goes.front goes.back q (order (round_at old.rounds reported.queue)) (order (round_at new.rounds reported.queue)) goes.was goes.now (own reported.queue)
 
-    go : (v : Bool) → (place == told.queue) ≡ v → AreItsConsumers kept place (order (round_at new.rounds place))
-    go true f = subst (λ (n : ℕ). AreItsConsumers kept n (order (round_at new.rounds n))) (sym (eqb-true place told.queue f)) its
-    go false f = subst (AreItsConsumers kept place) (sym (told.told.others place (apart place told.queue f))) (own place)
+    go : (v : Bool) → (place == reported.queue) ≡ v → AreItsConsumers kept place (order (round_at new.rounds place))
+    go true f = subst (λ (n : ℕ). AreItsConsumers kept n (order (round_at new.rounds n))) (sym (eqb-true place reported.queue f)) its
+    go false f = subst (AreItsConsumers kept place) (sym (reported.reported.others place (distinct place reported.queue f))) (own place)
 
 -- a pick leaves each line its consumers
 pub own_picked : (kept : Kept) (old new : Rounds) (o : Option Pick) → IfSome o (PicksFirst kept old new) → (o ≡ None → GoesOn old new) → AllAreConsumers kept old.rounds → AllAreConsumers kept new.rounds
-own_picked kept old new None told on own = own_same kept old.rounds new.rounds (on refl).same own
-own_picked kept old new (Some q) told on own = own_told kept old new q told own
+own_picked kept old new None reported on own = own_same kept old.rounds new.rounds (on refl).same own
+own_picked kept old new (Some q) reported on own = own_told kept old new q reported own

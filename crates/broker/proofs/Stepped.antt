@@ -76,7 +76,7 @@ module _ (old : Kept) (before woken ready : Rounds) (e : Event) (serving : IsSer
       (lists_own : ListsItsOwn new ready.lists after.lists) (makes_none : MakesNoList ready.lists after.lists) (len : length after.rounds ≡ length ready.rounds) where
     has_joined : (place : ℕ) (p : Pick) → IsConsumed (topology_kept old) e place → consumer_to_make old e ≡ Some p → is_of new place p ≡ true → HasJoined after place p
     has_joined place p here is its =
-        told_some newcomer (record { queue = place; consumer = p }) (λ n. is_of new n.queue n.consumer ≡ true → HasJoined after n.queue n.consumer) (expected.told place p here is) joined its
+        told_some newcomer (record { queue = place; consumer = p }) (λ n. is_of new n.queue n.consumer ≡ true → HasJoined after n.queue n.consumer) (expected.reported place p here is) joined its
 
     pub held_then : Holds new after
     held_then =

@@ -1,5 +1,5 @@
 -- A broker with its rounds, as its callers see it: who is in the orders of its queues.
-use Rattle.broker.proofs.Names.{◌∙◌, ◌<◌, ◌≤◌, ◌++◌, ℕ, List, [], ◌∷◌, Bool, true, Option, length, filter, inl, inr, sym, ap, subst, arith, append-nil, filter-append, Topology, IsIn, queue_name, Kept, Pick, standing, AreDistinct, Waiters, Rounds, round_at, order, is_consumer, takes_from, is_of, remains, HasConsumer, AllAreConsumers, AllAddTheirOwn, LeaveLines, SameOrders, GoesOn, IsServing, with_turn, line_at, standing_at, AllStand, WaitersAreConsumers, NobodyIsPutBack, NoneIsLater}
+use Rattle.broker.proofs.Names.{◌∙◌, ◌<◌, ◌≤◌, ◌++◌, ℕ, List, [], ◌∷◌, Bool, true, Option, length, filter, inl, inr, sym, ap, subst, arith, append-nil, filter-append, Topology, IsIn, queue_name, Kept, Pick, count_before, AllDistinct, Waiters, Rounds, round_at, order, is_consumer, takes_from, is_of, remains, HasConsumer, AllAreConsumers, AllAddTheirOwn, LeaveLines, SameOrders, GoesOn, IsServing, with_turn, line_at, count_before_at, AllInLine, WaitersAreConsumers, NobodyIsPutBack, NoneIsLater}
 use Rattle.std.proofs.Common.{◌≡◌}
 use Rattle.commands.specs.State.{broker_of, topology_kept}
 use Rattle.broker.proofs.Among.{one_consumer, same_consumer, stays}
@@ -16,7 +16,7 @@ stand_in : (kept : Kept) (r : Rounds) (place : ℕ) → Holds kept r → place <
 stand_in kept r place held lt p takes = in_order (broker_of kept) r.lists place (round_at r.rounds place) p (held.joined place p (takes_has (topology_kept kept) (broker_of kept) place p lt takes))
 
 -- then it is in the queue's order, and nothing else is
-pub all_stand : (kept : Kept) (r : Rounds) (x : Option Pick) → Holds kept r → AllAreConsumers kept r.rounds → AllStand (with_turn kept r x)
+pub all_stand : (kept : Kept) (r : Rounds) (x : Option Pick) → Holds kept r → AllAreConsumers kept r.rounds → AllInLine (with_turn kept r x)
 all_stand kept r x held own place p = (into, out)
   where
     into : HasConsumer (topology_kept kept) (broker_of kept) place p → IsIn p (line_at (with_turn kept r x) place)
@@ -28,8 +28,8 @@ all_stand kept r x held own place p = (into, out)
 -- and it does so once
 pub waiters_own : (kept : Kept) (r : Rounds) (x : Option Pick) → IsServing kept r → WaitersAreConsumers (with_turn kept r x)
 waiters_own kept r x serving = record {
-  stand = all_stand kept r x (holds kept r serving) serving.own;
-  once = λ place. subst (λ (ps : List Pick). AreDistinct ps) (sym (order_at r.rounds place)) (serving.own place).once;
+  complete = all_stand kept r x (holds kept r serving) serving.own;
+  once = λ place. subst (λ (ps : List Pick). AllDistinct ps) (sym (order_at r.rounds place)) (serving.own place).once;
 }
 
 -- where all go on as before, callers see nothing of it
@@ -75,7 +75,7 @@ module _ (old new : Kept) (r s : Rounds) (x y : Option Pick) (is : topology_kept
 
   -- a consumer that was there and still is has no greater number before it
   pub not_later : (place : ℕ) (p : Pick) → HasConsumer t (broker_of old) place p → HasConsumer t (broker_of new) place p
-      → standing_at (with_turn new s y) place p ≤ standing_at (with_turn old r x) place p
+      → count_before_at (with_turn new s y) place p ≤ count_before_at (with_turn old r x) place p
   not_later place p had has =
       let f = takes_from (broker_of new) (queue_name t place) in
       let g = takes_from (broker_of old) (queue_name t place) in
@@ -86,8 +86,8 @@ module _ (old new : Kept) (r s : Rounds) (x y : Option Pick) (is : topology_kept
       let among = stays f p line (stand_in old r place held lt p (has_takes t (broker_of old) place p had)) (has_takes t (broker_of new) place p has) in
       let only = standing_before p (filter f line) round.0 among in
       let le = fewer (is_consumer p) p (one_consumer p) (same_consumer p) f g line own_there (λ v. has_takes t (broker_of new) place p has) in
-      subst (λ (ps : List Pick). standing (is_consumer p) ps ≤ standing_at (with_turn old r x) place p) (sym (line_then place ∙ round.1))
-      (subst (λ (ps : List Pick). standing (is_consumer p) (filter f line ++ round.0) ≤ standing (is_consumer p) ps) (sym (line_is old r.rounds place was)) (omega (arith, only, le)))
+      subst (λ (ps : List Pick). count_before (is_consumer p) ps ≤ count_before_at (with_turn old r x) place p) (sym (line_then place ∙ round.1))
+      (subst (λ (ps : List Pick). count_before (is_consumer p) (filter f line ++ round.0) ≤ count_before (is_consumer p) ps) (sym (line_is old r.rounds place was)) (omega (arith, only, le)))
 
   -- so nobody is put back
   pub none_back : s.next ≡ r.next → NobodyIsPutBack (with_turn old r x) (with_turn new s y)

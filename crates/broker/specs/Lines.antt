@@ -15,11 +15,11 @@ abbrev pub IsPassed : ℕ → ℕ → ℕ → ℕ → Type 0
 IsPassed count next to at = (at < count) × (ahead count next at < ahead count next to)
 
 -- how many entries are before the first that passes `test`
-abbrev pub standing : {X : Type 0} → (X → Bool) → List X → ℕ
-standing test [] = 0
-standing test (x ∷ xs) = if test x then 0 else 1 + standing test xs
+abbrev pub count_before : {X : Type 0} → (X → Bool) → List X → ℕ
+count_before test [] = 0
+count_before test (x ∷ xs) = if test x then 0 else 1 + count_before test xs
 
 -- no entry occurs twice
-abbrev pub AreDistinct : {X : Type 0} → List X → Type 0
-AreDistinct [] = Unit {0}
-AreDistinct (x ∷ xs) = (IsIn x xs → ⊥) × AreDistinct xs
+abbrev pub AllDistinct : {X : Type 0} → List X → Type 0
+AllDistinct [] = Unit {0}
+AllDistinct (x ∷ xs) = (IsIn x xs → ⊥) × AllDistinct xs

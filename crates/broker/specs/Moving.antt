@@ -12,12 +12,12 @@ abbrev pub all_awake : List Waiter → List Waiter
 all_awake waiters = map (λ (s : Waiter). awake_waiter s.pick) waiters
 
 -- the consumer has a waiter in the round, awake or asleep
-abbrev pub StandsIn : Waiters → Pick → Type 0
-StandsIn r p = IsAwake r p ⊎ IsAsleep r p
+abbrev pub HasWaiter : Waiters → Pick → Type 0
+HasWaiter r p = IsAwake r p ⊎ IsAsleep r p
 
 -- each consumer with a waiter in the old round has one in the new round, awake
 abbrev pub AllRoused : Waiters → Waiters → Type 0
-AllRoused old new = (p : Pick) → StandsIn old p → IsAwake new p
+AllRoused old new = (p : Pick) → HasWaiter old p → IsAwake new p
 
 -- Each waiter of the old round is in the new one, awake, and their order is the same.
 pub record IsMoved (old new : Waiters) : Type 0 where
@@ -25,8 +25,8 @@ pub record IsMoved (old new : Waiters) : Type 0 where
   pub same : order new ≡ order old
 
 -- no two entries of the table are the same index below `count`
-abbrev pub ArePlacesApart : List ℕ → ℕ → Type 0
-ArePlacesApart places count = (i j : ℕ) → i < length places → j < length places → place_now places i < count → place_now places i ≡ place_now places j → i ≡ j
+abbrev pub IndicesDiffer : List ℕ → ℕ → Type 0
+IndicesDiffer places count = (i j : ℕ) → i < length places → j < length places → place_now places i < count → place_now places i ≡ place_now places j → i ≡ j
 
 -- each round is at the index that the table has for it, with all waiters awake, if there is such a round
 abbrev pub RoundsAreMoved : List ℕ → List Waiters → List Waiters → Type 0

@@ -1,6 +1,6 @@
 -- The round of consumers of each queue, over which deliveries go, and which of the consumers are passed over (own).
 use Rattle.std.specs.Prelude.{◌≡◌, ◌==◌, ◌&&◌, ◌<◌, ◌≤◌, ◌*◌, ◌+◌, ◌⊎◌, ◌++◌, ◌||◌, ℕ, List, []}
-use Rattle.std.specs.Prelude.{◌∷◌, map, filter, count_by, sum_by, if◌then◌else◌, Bool, true, false, not, Option, Some, None, length}
+use Rattle.std.specs.Prelude.{◌∷◌, map, filter, if◌then◌else◌, Bool, true, false, not, Option, Some, None, length}
 use Rattle.std.specs.Prelude.{slice_index_or, nat_eq, nat_lt, IfSome}
 use Rattle.std.specs.List.{list_any, All}
 use Rattle.std.specs.Map.{lookup}
@@ -24,9 +24,11 @@ use Rattle.commands.specs.NewConsumers.{consumer_to_make, IsConsumed}
 use Rattle.commands.specs.declared.picks.Pick.{Pick}
 use Rattle.broker.specs.declared.rounds.finding.Found.{Found}
 use Rattle.broker.specs.declared.rounds.finding.Found.TheVariants.{Able, Unable, Over}
+use Rattle.broker.specs.declared.rounds.sleepers.leaving.Gone.{Gone}
+use Rattle.broker.specs.declared.rounds.sleepers.leaving.Gone.TheVariants.{Nobody, One, Several}
 use Rattle.broker.specs.declared.rounds.waiters.Newcomer.{Newcomer}
 use Rattle.broker.specs.declared.rounds.waiters.Waiter.{Waiter}
-use Rattle.broker.specs.Lines.{turned, IsPassed, AreDistinct}
+use Rattle.broker.specs.Lines.{turned, IsPassed, AllDistinct}
 
 -- ---- waiters
 
@@ -128,14 +130,14 @@ abbrev pub bit_for : Bool → ℕ
 bit_for asleep = if asleep then 0 else 1
 
 -- Consumer `p`'s waiter is at this index, awake, and its bit is 1, so that picks look at it.
-pub record StandsAwake (waiters : List Waiter) (marks : List ℕ) (place : ℕ) (p : Pick) : Type 0 where
+pub record IsAwakeAtIndex (waiters : List Waiter) (marks : List ℕ) (place : ℕ) (p : Pick) : Type 0 where
   pub within : place < length waiters
   pub there : (d : Waiter) → slice_index_or waiters place d ≡ awake_waiter p
   pub marked : bit_of marks place ≡ 1
 
 -- consumer `p`'s waiter is at index `place` of the round, awake, and its bit is 1
 abbrev pub IsAwakeAt : Waiters → ℕ → Pick → Type 0
-IsAwakeAt r place p = StandsAwake r.waiters r.marks place p
+IsAwakeAt r place p = IsAwakeAtIndex r.waiters r.marks place p
 
 -- consumer `p`'s waiter is in the round, awake
 abbrev pub IsAwake : Waiters → Pick → Type 0
@@ -267,7 +269,7 @@ HasNoWaiter rounds n = IsIn n.consumer (order (round_at rounds n.queue)) → ⊥
 -- There is capacity for the newcomer, if any; and the consumer that the event is going to make is this newcomer.
 pub record IsExpected (kept : Kept) (e : Event) (r : Rounds) (newcomer : Option Newcomer) : Type 0 where
   pub room : IfSome newcomer (CanJoin r)
-  pub told : (place : ℕ) (p : Pick) → IsConsumed (topology_kept kept) e place → consumer_to_make kept e ≡ Some p
+  pub reported : (place : ℕ) (p : Pick) → IsConsumed (topology_kept kept) e place → consumer_to_make kept e ≡ Some p
       → newcomer ≡ Some (record { queue = place; consumer = p })
 
 -- The consumer's waiter is in the round of the queue at this index, awake, and is listed, so that it can fall asleep without an allocation.
@@ -319,7 +321,7 @@ AllListedAreThere kept lists = (c h : ℕ) → AreItsListings kept c h (listed_o
 -- The consumers in `line` are consumers of the queue at index `queue`, each once.
 pub record AreItsConsumers (kept : Kept) (queue : ℕ) (line : List Pick) : Type 0 where
   pub there : (p : Pick) → IsIn p line → is_of kept queue p ≡ true
-  pub once : AreDistinct line
+  pub once : AllDistinct line
 
 -- the consumers in the order of each round are consumers of its queue, each once
 abbrev pub AllAreConsumers : Kept → List Waiters → Type 0
@@ -409,7 +411,7 @@ pub record PicksFirst (kept : Kept) (old new : Rounds) (p : Pick) : Type 0 where
   pub could : IsPickFrom kept queue p
   pub within : queue < length old.rounds
   pub passed : NonePassed kept old old.next queue
-  pub told : PicksFrom kept old.lists old.rounds new.rounds queue p
+  pub reported : PicksFrom kept old.lists old.rounds new.rounds queue p
   pub next : new.next ≡ queue + 1
 
 -- ---- removing consumers
@@ -430,6 +432,15 @@ LeaveLine kept queue c old new = order new ≡ filter (remains kept queue c) (or
 abbrev pub LeaveLines : Kept → ℕ → List Waiters → List Waiters → Type 0
 LeaveLines kept c old new = (place : ℕ) → LeaveLine kept place c (round_at old place) (round_at new place)
 
+-- the waiters whose consumer does not remain are removed from the round at this index, or it is not in the set, and unchanged
+abbrev pub LeavesIfNamed : Kept → ℕ → List ℕ → List Waiters → List Waiters → ℕ → Type 0
+LeavesIfNamed kept c named old new place = LeaveLine kept place c (round_at old place) (round_at new place)
+    ⊎ ((bit_of named place ≡ 1 → ⊥) × (round_at new place ≡ round_at old place))
+
+-- `LeavesIfNamed` of each round
+abbrev pub LeaveNamed : Kept → ℕ → List ℕ → List Waiters → List Waiters → Type 0
+LeaveNamed kept c named old new = (place : ℕ) → LeavesIfNamed kept c named old new place
+
 -- each waiter of another consumer than `p` stays, awake or asleep as it is
 abbrev pub OthersStay : Pick → Waiters → Waiters → Type 0
 OthersStay p old new = (b : Broker) (lists : Lists) (queue : ℕ) (q : Pick) → (q ≡ p → ⊥) → IsInRound b lists queue old q → IsInRound b lists queue new q
@@ -444,32 +455,6 @@ pub record LosesWaiter (queue : ℕ) (p : Pick) (old new : List Waiters) : Type 
   pub round : LosesOne p (round_at old queue) (round_at new queue)
   pub others : (at : ℕ) → (at ≡ queue → ⊥) → round_at new at ≡ round_at old at
 
--- the listed consumer is gone, or takes from another queue
-abbrev pub is_listed_gone : Kept → Listing → Bool
-is_listed_gone kept l = not (is_listed_there kept l)
-
--- how many listed consumers of a channel are gone
-abbrev pub gone_in : Kept → Listings → ℕ
-gone_in kept s = count_by (is_listed_gone kept) s.all
-
--- how many listed consumers of all channels of a connection are gone
-abbrev pub gone_on : Kept → List Listings → ℕ
-gone_on kept channels = sum_by (gone_in kept) channels
-
--- if the listed consumer is gone, so is its waiter
-abbrev pub HasLeft : Kept → List Waiters → Listing → Type 0
-HasLeft kept rounds l = is_listed_there kept l ≡ false → IsIn l.consumer (order (round_at rounds l.queue)) → ⊥
-
--- The waiters of these listings whose consumers are gone are removed, and no others.
-pub record GoneAreRemoved (kept : Kept) (listed : Listing → Type 0) (old new : List Waiters) : Type 0 where
-  pub left : (l : Listing) → listed l → HasLeft kept new l
-  pub were : (place : ℕ) (p : Pick) → IsIn p (order (round_at new place)) → IsIn p (order (round_at old place))
-  pub stay : (b : Broker) (lists : Lists) (place : ℕ) (p : Pick) → is_of kept place p ≡ true → IsInRound b lists place (round_at old place) p
-      → IsInRound b lists place (round_at new place) p
-  -- if all are of connection `c`, the order of those that remain is unchanged
-  pub same : (c : ℕ) → ((l : Listing) → listed l → l.consumer.connection ≡ c) → (place : ℕ)
-      → filter (remains kept place c) (order (round_at new place)) ≡ filter (remains kept place c) (order (round_at old place))
-
 -- the listing is on some channel
 abbrev pub IsListedOnAny : List Listings → Listing → Type 0
 IsListedOnAny channels l = (h : ℕ) × IsIn l (listings_on channels h).all
@@ -482,6 +467,24 @@ IsListedUnder lists c l = (h : ℕ) × IsIn l (listed_on lists c h)
 pub record ListsItsWaiters (c : ℕ) (r : Rounds) : Type 0 where
   pub own : (l : Listing) → IsListedUnder r.lists c l → l.consumer.connection ≡ c
   pub noted : (place : ℕ) (p : Pick) → IsIn p (order (round_at r.rounds place)) → p.connection ≡ c → IsNoted r.lists (listing place p)
+
+-- the listed consumer is the one that `gone` names; or, if several are gone, its queue is in the set, unless its index is not below `count`
+abbrev pub IsAmongGone : ℕ → Gone → List ℕ → Listing → Type 0
+IsAmongGone count Nobody named l = ⊥
+IsAmongGone count (One queue p place) named l = l ≡ listing queue p
+IsAmongGone count Several named l = l.queue < count → bit_of named l.queue ≡ 1
+
+-- the listing of the consumer that `gone` names, if it names one
+abbrev pub only_gone : Gone → Option Listing
+only_gone (One queue p place) = Some (listing queue p)
+only_gone _ = None
+
+-- Of these listings, those whose consumers are gone are added to `old` and the set `before`, which are then `new` and `after`.
+pub record AddsGone (kept : Kept) (listed : Listing → Type 0) (count : ℕ) (old : Gone) (before : List ℕ) (new : Gone) (after : List ℕ) : Type 0 where
+  pub size : length after ≡ length before
+  pub stay : (l : Listing) → IsAmongGone count old before l → IsAmongGone count new after l
+  pub come : (l : Listing) → listed l → is_listed_there kept l ≡ false → IsAmongGone count new after l
+  pub one : (l : Listing) → only_gone new ≡ Some l → (only_gone old ≡ Some l) ⊎ (listed l × (is_listed_there kept l ≡ false))
 
 -- ---- adding a consumer to a round
 

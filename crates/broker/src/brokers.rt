@@ -68,18 +68,18 @@ impl Broker {
     ghost use Rattle.model.specs.Arrivals.{IsSaid};
     ghost use Rattle.model.specs.Consuming.{CanDeliver};
     ghost use Rattle.model.specs.Naming.{AreNamed};
-    ghost use Rattle.model.specs.Reloading.{NoneIsOrphaned, with_all_stood};
+    ghost use Rattle.model.specs.Reloading.{NoneIsOrphaned, with_all_survived};
     ghost use Rattle.model.specs.Sending.{AreCarried};
     ghost use Rattle.model.specs.Step.{Acts, Is};
     ghost use Rattle.model.specs.declared.events.Event.TheVariants as event_is;
     ghost use Rattle.commands.specs.State.{nothing};
-    ghost use Rattle.commands.specs.Obstacles.{TellsObstacle};
+    ghost use Rattle.commands.specs.Obstacles.{ReportsObstacle};
     ghost use Rattle.reloading.specs.Wanting.{MayWant};
     ghost use Rattle.commands.specs.Judged.{IsAsked, WantsNoMemory};
     ghost use Rattle.commands.specs.Picked.{IsPick, DeliversTo};
     ghost use Rattle.commands.specs.declared.picks.Pick.{Pick as Consumer};
     ghost use Rattle.broker.specs.Turns.{broker_of, topology_kept};
-    ghost use Rattle.broker.specs.Waiting.{AllStand, WaitersAreConsumers, NobodyIsPutBack, NoneIsLater, LinesStay, IsToldInTurn, LinesMove, ServesSoon};
+    ghost use Rattle.broker.specs.Waiting.{AllInLine, WaitersAreConsumers, NobodyIsPutBack, NoneIsLater, LinesStay, IsPickedInTurn, LinesMove, ServesSoon};
     ghost use Rattle.replies.specs.Sent.{AreAddressed, connection_of_event};
 
     /// Makes the broker of `topology`: its queues are empty, and no connection is running. Fails only if an allocation fails.
@@ -160,8 +160,8 @@ impl Broker {
         ensures kept { self.new.kept ≡ self.old.kept }
         ensures turn { self.new.turn ≡ result }
         // Who is picked: the first in order, or the same as before.
-        ensures stand { AllStand self.old }
-        ensures in_turn { IfSome result (λ p. IsToldInTurn self.old p self.new) }
+        ensures complete { AllInLine self.old }
+        ensures in_turn { IfSome result (λ p. IsPickedInTurn self.old p self.new) }
         ensures stay { result ≡ None → LinesStay self.old self.new }
         ensures again { (p : Consumer) → self.old.turn ≡ Some p → IsPick (broker_of self.old) p → result ≡ Some p }
         // A delivery can be made to the picked consumer; if none is picked, no delivery can be made at all.
@@ -179,7 +179,7 @@ impl Broker {
         // The state is unchanged, and the result is the picked consumer: the first in order.
         ensures kept { self.new.kept ≡ self.old.kept }
         ensures turn { self.new.turn ≡ result }
-        ensures in_turn { IfSome result (λ p. IsToldInTurn self.old p self.new) }
+        ensures in_turn { IfSome result (λ p. IsPickedInTurn self.old p self.new) }
         ensures stay { result ≡ None → LinesStay self.old self.new }
         // A delivery can be made to it; if none is picked, no delivery can be made at all.
         ensures some { IfSome result (λ p. IsPick (broker_of self.old) p) }
@@ -285,7 +285,7 @@ impl Broker {
         topology: &Topology,
         guarantees: &[Guarantee],
     ) -> Result<Option<Obstacle>, AllocError>
-        ensures told { IfOk result (TellsObstacle (topology_kept self.now) (broker_of self.now) topology.now guarantees.now) }
+        ensures reported { IfOk result (ReportsObstacle (topology_kept self.now) (broker_of self.now) topology.now guarantees.now) }
         ensures wants { OnErr result (MayWant (topology_kept self.now) topology.now (broker_of self.now)) }
     {
         self.core.obstacle(alloc, topology, guarantees)
@@ -298,7 +298,7 @@ impl Broker {
         requires { NoneIsOrphaned (topology_kept self.old) topology (broker_of self.old) }
         // The new topology is in force, and messages are marked.
         ensures topology { OnOk result (topology_kept self.new ≡ topology) }
-        ensures stood { OnOk result (Is (with_all_stood (broker_of self.old)) (broker_of self.new)) }
+        ensures survived { OnOk result (Is (with_all_survived (broker_of self.old)) (broker_of self.new)) }
         // The order of consumers; a failure changes nothing.
         ensures turn { OnOk result (self.new.turn ≡ None) }
         ensures lines { OnOk result (LinesMove self.old self.new) }

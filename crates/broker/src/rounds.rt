@@ -6,7 +6,8 @@
 //! message, the waiter falls asleep, and costs nothing until an event of its own channel, or the end of its connection's pause, wakes it.
 //! A command wakes the waiters that sleep on its channel, and looks at no other. Each waiter is listed at its channel when it is made, with
 //! a bit that says whether it sleeps, so that a pick never allocates. A waiter is removed with its consumer, and so is its listing: when
-//! consumers of a connection may have left, the connection's listings are checked, and no others. If several have left, each round is swept once.
+//! consumers of a connection may have left, the connection's listings are checked, and no others. If several have left, the rounds of their
+//! queues are swept, each once.
 
 mod finding;
 mod queue_rounds;
@@ -20,8 +21,8 @@ ghost use Rattle.broker.specs.Rounds.{wakes_on};
 use crate::rounds::finding::is_of;
 use crate::rounds::queue_rounds::QueueRounds;
 use crate::rounds::sleepers::{
-    Sleepers, forget_connection, join_listing, leave_lists, leave_waiters, move_sleepers,
-    reserve_listing, wake_connection,
+    Sleepers, forget_connection, join_listing, leave_lists, move_sleepers, reserve_listing,
+    wake_connection,
 };
 use crate::rounds::waiters::Newcomer;
 use commands::{Core, Ends, Pick};
@@ -75,7 +76,7 @@ impl ConsumerRounds {
     ghost use Rattle.broker.specs.Rounds.{HasNoWaiter, IsExpected, CanJoin, HasJoined};
     ghost use Rattle.broker.specs.Rounds.{KeepLists, ListsRunning, KeepsWaiters, KeepsAll, AllAddTheirOwn, ListsItsWaiters, LeaveLines, AllWaken, WakesWaiter};
     ghost use Rattle.broker.specs.Rounds.{NotesStay, SameListed, ListsItsOwn, ListingsLeave, HasNoList, MakesNoList, PicksFirst, GoesOn, AllAreEmpty};
-    ghost use Rattle.broker.specs.Moving.{ArePlacesApart, RoundsAreMoved, LinesCome, ListsAreMoved};
+    ghost use Rattle.broker.specs.Moving.{IndicesDiffer, RoundsAreMoved, LinesCome, ListsAreMoved};
 
     /// Makes empty rounds for `queues` queues. Fails only if an allocation fails.
     pub fn new(alloc: Global, queues: usize) -> Result<ConsumerRounds, AllocError>
@@ -169,7 +170,7 @@ impl ConsumerRounds {
         ensures len { length self.new.rounds ≡ length self.old.rounds }
         ensures next { self.new.next ≡ self.old.next }
     {
-        leave_waiters(&self.sleepers, &mut self.rounds, core, connection);
+        self.rounds.leave(&self.sleepers, core, connection);
         match ends {
             Ends::Connection => forget_connection(&mut self.sleepers, connection),
             _ => leave_lists(&mut self.sleepers, core, connection),
@@ -225,7 +226,7 @@ impl ConsumerRounds {
     /// and listings of a queue whose new index is past the end are removed. Never allocates.
     pub fn take_over(&mut self, old: ConsumerRounds, indices: &[usize])
         requires len { length indices.now ≡ length old.rounds }
-        requires apart { ArePlacesApart indices.now (length self.old.rounds) }
+        requires distinct { IndicesDiffer indices.now (length self.old.rounds) }
         // The rounds are moved, nothing else is in them, and the listings follow.
         ensures moved { RoundsAreMoved indices.now old.rounds self.new.rounds }
         ensures came { LinesCome indices.now old.rounds self.old.rounds self.new.rounds }
@@ -259,7 +260,7 @@ impl ConsumerRounds {
         ensures some { IfSome result (λ p. (place : ℕ) × IsPickFrom core.now place p) }
         ensures none { result ≡ None → (place : ℕ) (p : Consumer) → IsInItsRound (broker_of core.now) self.old place p → IsPickFrom core.now place p → ⊥ }
         // The picked consumer is the first in order; if none is picked, every order is unchanged.
-        ensures told { IfSome result (λ p. PicksFirst core.now self.old self.new p) }
+        ensures reported { IfSome result (λ p. PicksFirst core.now self.old self.new p) }
         ensures on { result ≡ None → GoesOn self.old self.new }
     {
         let found = self.rounds.pick(core, &mut self.sleepers, self.next)?;

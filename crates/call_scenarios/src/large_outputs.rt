@@ -91,7 +91,7 @@ pub(crate) fn a_delivery_comes_behind_a_large_output(alloc: Global) -> Result<()
     )?;
     engine.sent(1, LARGE);
     expect_bytes(
-        "what stands behind the large message",
+        "what follows the large message",
         engine.output(1),
         CONSUMED_AND_DELIVERED,
     )

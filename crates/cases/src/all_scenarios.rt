@@ -9,11 +9,12 @@ pub(crate) fn all_hold(rt: &HostRuntime) -> io::Result<bool> {
         scenarios: 0,
         failed: 0,
     };
-    scenarios::tell_all(&mut sums, rt)?;
-    call_scenarios::tell_all(&mut sums, rt)?;
-    served_scenarios::tell_all(&mut sums, rt)?;
-    socket_scenarios::tell_all(&mut sums, rt)?;
-    program_scenarios::tell_all(&mut sums, rt)?;
+    scenarios::run_all(&mut sums, rt)?;
+    call_scenarios::run_all(&mut sums, rt)?;
+    memory_scenarios::run_all(&mut sums, rt)?;
+    served_scenarios::run_all(&mut sums, rt)?;
+    socket_scenarios::run_all(&mut sums, rt)?;
+    program_scenarios::run_all(&mut sums, rt)?;
     println!(rt; "{} scenarios, {} failed", sums.scenarios, sums.failed)?;
     Ok(sums.failed == 0)
 }

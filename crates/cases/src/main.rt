@@ -19,7 +19,7 @@ use all_scenarios::all_hold;
 use disk::Folder;
 use std::process::ExitCode;
 use std::{env, io};
-use trials::tried;
+use trials::run_rows;
 
 /// The number of cases and rows that ran, and the number of cases that failed.
 #[derive(Clone, Copy, Drop)]
@@ -41,7 +41,7 @@ impl Tally {
 }
 
 /// Prints the number of rows of a case, or that it failed.
-fn tell(rt: &HostRuntime, name: &str, rows: Option<u64>) -> io::Result<()> {
+fn print_row(rt: &HostRuntime, name: &str, rows: Option<u64>) -> io::Result<()> {
     match rows {
         Some(rows) => println!(rt; "{name}: {rows} ok"),
         None => println!(rt; "{name}: failed"),
@@ -50,9 +50,9 @@ fn tell(rt: &HostRuntime, name: &str, rows: Option<u64>) -> io::Result<()> {
 
 /// Runs a case and prints its line. Returns its number of rows, or `None` if one of them failed.
 fn run(folder: Folder<'_>, name: &str) -> io::Result<Option<u64>> {
-    match tried(folder, name) {
+    match run_rows(folder, name) {
         Ok(rows) => {
-            tell(folder.rt, name, rows)?;
+            print_row(folder.rt, name, rows)?;
             Ok(rows)
         }
         Err(error) => {

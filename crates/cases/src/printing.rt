@@ -8,7 +8,7 @@ use server::program;
 use std::alloc::Global;
 use std::io;
 
-/// The line that stands for any output on standard error.
+/// The line that matches any output on standard error.
 const ANY_COMPLAINT: &str = "! ..\n";
 
 /// Appends what was written to standard error.

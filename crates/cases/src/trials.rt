@@ -1,4 +1,4 @@
-//! Runs a case, row by row and cut by cut. Start with [`tried`].
+//! Runs a case, row by row and cut by cut. Start with [`run_rows`].
 
 use crate::comparing::{Difference, compared};
 use crate::cutting::{Cut, cut_script, longest};
@@ -152,14 +152,14 @@ fn failure_at_row(
 }
 
 /// Prints where a row printed something else than expected.
-fn tell(folder: Folder<'_>, row: &str, failure: Failure) -> io::Result<()> {
+fn print_difference(folder: Folder<'_>, row: &str, failure: Failure) -> io::Result<()> {
     let cut = failure.cut;
     let line = failure.line;
     println!(folder.rt; "  differs at line {line}, {cut}: {row}")
 }
 
 /// Runs the rows of a case, and prints which of them failed. Returns their number, or `None` if one failed.
-pub fn tried(folder: Folder<'_>, name: &str) -> io::Result<Option<u64>> {
+pub fn run_rows(folder: Folder<'_>, name: &str) -> io::Result<Option<u64>> {
     let alloc = folder.rt.alloc();
     let case = case_of(folder, name)?;
     let table = CaseTable::read(alloc, &case)?;
@@ -169,7 +169,7 @@ pub fn tried(folder: Folder<'_>, name: &str) -> io::Result<Option<u64>> {
         count = count.saturating_add(1);
         if let Some(failure) = failure_at_row(folder, &table, place, row.name)? {
             failed = failed.saturating_add(1);
-            tell(folder, row.name, failure)?;
+            print_difference(folder, row.name, failure)?;
         }
     }
     if failed == 0 {

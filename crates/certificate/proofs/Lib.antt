@@ -11,3 +11,4 @@ pub mod Drafting
 pub mod Routed
 pub mod Refuting
 pub mod Certifying
+pub mod Alike

@@ -7,7 +7,7 @@ pub use Rattle.certificate.specs.Joined.{ReadsBackWithin}
 pub use Rattle.certificate.specs.Orders.{is_below_first, rise}
 pub use Rattle.certificate.specs.Places.{Chooses, IsPassedOver, is_less_first, passes_over, rises, same_texts}
 pub use Rattle.certificate.specs.Spelled.{Texts, certificate_data, excepts_data, file_data, form_data, number_data, places_data, state_data, states_data, texts_of}
-pub use Rattle.certificate.specs.Walks.{IsGoodBy, StepsAsLast, StepsBy, ways_of}
+pub use Rattle.certificate.specs.Walks.{AreGoodAlike, IsGoodBy, StepsAsLast, StepsBy, bare, bare_state, ways_of}
 pub use Rattle.certificate.specs.Writes.{AreTexts, FailsToWrite, IsWritten}
 pub use Rattle.certificate.specs.declared.drafts.Draft.{Draft}
 pub use Rattle.certificate.specs.declared.faults.CertFault.{CertFault}

@@ -31,7 +31,7 @@ routed_target t x key targets at q w a h e s =
     let m = map_in (λ (i : ℕ). get_or (queue_names t.queues) i []) targets q (picked_all q a.picked there s) in
     let k = get_in targets m.0 m.1 in
     let b : m.0 < length t.queues = subst (λ (i : ℕ). i < length t.queues) (k.is 0) (a.within k.at 0 k.within) in
-    let same : m.0 ≡ at = apart_same (queue_names t.queues) m.0 at w.queues_apart (omega (arith, n, b)) (omega (arith, n, h)) (m.2 ∙ sym e) in
+    let same : m.0 ≡ at = apart_same (queue_names t.queues) m.0 at w.queues_distinct (omega (arith, n, b)) (omega (arith, n, h)) (m.2 ∙ sym e) in
     subst (λ (i : ℕ). IsIn i targets) same m.1
 
 -- what is routed to is there

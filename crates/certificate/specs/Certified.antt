@@ -1,10 +1,13 @@
 -- Admission by certificates, one for each guarantee (own).
-use Rattle.std.specs.Prelude.{◌≡◌, ◌<◌, ◌⊎◌, ℕ, List, Bool, true, false, length, slice_get, Some, None, Result, Ok, Err}
+use Rattle.std.specs.Prelude.{◌≡◌, ◌<◌, ◌⊎◌, ℕ, List, Bool, true, false, length, slice_get, Option, Some, None, Result, Ok, Err}
+use Rattle.std.specs.List.{list_any}
 use Rattle.model.specs.Topology.{Topology}
 use Rattle.model.specs.declared.topologies.Mode.{Mode}
 use Rattle.model.specs.declared.topologies.Mode.TheVariants.{Reaches, Never}
 use Rattle.model.specs.Guarantee.{Guarantee, AllHold}
 use Rattle.model.specs.Certificates.{Certificate, Accepts}
+use Rattle.paths.specs.Deaths.{AreDeaths}
+use Rattle.paths.specs.declared.visits.Visit.{Visit}
 use Rattle.certificate.specs.Checks.{Faults}
 use Rattle.certificate.specs.declared.faults.CertFault.{CertFault}
 use Rattle.certificate.specs.declared.faults.CertFault.TheVariants.{Form}
@@ -71,3 +74,8 @@ Admits t gs cs (Err e) = FailsFirst t gs cs e.0 e.1
 abbrev pub is_never : Mode → Bool
 is_never Reaches = false
 is_never Never = true
+
+-- `Some`: what dead letters of the topology's queues reach; `None`: none of the guarantees is a `never`
+abbrev pub ExploresFor : Topology → List Guarantee → Option (List (Option (List Visit))) → Type 0
+ExploresFor t gs (Some deaths) = AreDeaths t deaths
+ExploresFor t gs None = list_any (λ (g : Guarantee). is_never g.mode) gs ≡ false

@@ -79,14 +79,14 @@ impl Certificate {
         }
     }
 
-    /// Which of the tracked patterns the states have numbers for.
+    /// Returns which of the tracked patterns the states have numbers for.
     pub fn form(&self) -> &Form
         ensures { form_view result.now ≡ self.now.form }
     {
         &self.form
     }
 
-    /// The exchange of its guarantee.
+    /// Returns the exchange of the certificate's guarantee.
     pub fn exchange(&self) -> &Text
         ensures { result.now ≡ self.now.exchange }
     {
@@ -100,14 +100,14 @@ impl Certificate {
         &self.mode
     }
 
-    /// The pattern of its guarantee.
+    /// Returns the pattern of the certificate's guarantee.
     pub fn pattern(&self) -> &Text
         ensures { result.now ≡ self.now.pattern }
     {
         &self.pattern
     }
 
-    /// The queue of its guarantee.
+    /// Returns the queue of the certificate's guarantee.
     pub fn queue(&self) -> &Text
         ensures { result.now ≡ self.now.queue }
     {

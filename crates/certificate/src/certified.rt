@@ -1,10 +1,10 @@
 //! Checks that each guarantee has an accepted certificate. Start with `all_certified`.
 
-ghost use Rattle.std.specs.Prelude.{◌<◌, ◌≡◌, Err, IfSome, length};
+ghost use Rattle.std.specs.Prelude.{◌<◌, ◌≡◌, Err, IfOk, IfSome, length};
 ghost use Rattle.std.specs.List.{list_any};
 ghost use Rattle.paths.specs.Deaths.{AreDeaths};
 ghost use Rattle.certificate.specs.declared.faults.CertFault.TheVariants.{Form};
-ghost use Rattle.certificate.specs.Certified.{Certifies, ChecksAt, is_never};
+ghost use Rattle.certificate.specs.Certified.{Certifies, ChecksAt, ExploresFor, is_never};
 
 use crate::certificates::Certificate;
 use crate::checking::check_by;
@@ -13,7 +13,7 @@ use exchange_graph::Topology;
 use guarantees::Guarantee;
 use model::Mode;
 use paths::Deaths;
-use std::alloc::Global;
+use std::alloc::{AllocError, Global};
 
 /// Checks the certificate at index `place` for `guarantee`. Fails with its fault, or with [`CertFault::Form`] if there is no certificate at this index.
 fn check_at(
@@ -74,21 +74,23 @@ fn has_never(guarantees: &[Guarantee]) -> bool
     })
 }
 
-/// Explores what dead letters of the topology's queues reach, once for all of `guarantees`. Returns `None` if none of them is a `never`,
-/// which alone asks for it, or if an allocation fails: then each guarantee explores what it needs.
-pub fn deaths_for(alloc: Global, topology: &Topology, guarantees: &[Guarantee]) -> Option<Deaths>
-    ensures { IfSome result (AreDeaths topology.now) }
+/// Explores what dead letters of the topology's queues reach, once for all of `guarantees`. Returns `None` only if none of them is a `never`,
+/// which alone asks for it. Fails only if an allocation fails.
+pub fn deaths_for(
+    alloc: Global,
+    topology: &Topology,
+    guarantees: &[Guarantee],
+) -> Result<Option<Deaths>, AllocError>
+    ensures { IfOk result (ExploresFor topology.now guarantees.now) }
 {
     if !has_never(guarantees) {
-        return None;
+        return Ok(None);
     }
-    match Deaths::of(alloc, topology) {
-        Ok(deaths) => Some(deaths),
-        Err(_) => None,
-    }
+    Ok(Some(Deaths::of(alloc, topology)?))
 }
 
 /// Checks that each guarantee has an accepted certificate, and that no certificate is left over. Fails with the least index at fault, and its fault.
+/// If an allocation fails while what dead letters reach is explored for all guarantees, each `never` explores it for itself.
 pub fn all_certified(
     alloc: Global,
     topology: &Topology,
@@ -97,6 +99,6 @@ pub fn all_certified(
 ) -> Result<(), (usize, CertFault)>
     ensures { Certifies topology.now guarantees.now certificates.now result }
 {
-    let deaths = deaths_for(alloc, topology, guarantees);
+    let deaths = deaths_for(alloc, topology, guarantees).unwrap_or(None);
     certified_by(alloc, topology, deaths.as_ref(), guarantees, certificates)
 }

@@ -35,7 +35,7 @@ impl Refutation {
         Refutation { key, path }
     }
 
-    /// The routing key that breaks the guarantee.
+    /// Returns the routing key that breaks the guarantee.
     pub fn key(&self) -> &Text
         ensures { result.now ≡ self.now.key }
     {

@@ -3,7 +3,7 @@ pub use Rattle.laws.proofs.Counts.{all_in, in-append, in_back, in_front}
 pub use Rattle.laws.proofs.Joins.{any_matches, any_snoc_is, any_snoc_was, one_snoc, snoc_any, snoc_none, snoc_one, snoc_word, start_bit, word_snoc}
 pub use Rattle.model.specs.Certificates.{Accepts, AreChosen, AreClosed, ArePlaces, Certificate, Excepting, Form, IsCoveredAt, IsDropped, IsGoodState, IsZeroFirst, KeepsTo, LeadsIn, PatternAnswers, Sliced, Whole, at_places, possible, sure}
 pub use Rattle.model.specs.Guarantee.{CoversKey, Guarantee, Holds, Keeps}
-pub use Rattle.model.specs.Positions.{BitsAfter, BitsAtStart, ForEach, ForEachPair, Letter, Named, Other, StandsByTokens, StandsFor, StartsAt, StepsTo, Tells, TellsEach, bit_after, has_bit, is_accepted, letters, named_words, takes_letter, word_of}
+pub use Rattle.model.specs.Positions.{BitsAfter, BitsAtStart, ForEach, ForEachPair, Letter, Named, Other, RepresentsByTokens, RepresentsWord, StartsAt, StepsTo, RecordsFrom, RecordsMatches, bit_after, has_bit, is_accepted, letters, named_words, takes_letter, word_of}
 pub use Rattle.model.specs.Routing.{Binds, Comes, Dies, Edge, Leads, Passes, Reading, RoutesBy, alternate, bound, dead, default, fixed_after, here, of_key, on, reading_after, routed}
 pub use Rattle.model.specs.Topology.{IsIn, Topology}
 pub use Rattle.model.specs.Tracking.{IsTrackedList, MayEnter, Met, Selects, Tracked, as_topic, by_alternate, by_binding, by_bound, by_death, by_name, each_once, keys_by, keys_from, keys_of, literal, once_more, own, same_kind, same_tracked, tokens_of}

@@ -35,11 +35,11 @@ Apart [] = Unit {0}
 Apart (x ∷ xs) = (IsIn x xs → ⊥) × Apart xs
 
 apart_pairs : {A : Type 0} (xs : List A) → Apart xs → AllPairs (λ (x y : A). x ≡ y → ⊥) xs
-apart_pairs [] apart i j d l m = absurd (omega (arith, m))
-apart_pairs (x ∷ xs) apart zero zero d l m = absurd (omega (arith, l))
-apart_pairs {A} (x ∷ xs) apart zero (suc j) d l m = λ e. apart.0 (subst (λ (y : A). IsIn y xs) (sym e) (at_in xs j d (omega (arith, m))))
-apart_pairs (x ∷ xs) apart (suc i) zero d l m = absurd (omega (arith, l))
-apart_pairs (x ∷ xs) apart (suc i) (suc j) d l m = apart_pairs xs apart.1 i j d (omega (arith, l)) (omega (arith, m))
+apart_pairs [] distinct i j d l m = absurd (omega (arith, m))
+apart_pairs (x ∷ xs) distinct zero zero d l m = absurd (omega (arith, l))
+apart_pairs {A} (x ∷ xs) distinct zero (suc j) d l m = λ e. distinct.0 (subst (λ (y : A). IsIn y xs) (sym e) (at_in xs j d (omega (arith, m))))
+apart_pairs (x ∷ xs) distinct (suc i) zero d l m = absurd (omega (arith, l))
+apart_pairs (x ∷ xs) distinct (suc i) (suc j) d l m = apart_pairs xs distinct.1 i j d (omega (arith, l)) (omega (arith, m))
 
 apart_both : {A : Type 0} (xs ys : List A) → Apart xs → Apart ys → ((x : A) → IsIn x xs → IsIn x ys → ⊥) → Apart (xs ++ ys)
 apart_both [] ys a b none = b
@@ -103,10 +103,10 @@ none_of x c (l ∷ es) none i e = elim (either_in x (names_at l.0 0 l.1.channels
 ]
 
 apart_in : (es : List (ℕ × Running)) → IsDistinct nat_eq (keys_of es) → Apart (names_in es)
-apart_in [] apart = tt
-apart_in (e ∷ es) apart =
-    apart_both (names_at e.0 0 e.1.channels) (names_in es) (apart_at e.0 0 e.1.channels) (apart_in es (IsDistinct-tail nat_eq e.0 (keys_of es) apart))
-    (λ x i j. none_of x e.0 es (IsDistinct-head nat_eq e.0 (keys_of es) apart) j (its x e.0 0 e.1.channels i).0)
+apart_in [] distinct = tt
+apart_in (e ∷ es) distinct =
+    apart_both (names_at e.0 0 e.1.channels) (names_in es) (apart_at e.0 0 e.1.channels) (apart_in es (IsDistinct-tail nat_eq e.0 (keys_of es) distinct))
+    (λ x i j. none_of x e.0 es (IsDistinct-head nat_eq e.0 (keys_of es) distinct) j (its x e.0 0 e.1.channels i).0)
 
 -- ---- what is counted on them
 
@@ -147,14 +147,14 @@ on_head queue e es k =
     ap (λ (h : ℕ). on queue (e ∷ es) (name e.0 h)) zero ∙ ap (λ (o : Option Running). consumers_at queue (channel_at o k)) (found e.1 es e.0)
 
 pub all_sum : (queue : ℕ) (es : List (ℕ × Running)) → IsDistinct nat_eq (keys_of es) → sum_by (on queue es) (names_in es) ≡ sum_by (consumers_counted queue) (values_of es)
-all_sum queue [] apart = refl
-all_sum queue (e ∷ es) apart =
+all_sum queue [] distinct = refl
+all_sum queue (e ∷ es) distinct =
     let head = names_at e.0 0 e.1.channels in
     sum_by-append (on queue (e ∷ es)) head (names_in es)
     ∙ ap (λ (n : ℕ). n + sum_by (on queue (e ∷ es)) (names_in es)) (sum_at (on queue (e ∷ es)) (consumers_at queue) e.0 0 e.1.channels (on_head queue e es))
     ∙ ap (λ (n : ℕ). consumers_counted queue e.1 + n)
-    (same_sum (on queue (e ∷ es)) (on queue es) (names_in es) (λ x i. ap (λ (o : Option Running). consumers_at queue (channel_at o x.number)) (missed e es x.connection (none_of x e.0 es (IsDistinct-head nat_eq e.0 (keys_of es) apart) i)))
-    ∙ all_sum queue es (IsDistinct-tail nat_eq e.0 (keys_of es) apart))
+    (same_sum (on queue (e ∷ es)) (on queue es) (names_in es) (λ x i. ap (λ (o : Option Running). consumers_at queue (channel_at o x.number)) (missed e es x.connection (none_of x e.0 es (IsDistinct-head nat_eq e.0 (keys_of es) distinct) i)))
+    ∙ all_sum queue es (IsDistinct-tail nat_eq e.0 (keys_of es) distinct))
     ∙ sym (sum_by-cons (consumers_counted queue) e.1 (values_of es))
 
 -- where nothing is left to be counted, the count is the whole
@@ -163,9 +163,9 @@ no_more count left none most = omega (arith, none, most)
 
 -- the sum over all connections is the count of all channels
 pub counts_all : (es : List (ℕ × Running)) (queue count : ℕ) → IsDistinct nat_eq (keys_of es) → count ≡ min (sum_by (consumers_counted queue) (values_of es)) greatest → CountsConsumers es queue count
-counts_all es queue count apart is = record {
+counts_all es queue count distinct is = record {
   channels = names_in es;
   all = all_there es;
-  apart = apart_pairs (names_in es) (apart_in es apart);
-  counted = is ∙ ap (λ (n : ℕ). min n greatest) (sym (all_sum queue es apart));
+  distinct = apart_pairs (names_in es) (apart_in es distinct);
+  counted = is ∙ ap (λ (n : ℕ). min n greatest) (sym (all_sum queue es distinct));
 }

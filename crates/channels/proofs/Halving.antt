@@ -47,12 +47,12 @@ pub changed_none : (g : CountedConsumer → CountedConsumer) (n : ℕ) (xs : Lis
 changed_none g n [] other none = refl
 changed_none g n (x ∷ xs) other none = go (is_numbered n x) refl none (changed_none g n xs other)
   where
-    apart : is_numbered n x ≡ false → x.consumer.number ≡ n → ⊥
-    apart not same = let yes : is_numbered n x ≡ true = eq-eqb x.consumer.number n same in let f : false ≡ true = sym not ∙ yes in absurd (cc)
+    distinct : is_numbered n x ≡ false → x.consumer.number ≡ n → ⊥
+    distinct not same = let yes : is_numbered n x ≡ true = eq-eqb x.consumer.number n same in let f : false ≡ true = sym not ∙ yes in absurd (cc)
 
     go : (b : Bool) → is_numbered n x ≡ b → cond b (Some x) (find (is_numbered n) xs) ≡ None → (find (is_numbered n) xs ≡ None → map g xs ≡ xs) → g x ∷ map g xs ≡ x ∷ xs
     go true is none rest = absurd (cc)
-    go false is none rest = ap (λ (y : CountedConsumer). y ∷ map g xs) (other x (apart is)) ∙ ap (λ (ys : List CountedConsumer). x ∷ ys) (rest none)
+    go false is none rest = ap (λ (y : CountedConsumer). y ∷ map g xs) (other x (distinct is)) ∙ ap (λ (ys : List CountedConsumer). x ∷ ys) (rest none)
 
 -- ---- counts
 

@@ -1,5 +1,5 @@
 -- Consumers by their numbers, and what they may be given.
-use Rattle.channels.proofs.Imports.{◌≡◌, inl, inr, ℕ, ◌+◌, ◌<◌, List, [], ◌∷◌, ◌++◌, length, map, find, Bool, true, false, cond, Option, Some, None, refl, sym, ap, subst, ◌∙◌, arith, ◌||◌, is_some, IfSome, IsSome, AllByRecursion, eqb-true, false≢true, length-filter, Text, IsIn, is_to, is_delivery, is_below, count_to, count_given, has_tag_left, taker_of, consumers_of, is_numbered, AreNumbered, Given, may_of, taker_among, may_be_given, consumer_at, taker_at, Open, consumer_in, open_in, IsOne, IsTaker, HasNoTaker, TellsTaker, outstanding_in, Delivery, Consumer, CountedConsumer}
+use Rattle.channels.proofs.Imports.{◌≡◌, inl, inr, ℕ, ◌+◌, ◌<◌, List, [], ◌∷◌, ◌++◌, length, map, find, Bool, true, false, cond, Option, Some, None, refl, sym, ap, subst, ◌∙◌, arith, ◌||◌, is_some, IfSome, IsSome, AllByRecursion, eqb-true, false≢true, length-filter, Text, IsIn, is_to, is_delivery, is_below, count_to, count_given, has_tag_left, taker_of, consumers_of, is_numbered, AreNumbered, Given, may_of, taker_among, may_be_given, consumer_at, taker_at, Open, consumer_in, open_in, IsOne, IsTaker, HasNoTaker, ReturnsTaker, outstanding_in, Delivery, Consumer, CountedConsumer}
 use Rattle.std.proofs.Common.{filter, count_by}
 use Rattle.std.specs.Prelude.{◌==◌, ◌&&◌, option_map, if◌then◌else◌}
 use Rattle.std.proofs.lemmas.Bool.{eq-eqb}
@@ -196,10 +196,10 @@ cannot ch number rise may names x i m = go (consumer_at ch.given number) refl (o
         ap (said.may_take (open_in names ch)) (o.same ∙ ap (consumer_in names) is) ∙ may_in names ch k ∙ sym (may_at ch.given number k e) ∙ may
     go None e o = absurd (none_found number ch.given.consumers o.consumer e o.seat (ap (λ (y : seen.Consumer). y.number) (sym o.same) ∙ m))
 
-pub tells : (ch : Open) (number : ℕ) (r : Option Consumer) → AreNumbered ch.given.next_number ch.given.consumers → r ≡ taker_at ch.given number → TellsTaker ch number r
+pub tells : (ch : Open) (number : ℕ) (r : Option Consumer) → AreNumbered ch.given.next_number ch.given.consumers → r ≡ taker_at ch.given number → ReturnsTaker ch number r
 tells ch number r rise is = go (may_be_given ch.given number) refl r is
   where
-    go : (b : Bool) → may_be_given ch.given number ≡ b → (r : Option Consumer) → r ≡ (if b then consumer_at ch.given number else None) → TellsTaker ch number r
+    go : (b : Bool) → may_be_given ch.given number ≡ b → (r : Option Consumer) → r ≡ (if b then consumer_at ch.given number else None) → ReturnsTaker ch number r
     go true e (Some k) f = is_taker ch number k rise (sym f) e
     go true e None f = λ names x i m. let o = of_names names x ch.given.consumers i in
         absurd (none_found number ch.given.consumers o.consumer (sym f) o.seat (ap (λ (y : seen.Consumer). y.number) (sym o.same) ∙ m))

@@ -19,8 +19,8 @@ found_apart {X} c d (y ∷ ys) w n = go (nat_eq c y.0) refl (found_apart c d ys 
   where
     go : (b : Bool) → nat_eq c y.0 ≡ b → lookup (nat_eq d) (set_value (nat_eq c) ys w) ≡ lookup (nat_eq d) ys → lookup (nat_eq d) (cond b ((y.0, w) ∷ ys) (y ∷ set_value (nat_eq c) ys w)) ≡ cond (nat_eq d y.0) (Some y.1) (lookup (nat_eq d) ys)
     go true t more =
-        let apart : nat_eq d y.0 ≡ false = ap (λ (k : ℕ). nat_eq d k) (sym (eqb-true c y.0 t)) ∙ n in
-        ap (λ (b : Bool). cond b (Some w) (lookup (nat_eq d) ys)) apart ∙ sym (ap (λ (b : Bool). cond b (Some y.1) (lookup (nat_eq d) ys)) apart)
+        let distinct : nat_eq d y.0 ≡ false = ap (λ (k : ℕ). nat_eq d k) (sym (eqb-true c y.0 t)) ∙ n in
+        ap (λ (b : Bool). cond b (Some w) (lookup (nat_eq d) ys)) distinct ∙ sym (ap (λ (b : Bool). cond b (Some y.1) (lookup (nat_eq d) ys)) distinct)
     go false t more = ap (λ (o : Option X). cond (nat_eq d y.0) (Some y.1) o) more
 
 -- an open channel is within the list

@@ -56,10 +56,10 @@ counted_taker queue ch k i e =
     omega (arith, one, less)
 
 pub takers_found : (connections : List (ℕ × Running)) → IsDistinct nat_eq (keys_of connections) → (queue : ℕ) → Decides (is_consumed connections queue) (HasTaker connections queue)
-takers_found connections apart queue = (found, counted)
+takers_found connections distinct queue = (found, counted)
   where
     same : sum_by (on queue connections) (names_in connections) ≡ all_consumers connections queue
-    same = all_sum queue connections apart
+    same = all_sum queue connections distinct
 
     found : is_consumed connections queue ≡ true → HasTaker connections queue
     found e =

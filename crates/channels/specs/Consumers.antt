@@ -34,6 +34,6 @@ pub record MayTakeOn (l : Running) (h number : ℕ) (k : Consumer) : Type 0 wher
   pub taker : IsTaker channel number k
 
 -- the result is the consumer `number` if it can take a message now, and `None` if it can't
-abbrev pub TellsOn : Running → ℕ → ℕ → Option Consumer → Type 0
-TellsOn l h number (Some k) = MayTakeOn l h number k
-TellsOn l h number None = (ch : Open) → l.is_paused ≡ false → channel_in l h ≡ Some ch → ch.is_closing ≡ false → HasNoTaker ch number
+abbrev pub ReturnsConsumerOn : Running → ℕ → ℕ → Option Consumer → Type 0
+ReturnsConsumerOn l h number (Some k) = MayTakeOn l h number k
+ReturnsConsumerOn l h number None = (ch : Open) → l.is_paused ≡ false → channel_in l h ≡ Some ch → ch.is_closing ≡ false → HasNoTaker ch number

@@ -22,7 +22,7 @@ pub record CountsConsumers (connections : List (ℕ × Running)) (queue count : 
   -- a list of distinct channels that has every open one
   pub channels : List ChannelName
   pub all : (c h : ℕ) (ch : Open) → channel_of connections c h ≡ Some ch → IsIn (record { connection = c; number = h }) channels
-  pub apart : AllPairs (λ (x y : ChannelName). x ≡ y → ⊥) channels
+  pub distinct : AllPairs (λ (x y : ChannelName). x ≡ y → ⊥) channels
   pub counted : count ≡ min (sum_by (λ (x : ChannelName). consumers_at queue (channel_of connections x.connection x.number)) channels) greatest
 
 -- how many consumers of all connections take from the queue at index `queue`

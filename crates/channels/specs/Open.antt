@@ -124,6 +124,6 @@ abbrev pub HasNoTaker : Open → ℕ → Type 0
 HasNoTaker ch number = (names : List Text) (k : seen.Consumer) → IsIn k (open_in names ch).consumers → k.number ≡ number → may_take (open_in names ch) k ≡ false
 
 -- the result is the consumer with this number if it may be given one more message, and `None` if it may not
-abbrev pub TellsTaker : Open → ℕ → Option Consumer → Type 0
-TellsTaker ch number (Some k) = IsTaker ch number k
-TellsTaker ch number None = HasNoTaker ch number
+abbrev pub ReturnsTaker : Open → ℕ → Option Consumer → Type 0
+ReturnsTaker ch number (Some k) = IsTaker ch number k
+ReturnsTaker ch number None = HasNoTaker ch number

@@ -16,6 +16,6 @@ pub record IsSpan (span : Span) (tag : ℕ) (multiple : Bool) (ds : List Deliver
   pub settles : settled tag_of tag multiple ds ≡ Some (settled_by span ds)
 
 -- the result is the span of the tag, or `None` if the tag is refused
-abbrev pub TellsSpan : ℕ → Bool → List Delivery → Option Span → Type 0
-TellsSpan tag multiple ds (Some span) = IsSpan span tag multiple ds
-TellsSpan tag multiple ds None = settled tag_of tag multiple ds ≡ None
+abbrev pub ReturnsSpan : ℕ → Bool → List Delivery → Option Span → Type 0
+ReturnsSpan tag multiple ds (Some span) = IsSpan span tag multiple ds
+ReturnsSpan tag multiple ds None = settled tag_of tag multiple ds ≡ None

@@ -7,11 +7,11 @@ ghost use Rattle.model.specs.Step.{started, next_of, is_spent};
 ghost use Rattle.model.specs.Prefetch.{has_tag_left};
 ghost use Rattle.model.specs.Settling.{settled};
 ghost use Rattle.model.specs.Placed.{waiting};
-ghost use Rattle.channels.specs.Spans.{settled_by, TellsSpan};
+ghost use Rattle.channels.specs.Spans.{settled_by, ReturnsSpan};
 ghost use Rattle.channels.specs.Deliveries.{nothing_given, may_be_given, consumer_at};
 ghost use Rattle.channels.specs.Deliveries.{AddsConsumer, ConsumesUnnamed, JudgesNamed, JudgesUnnamed, MaySeat, NamesUnnamed};
 ghost use Rattle.channels.specs.Open.{with_qos, given_on, settled_on, without_settled, without_named, consumers_from, open_in};
-ghost use Rattle.channels.specs.Open.{JudgesConsumer, SeatsConsumer, IsOne, TellsTaker};
+ghost use Rattle.channels.specs.Open.{JudgesConsumer, SeatsConsumer, IsOne, ReturnsTaker};
 ghost use Rattle.channels.specs.Consumers.{AreBelow};
 ghost use Rattle.channels.specs.Moving.{open_moved};
 ghost use Rattle.channels.specs.Outstanding.{tag_of};
@@ -306,7 +306,7 @@ impl Channel {
     /// Returns the consumer with this number if it is the channel's and can take a message now: a delivery tag is left, and neither its prefetch nor
     /// the channel's is used up. Source: RabbitMQ, "Consumer Prefetch".
     pub fn taker(&self, number: u64) -> Option<&Consumer>
-        ensures { TellsTaker self.now number (option_map (λ k. k.now) result) }
+        ensures { ReturnsTaker self.now number (option_map (λ k. k.now) result) }
     {
         let found = self.seats.taker(number, self.limit);
         if !self.has_tag_left() {
@@ -417,7 +417,7 @@ impl Channel {
     /// Returns the span of what `tag` settles, or `None` if the tag is refused, with 406. The calls that take the span search for the tag only if
     /// the channel has changed. Source: AMQP 0-9-1, basic.ack.
     pub fn span(&self, tag: u64, multiple: bool) -> Option<Span>
-        ensures { TellsSpan tag multiple self.now.given.outstanding result }
+        ensures { ReturnsSpan tag multiple self.now.given.outstanding result }
     {
         self.pending.span(tag, multiple)
     }

@@ -35,7 +35,7 @@ impl Unsettled {
     ghost use Rattle.model.specs.Placed.{waiting};
     ghost use Rattle.model.specs.Settling.{kept, Rises};
     ghost use Rattle.channels.specs.Outstanding.{tag_of};
-    ghost use Rattle.channels.specs.Spans.{settled_by, TellsSpan};
+    ghost use Rattle.channels.specs.Spans.{settled_by, ReturnsSpan};
     ghost use Rattle.channels.specs.Moving.{outstanding_moved};
 
     /// Makes an empty list. Never allocates.
@@ -63,7 +63,7 @@ impl Unsettled {
 
     /// Returns the span of what `tag` settles, or `None` if the tag is refused.
     pub(crate) fn span(&self, tag: u64, multiple: bool) -> Option<Span>
-        ensures { TellsSpan tag multiple self.now.outstanding result }
+        ensures { ReturnsSpan tag multiple self.now.outstanding result }
     {
         span_of(behind(&self.items, self.start), tag, multiple)
     }

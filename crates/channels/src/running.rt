@@ -36,7 +36,7 @@ impl RunningConnection {
     ghost use Rattle.model.specs.Step.{channels_up_to, greatest};
     ghost use Rattle.model.specs.Placed.{waiting};
     ghost use Rattle.channels.specs.Open.{open_in};
-    ghost use Rattle.channels.specs.Consumers.{TellsOn, IsOneOn, AreBelow, consumer_numbered, next_number};
+    ghost use Rattle.channels.specs.Consumers.{ReturnsConsumerOn, IsOneOn, AreBelow, consumer_numbered, next_number};
     ghost use Rattle.channels.specs.Counting.{consumers_counted};
     ghost use Rattle.channels.specs.ConnectionsMoving.{running_moved};
     ghost use Rattle.channels.specs.RunningConnections.{channel_in, outstanding_on, PutsIn};
@@ -137,7 +137,7 @@ impl RunningConnection {
     /// Returns the consumer with this number on the channel if it can take a message now: the connection is not paused, the channel is open and does
     /// not await close-ok, and it has the consumer, which may take one ([`Channel::taker`]).
     pub fn taker(&self, channel: u16, number: u64) -> Option<&Consumer>
-        ensures { TellsOn self.now channel number (option_map (λ k. k.now) result) }
+        ensures { ReturnsConsumerOn self.now channel number (option_map (λ k. k.now) result) }
     {
         if self.is_paused {
             return None;

@@ -5,7 +5,7 @@ ghost use Rattle.std.specs.Prelude.{length, take, drop, set, get_or, count_by, v
 ghost use Rattle.std.specs.List.{list_any};
 ghost use Rattle.model.specs.Settling.{has_tag, settled, kept, Rises};
 ghost use Rattle.channels.specs.Outstanding.{tag_of, given_tag, marked, IsTagAt, AreInOrder};
-ghost use Rattle.channels.specs.Spans.{settled_by, TellsSpan};
+ghost use Rattle.channels.specs.Spans.{settled_by, ReturnsSpan};
 ghost use Rattle.model.specs.Placed.{is_waiting, waiting};
 
 use crate::spans::Span;
@@ -64,7 +64,7 @@ fn place_of_tag(given: &[Delivery], tag: u64, near: usize) -> Option<usize>
 /// Returns the span of what `tag` settles, or `None` if the tag is refused. Looks at the front first.
 pub(crate) fn span_of(given: &[Delivery], tag: u64, multiple: bool) -> Option<Span>
     requires { Rises given_tag given.now }
-    ensures { TellsSpan tag multiple (waiting given.now) result }
+    ensures { ReturnsSpan tag multiple (waiting given.now) result }
 {
     if multiple && tag == 0 {
         return Some(Span {

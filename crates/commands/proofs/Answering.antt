@@ -40,14 +40,14 @@ done_open c h s s' ch ch' m content r d e comes old new turns =
 -- the same by the whole refusal, if the channel does not await close-ok and its number is allowed
 pub open_here : (max c h : ℕ) (s s' : Store) (ch ch' : Open) (m : Method) (content : Option Content) (d : Result Done Stop) → ch.is_closing ≡ false → h ≢ 0 → refusal_of_number max h m ≡ None
     → AnswersOpen c h s ch m content d s' ch' → AnswersHere max c h s ch m content d s' ch'
-open_here max c h s s' ch ch' m content d runs apart passed answers old new conn same turns =
+open_here max c h s s' ch ch' m content d runs distinct passed answers old new conn same turns =
     subst (λ (r : Option step.Refusal). Answers r s.topology (state_of s old) c h (Some (seen s ch)) m content d (state_of s' new))
-    (sym (number_passed s.topology (state_of s old) conn max h m (Some (seen s ch)) runs apart same passed)) (answers old new turns)
+    (sym (number_passed s.topology (state_of s old) conn max h m (Some (seen s ch)) runs distinct same passed)) (answers old new turns)
 
 -- and so for a command that is performed on its channel alone
 pub done_here : (max c h : ℕ) (s s' : Store) (ch ch' : Open) (m : Method) (content : Option Content) (r : Result Step Stop) (d : Result Done Stop) → d ≡ done_of r
     → ch.is_closing ≡ false → h ≢ 0 → refusal_of_number max h m ≡ None → Commands c h s ch m content r s' ch' → AnswersHere max c h s ch m content d s' ch'
-done_here max c h s s' ch ch' m content r d e runs apart passed comes = open_here max c h s s' ch ch' m content d runs apart passed (done_open c h s s' ch ch' m content r d e comes)
+done_here max c h s s' ch ch' m content r d e runs distinct passed comes = open_here max c h s s' ch ch' m content d runs distinct passed (done_open c h s s' ch ch' m content r d e comes)
 
 -- a rejection of one message comes to what a nack of it comes to
 pub as_nack : (c h : ℕ) (s s' : Store) (ch ch' : Open) (m : Reject) (n : Nack) (content : Option Content) (r : Result Step Stop) → n ≡ record { delivery_tag = m.delivery_tag; multiple = false; requeue = m.requeue }

@@ -1,5 +1,5 @@
 -- Who may take a message, and what a delivery leaves.
-use Rattle.commands.proofs.Names.{◌≡◌, ◌∙◌, ◌<◌, ℕ, List, [], ◌∷◌, false, Option, None, refl, sym, ap, subst, option_map, is_some, false≢true, same_Some, Text, IsIn, AreApart, queue_names, Broker, Channel, Connection, AreNamed, MayTake, CanDeliver, may_take, first_ready, delivery_notes, after_delivery, Is, deliver, Entry, Send, Note, queue_name, IsTaker, HasNoTaker, open_in, consumer_in, Store, entries_named, running_in, limits_of, connection_at, channel_in, channel_at, ArePlaced, Side, DeliversHere, GivesHere, seen, state_of, IsPick, IsPickFrom, IsKeptAs, TakesAs, TellsConsumer, TellsTaking, CannotTake, From, Kept, broker_of, topology_kept, names_of, Pick}
+use Rattle.commands.proofs.Names.{◌≡◌, ◌∙◌, ◌<◌, ℕ, List, [], ◌∷◌, false, Option, None, refl, sym, ap, subst, option_map, is_some, false≢true, same_Some, Text, IsIn, AreDistinct, queue_names, Broker, Channel, Connection, AreNamed, MayTake, CanDeliver, may_take, first_ready, delivery_notes, after_delivery, Is, deliver, Entry, Send, Note, queue_name, IsTaker, HasNoTaker, open_in, consumer_in, Store, entries_named, running_in, limits_of, connection_at, channel_in, channel_at, ArePlaced, Side, DeliversHere, GivesHere, seen, state_of, IsPick, IsPickFrom, IsKeptAs, TakesAs, ReturnsConsumer, ReturnsTaking, CannotTake, From, Kept, broker_of, topology_kept, names_of, Pick}
 use Rattle.std.proofs.Common.{Some, length}
 use Rattle.std.specs.Prelude.{IsSome}
 use Rattle.model.specs.Broker as view
@@ -7,7 +7,7 @@ use Rattle.model.specs.declared.messages.Taker.TheVariants as taker
 use Rattle.channels.specs.Open.{Open}
 use Rattle.channels.specs.declared.consumers.Consumer.{Consumer}
 use Rattle.channels.specs.RunningConnections.{Running}
-use Rattle.channels.specs.Consumers.{TellsOn, IsOneOn, consumer_numbered}
+use Rattle.channels.specs.Consumers.{ReturnsConsumerOn, IsOneOn, consumer_numbered}
 use Rattle.commands.proofs.GivenOut.{all_in}
 use Rattle.commands.proofs.Stepping.{seen_there}
 use Rattle.commands.proofs.Picking.{same_place}
@@ -16,7 +16,7 @@ use Rattle.commands.proofs.Placing.{takes_within}
 -- ---- who may take a message
 
 -- a consumer of the connection that may take one may take one, as the model has it
-pub tells_is : (kept : Kept) (p : Pick) (l : Running) (r : Option Consumer) → running_in kept.connections p.connection ≡ Some l → ArePlaced kept → TellsOn l p.channel p.number r → TellsConsumer kept p r
+pub tells_is : (kept : Kept) (p : Pick) (l : Running) (r : Option Consumer) → running_in kept.connections p.connection ≡ Some l → ArePlaced kept → ReturnsConsumerOn l p.channel p.number r → ReturnsConsumer kept p r
 tells_is kept p l (Some k) e placed t = record {
   channel = open_in (names_of kept) t.channel;
   taker = record {
@@ -42,12 +42,12 @@ tells_is kept p l None e placed t = λ ch k taker numbered.
     false≢true (sym none ∙ ap (λ (x : Channel). may_take x k) channel.same ∙ taker.may)
 
 -- where none is told none may take
-pub none_told : {B : Type 0} (f : B → Consumer) (kept : Kept) (p : Pick) (r : Option B) → is_some r ≡ false → TellsConsumer kept p (option_map f r) → CannotTake (broker_of kept) p
+pub none_told : {B : Type 0} (f : B → Consumer) (kept : Kept) (p : Pick) (r : Option B) → is_some r ≡ false → ReturnsConsumer kept p (option_map f r) → CannotTake (broker_of kept) p
 none_told f kept p None e t = t
 none_told f kept p (Some k) e t = absurd (false≢true (sym e))
 
 -- a consumer of the connection that may take one takes it from its queue
-pub takes_from : (kept : Kept) (p : Pick) (l : Running) (k : Consumer) → running_in kept.connections p.connection ≡ Some l → ArePlaced kept → TellsOn l p.channel p.number (Some k) → TellsTaking kept p (From k.queue)
+pub takes_from : (kept : Kept) (p : Pick) (l : Running) (k : Consumer) → running_in kept.connections p.connection ≡ Some l → ArePlaced kept → ReturnsConsumerOn l p.channel p.number (Some k) → ReturnsTaking kept p (From k.queue)
 takes_from kept p l k e placed t = (k, tells_is kept p l (Some k) e placed t, refl)
 
 -- and one that is there is kept, of its queue
@@ -84,15 +84,15 @@ ready_for kept p k t (made, at, numbered) =
     ap (λ (x : view.Consumer). first_ready ((broker_of kept).queue x.queue)) (sym one) ∙ made.first
 
 -- it is a consumer of the queue from which it is made
-pub same_queue : (kept : Kept) (place : ℕ) (p : Pick) (k : Consumer) → AreApart (queue_names (topology_kept kept).queues) → TakesAs kept p k → IsPickFrom kept place p → k.queue ≡ place
-same_queue kept place p k apart t from =
+pub same_queue : (kept : Kept) (place : ℕ) (p : Pick) (k : Consumer) → AreDistinct (queue_names (topology_kept kept).queues) → TakesAs kept p k → IsPickFrom kept place p → k.queue ≡ place
+same_queue kept place p k distinct t from =
     let made = from.pick.0 in
     let same : made.channel ≡ t.channel = same_Some made.channel t.channel (sym made.taker.there ∙ ap (λ (h : ℕ). (broker_of kept).channel p.connection h) from.pick.1 ∙ t.taker.there) in
     let one : made.consumer ≡ consumer_in (names_of kept) k = t.only made.consumer (subst (λ (x : Channel). IsIn made.consumer x.consumers) same made.taker.its) from.pick.2 in
-    same_place (topology_kept kept) k.queue place apart t.within from.within (sym (from.named ∙ ap (λ (x : view.Consumer). x.queue) one))
+    same_place (topology_kept kept) k.queue place distinct t.within from.within (sym (from.named ∙ ap (λ (x : view.Consumer). x.queue) one))
 
 -- none can be made where none may take a message
-pub none_picked : (kept : Kept) (p : Pick) → TellsConsumer kept p None → IsPick (broker_of kept) p → ⊥
+pub none_picked : (kept : Kept) (p : Pick) → ReturnsConsumer kept p None → IsPick (broker_of kept) p → ⊥
 none_picked kept p none (made, at, numbered) = none made.channel made.consumer (subst (λ (h : ℕ). MayTake (broker_of kept) p.connection h made.channel made.consumer) at made.taker) numbered
 
 -- ---- what a delivery leaves

@@ -12,7 +12,7 @@ module _ (old new : Broker) where
 
   -- where one is another now, each other runs still
   others_run : (c : ℕ) (x : Option Connection) → ((d : ℕ) → new.connection d ≡ with_one old.connection c x d) → OthersRunStill c old new
-  others_run c x is d apart none = go (d == c) apart (sym (is d) ∙ none)
+  others_run c x is d distinct none = go (d == c) distinct (sym (is d) ∙ none)
     where
       go : (v : Bool) → v ≡ false → (if v then x else old.connection d) ≡ None → old.connection d ≡ None
       go true f g = absurd (false≢true (sym f))
@@ -31,7 +31,7 @@ module _ (old new : Broker) where
     where
       go : (v : Bool) → (d == c) ≡ v → new.connection d ≡ None → old.connection d ≡ None
       go true at none = subst (λ (k : ℕ). old.connection k ≡ None) (sym (eqb-true d c at)) (own (sym (here c x) ∙ sym (is c) ∙ ap new.connection (sym (eqb-true d c at)) ∙ none))
-      go false apart none = others_run c x is d apart none
+      go false distinct none = others_run c x is d distinct none
 
   paused_run : (v : Bool) (o : Option Connection) → paused v o ≡ None → o ≡ None
   paused_run v None e = refl

@@ -1,5 +1,5 @@
 -- From which queue a delivery is made, and that it has something ready.
-use Rattle.commands.proofs.Names.{◌≡◌, ◌∙◌, ◌<◌, ℕ, zero, suc, List, [], ◌∷◌, Bool, true, false, cond, Option, None, get_or, filter, inl, inr, refl, sym, ap, subst, arith, is_some, IfSome, IfNone, bytes_eq, false≢true, bytes_eq-Decides, Text, Topology, IsIn, AreApart, queue_names, is_ready, listed, CanDeliver, first_ready, Entry, DeclaredQueue, queue_name, queue_at, HasReady, IsQueueNamed, IsNextReady, IsPickFrom, IsNextPicked, Kept, broker_of, topology_kept, names_of, Pick}
+use Rattle.commands.proofs.Names.{◌≡◌, ◌∙◌, ◌<◌, ℕ, zero, suc, List, [], ◌∷◌, Bool, true, false, cond, Option, None, get_or, filter, inl, inr, refl, sym, ap, subst, arith, is_some, IfSome, IfNone, bytes_eq, false≢true, bytes_eq-Decides, Text, Topology, IsIn, AreDistinct, queue_names, is_ready, listed, CanDeliver, first_ready, Entry, DeclaredQueue, queue_name, queue_at, HasReady, IsQueueNamed, IsNextReady, IsPickFrom, IsNextPicked, Kept, broker_of, topology_kept, names_of, Pick}
 use Rattle.std.proofs.Common.{Some, length, find, if◌then◌else◌}
 
 -- ---- names apart
@@ -9,28 +9,28 @@ name_in [] i lt = absurd (omega (arith, lt))
 name_in (n ∷ ns) zero lt = inl refl
 name_in (n ∷ ns) (suc i) lt = inr (name_in ns i (omega (arith, lt)))
 
-one_place : (names : List Text) (i j : ℕ) → AreApart names → i < length names → j < length names → get_or names i [] ≡ get_or names j [] → i ≡ j
-one_place [] i j apart h k e = absurd (omega (arith, h))
-one_place (x ∷ xs) zero zero apart h k e = refl
-one_place (x ∷ xs) zero (suc j) apart h k e = absurd (apart.0 (subst (λ (y : Text). IsIn y xs) (sym e) (name_in xs j (omega (arith, k)))))
-one_place (x ∷ xs) (suc i) zero apart h k e = absurd (apart.0 (subst (λ (y : Text). IsIn y xs) e (name_in xs i (omega (arith, h)))))
-one_place (x ∷ xs) (suc i) (suc j) apart h k e = ap suc (one_place xs i j apart.1 (omega (arith, h)) (omega (arith, k)) e)
+one_place : (names : List Text) (i j : ℕ) → AreDistinct names → i < length names → j < length names → get_or names i [] ≡ get_or names j [] → i ≡ j
+one_place [] i j distinct h k e = absurd (omega (arith, h))
+one_place (x ∷ xs) zero zero distinct h k e = refl
+one_place (x ∷ xs) zero (suc j) distinct h k e = absurd (distinct.0 (subst (λ (y : Text). IsIn y xs) (sym e) (name_in xs j (omega (arith, k)))))
+one_place (x ∷ xs) (suc i) zero distinct h k e = absurd (distinct.0 (subst (λ (y : Text). IsIn y xs) e (name_in xs i (omega (arith, h)))))
+one_place (x ∷ xs) (suc i) (suc j) distinct h k e = ap suc (one_place xs i j distinct.1 (omega (arith, h)) (omega (arith, k)) e)
 
 names_long : (qs : List DeclaredQueue) → length (queue_names qs) ≡ length qs
 names_long [] = refl
 names_long (q ∷ qs) = ap suc (names_long qs)
 
 -- two queues with one name have one index
-pub same_place : (t : Topology) (i j : ℕ) → AreApart (queue_names t.queues) → i < length t.queues → j < length t.queues → queue_name t i ≡ queue_name t j → i ≡ j
-same_place t i j apart h k e = let long = names_long t.queues in one_place (queue_names t.queues) i j apart (omega (arith, long, h)) (omega (arith, long, k)) e
+pub same_place : (t : Topology) (i j : ℕ) → AreDistinct (queue_names t.queues) → i < length t.queues → j < length t.queues → queue_name t i ≡ queue_name t j → i ≡ j
+same_place t i j distinct h k e = let long = names_long t.queues in one_place (queue_names t.queues) i j distinct (omega (arith, long, h)) (omega (arith, long, k)) e
 
 -- where a place is told for a name exactly where it is one of a queue, it is the queue's
-pub place_of_name : (t : Topology) (name : Text) (o : Option ℕ) (place : ℕ) → AreApart (queue_names t.queues) → IfSome o (λ i. i < length t.queues) → IfSome o (λ i. queue_name t i ≡ name)
+pub place_of_name : (t : Topology) (name : Text) (o : Option ℕ) (place : ℕ) → AreDistinct (queue_names t.queues) → IfSome o (λ i. i < length t.queues) → IfSome o (λ i. queue_name t i ≡ name)
     → IfNone o (IsIn name (queue_names t.queues) → ⊥) → place < length t.queues → queue_name t place ≡ name → o ≡ Some place
-place_of_name t name None place apart within told absent lt named =
+place_of_name t name None place distinct within reported absent lt named =
     let long = names_long t.queues in
     absurd (absent (subst (λ (n : Text). IsIn n (queue_names t.queues)) named (name_in (queue_names t.queues) place (omega (arith, long, lt)))))
-place_of_name t name (Some i) place apart within told absent lt named = ap (λ (n : ℕ). Some n) (same_place t i place apart within lt (told ∙ sym named))
+place_of_name t name (Some i) place distinct within reported absent lt named = ap (λ (n : ℕ). Some n) (same_place t i place distinct within lt (reported ∙ sym named))
 
 -- ---- the queue of a delivery
 

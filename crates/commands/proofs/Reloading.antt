@@ -1,5 +1,5 @@
 -- Another topology is in force: what it leaves of queues and channels, by names.
-use Rattle.commands.proofs.Names.{◌≡◌, ◌∙◌, ◌<◌, ℕ, zero, suc, List, [], ◌∷◌, get_or, map, Option, None, inl, inr, refl, sym, ap, subst, arith, option_map, All, AllByRecursion, same_Some, Text, Topology, IsIn, AreApart, queue_names, IsAgreed, IsInUse, by_entry, by_consumer, NoneIsOrphaned, stood_now, with_all_stood, Is, Entry, open_in, consumer_in, outstanding_in, Delivery, entries_named, stays, goes, AreMoved, GoneAreEmpty, names-length, is_in, channel_of, connection_of, seen_in, connections_moved, MovesAreUnseen, IsPlaced, same_default, Kept, ArePlaced, broker_of, topology_kept, names_of}
+use Rattle.commands.proofs.Names.{◌≡◌, ◌∙◌, ◌<◌, ℕ, zero, suc, List, [], ◌∷◌, get_or, map, Option, None, inl, inr, refl, sym, ap, subst, arith, option_map, All, AllByRecursion, same_Some, Text, Topology, IsIn, AreDistinct, queue_names, IsAgreed, IsInUse, by_entry, by_consumer, NoneIsOrphaned, survived_now, with_all_survived, Is, Entry, open_in, consumer_in, outstanding_in, Delivery, entries_named, stays, goes, AreMoved, GoneAreEmpty, names-length, is_in, channel_of, connection_of, seen_in, connections_moved, MovesAreUnseen, IsPlaced, same_default, Kept, ArePlaced, broker_of, topology_kept, names_of}
 use Rattle.std.proofs.Common.{length, Some}
 use Rattle.channels.specs.Open.{Open}
 use Rattle.channels.specs.Moving.{place_now, outstanding_moved, consumer_moved, open_moved, IsNamedAlike, AreNamedAlike}
@@ -29,12 +29,12 @@ in_mapped g x (y ∷ ys) (inl e) = inl (ap g e)
 in_mapped g x (y ∷ ys) (inr i) = inr (in_mapped g x ys i)
 
 -- a name has one index
-pub one_place : (names : List Text) (i j : ℕ) → AreApart names → i < length names → j < length names → get_or names i [] ≡ get_or names j [] → i ≡ j
-one_place [] i j apart l m e = absurd (omega (arith, l))
-one_place (n ∷ ns) zero zero apart l m e = refl
-one_place (n ∷ ns) zero (suc j) apart l m e = absurd (apart.0 (subst (λ (z : Text). IsIn z ns) (sym e) (is_in ns j (omega (arith, m)))))
-one_place (n ∷ ns) (suc i) zero apart l m e = absurd (apart.0 (subst (λ (z : Text). IsIn z ns) e (is_in ns i (omega (arith, l)))))
-one_place (n ∷ ns) (suc i) (suc j) apart l m e = ap suc (one_place ns i j apart.1 (omega (arith, l)) (omega (arith, m)) e)
+pub one_place : (names : List Text) (i j : ℕ) → AreDistinct names → i < length names → j < length names → get_or names i [] ≡ get_or names j [] → i ≡ j
+one_place [] i j distinct l m e = absurd (omega (arith, l))
+one_place (n ∷ ns) zero zero distinct l m e = refl
+one_place (n ∷ ns) zero (suc j) distinct l m e = absurd (distinct.0 (subst (λ (z : Text). IsIn z ns) (sym e) (is_in ns j (omega (arith, m)))))
+one_place (n ∷ ns) (suc i) zero distinct l m e = absurd (distinct.0 (subst (λ (z : Text). IsIn z ns) e (is_in ns i (omega (arith, l)))))
+one_place (n ∷ ns) (suc i) (suc j) distinct l m e = ap suc (one_place ns i j distinct.1 (omega (arith, l)) (omega (arith, m)) e)
 
 -- one of these is what one of those is seen as
 pub record IsSeenOf {X Y : Type 0} (f : X → Y) (y : Y) (xs : List X) : Type 0 where
@@ -128,7 +128,7 @@ module _ (old : Kept) (t : Topology) (places : List ℕ) (placed : ArePlaced old
   -- ---- what is seen
 
   pub all_stood : MovesAreUnseen → (new : Kept) → topology_kept new ≡ t → new.connections ≡ connections_moved places old.connections → new.store.published ≡ old.store.published
-      → ((q : Text) → entries_named new.store q ≡ map stood_now (entries_named old.store q)) → Is (with_all_stood (broker_of old)) (broker_of new)
+      → ((q : Text) → entries_named new.store q ≡ map survived_now (entries_named old.store q)) → Is (with_all_survived (broker_of old)) (broker_of new)
   all_stood unseen new e made published entries = record {
     counted = published;
     queues = entries;

@@ -83,7 +83,7 @@ module _ (old new : Broker) where
 
   -- the channels of one connection changed
   pub row_stays : (c : ℕ) (row : ℕ → Option Channel) → ((d l : ℕ) → new.channel d l ≡ with_row old.channel c row d l) → OtherConsumersStay c old new
-  row_stays c row is d l k apart (ch, at, i) = (ch, is d l ∙ ap (λ (v : Bool). if v then row l else old.channel d l) apart ∙ at, i)
+  row_stays c row is d l k distinct (ch, at, i) = (ch, is d l ∙ ap (λ (v : Bool). if v then row l else old.channel d l) distinct ∙ at, i)
 
   -- a connection is gone
   pub gone_stay : (c : ℕ) → Is (with_gone old c) new → OtherConsumersStay c old new
@@ -92,7 +92,7 @@ module _ (old new : Broker) where
   -- one channel changed
   module _ (c h : ℕ) (x : Option Channel) (is : (d l : ℕ) → new.channel d l ≡ with_pair old.channel c h x d l) where
     others_stay : (d l : ℕ) (k : Consumer) → (d == c && l == h) ≡ false → WasConsumer old d l k → WasConsumer new d l k
-    others_stay d l k apart (ch, at, i) = (ch, is d l ∙ ap (λ (v : Bool). if v then x else old.channel d l) apart ∙ at, i)
+    others_stay d l k distinct (ch, at, i) = (ch, is d l ∙ ap (λ (v : Bool). if v then x else old.channel d l) distinct ∙ at, i)
 
     is_now : new.channel c h ≡ x
     is_now = is c h ∙ ap (λ (v : Bool). if v && h == h then x else old.channel c h) (eq-eqb c c refl) ∙ ap (λ (v : Bool). if v then x else old.channel c h) (eq-eqb h h refl)
@@ -107,7 +107,7 @@ module _ (old new : Broker) where
             let d_is = eqb-true d c same.0 in
             let l_is = eqb-true l h same.1 in
             subst (λ (n : ℕ). WasConsumer new n l k) (sym d_is) (subst (λ (n : ℕ). WasConsumer new c n k) (sym l_is) (own k (subst (λ (n : ℕ). WasConsumer old c n k) l_is (subst (λ (n : ℕ). WasConsumer old n l k) d_is was))))
-        go false apart = others_stay d l k apart was
+        go false distinct = others_stay d l k distinct was
 
     -- a consumer has left that the channel no longer has
     one_leaves : (k : Consumer) → WasConsumer old c h k → (IsIn k (channel_or_new x).consumers → ⊥) → LeavesChannel c h old new
@@ -200,13 +200,13 @@ module _ (t : Topology) (old new : Broker) (c h : ℕ) (content : Option Content
 -- what is told of one that is performed on its channel alone
 pub performed_tells : (old new : Kept) (c h : ℕ) (m : Method) (content : Option Content) (s : Step) (v : Bool) → (opens_or_closes m ≡ true → ⊥) → v ≡ cancels_one (channel_on old c h) m
     → AnswersOn old c h m content (Some (Ok (Performed s))) new → TellsStayOn c h (ends_of v) (broker_of old) (broker_of new)
-performed_tells old new c h m content s v apart e (conn, at, judged) =
+performed_tells old new c h m content s v distinct e (conn, at, judged) =
     tells_on c h (broker_of old) (broker_of new) v
     (λ t. performed_leaves (topology_kept old) (broker_of old) (broker_of new) c h content s.sends.items s.notes.items m (sym e ∙ t) judged.1)
     (λ f. performed_stay (topology_kept old) (broker_of old) (broker_of new) c h content s.sends.items s.notes.items m (here (opens_or_closes m) refl) (sym e ∙ f) judged.1)
   where
     here : (b : Bool) → opens_or_closes m ≡ b → opens_or_closes m ≡ false
-    here true t = absurd (apart t)
+    here true t = absurd (distinct t)
     here false f = f
 
 -- ---- events
@@ -241,7 +241,7 @@ opening_tells t old new sends notes c max n false e p = stay
       where
         go : (b : Bool) → (d == c) ≡ b → WasConsumer new d l k
         go true at = absurd (false≢true (ap is_some (sym (none_open old c l (sym e)) ∙ ap (λ (x : ℕ). (broker_of old).channel x l) (sym (eqb-true d c at)) ∙ was.1)))
-        go false apart = row_stays (broker_of old) new c _ p.left.channels d l k apart was
+        go false distinct = row_stays (broker_of old) new c _ p.left.channels d l k distinct was
 
 -- a connection is closed, which is told
 pub closed_tells : (c h : ℕ) (old new : Broker) (r : Result Acted AllocError) → IfOk r (λ a. a.ends ≡ ended.Connection) → OnOk r (OtherConsumersStay c old new) → IfOk r (λ a. TellsStayOn c h a.ends old new)

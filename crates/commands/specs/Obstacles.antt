@@ -8,5 +8,5 @@ use Rattle.model.specs.declared.messages.User.{User}
 use Rattle.reloading.specs.Obstacles.{Judges}
 
 -- whatever users `new` has: `o` is the first obstacle to a reload from `old` to `new` and `gs`, or `None` if there is none
-abbrev pub TellsObstacle : Topology → Broker → Topology → List Guarantee → Option Obstacle → Type 0
-TellsObstacle old b new gs o = (users : List User) → Judges old (record { topology = new; guarantees = gs; users = users }) b o
+abbrev pub ReportsObstacle : Topology → Broker → Topology → List Guarantee → Option Obstacle → Type 0
+ReportsObstacle old b new gs o = (users : List User) → Judges old (record { topology = new; guarantees = gs; users = users }) b o

@@ -58,9 +58,9 @@ pub record TakesAs (kept : Kept) (p : Pick) (k : Consumer) : Type 0 where
   pub within : k.queue < length (topology_kept kept).queues
 
 -- the result is the consumer if it can take a message now, and `None` if it can't
-abbrev pub TellsConsumer : Kept → Pick → Option Consumer → Type 0
-TellsConsumer kept p (Some k) = TakesAs kept p k
-TellsConsumer kept p None = CannotTake (broker_of kept) p
+abbrev pub ReturnsConsumer : Kept → Pick → Option Consumer → Type 0
+ReturnsConsumer kept p (Some k) = TakesAs kept p k
+ReturnsConsumer kept p None = CannotTake (broker_of kept) p
 
 -- `k` is the consumer `p`; it takes from a queue that exists, and no other consumer has its numbers.
 pub record IsKeptAs (kept : Kept) (p : Pick) (k : Consumer) : Type 0 where
@@ -74,7 +74,7 @@ pub record IsKeptAs (kept : Kept) (p : Pick) (k : Consumer) : Type 0 where
 
 -- The consumer doesn't exist; or it takes from the queue at this index, and can't take a message now; or it can take a message from the queue at
 -- this index.
-abbrev pub TellsTaking : Kept → Pick → Taking → Type 0
-TellsTaking kept p Gone = (has_consumer kept p ≡ false) × CannotTake (broker_of kept) p
-TellsTaking kept p (Nothing place) = (k : Consumer) × IsKeptAs kept p k × (k.queue ≡ place) × CannotTake (broker_of kept) p
-TellsTaking kept p (From place) = (k : Consumer) × TakesAs kept p k × (k.queue ≡ place)
+abbrev pub ReturnsTaking : Kept → Pick → Taking → Type 0
+ReturnsTaking kept p Gone = (has_consumer kept p ≡ false) × CannotTake (broker_of kept) p
+ReturnsTaking kept p (Nothing place) = (k : Consumer) × IsKeptAs kept p k × (k.queue ≡ place) × CannotTake (broker_of kept) p
+ReturnsTaking kept p (From place) = (k : Consumer) × TakesAs kept p k × (k.queue ≡ place)

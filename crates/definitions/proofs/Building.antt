@@ -1,5 +1,5 @@
 -- Entries that are clear of all causes set up a topology that is built.
-use Rattle.definitions.proofs.Imports.{◌≡◌, zero, suc, List, [], ◌∷◌, Option, Some, None, Vec, Global, map, subst, arith, All, MatchOption, Topology, User, IsBuildable, KeyHasExchange, Repeated, Absent, Unsupported, Worded, TooMany, NoExchange, OtherHash, Memory, UserEntry, File, HasAllJoin, HasAllWorded, HasFew, HasNamesApart, HasNamesLead, IsClearBelow, IsPlainQueue, IsSupported, queue_of, topology_of, AreHashed, IsSettled, below_next}
+use Rattle.definitions.proofs.Imports.{◌≡◌, zero, suc, List, [], ◌∷◌, Option, Some, None, Vec, Global, map, subst, arith, All, MatchOption, Topology, User, IsBuildable, KeyHasExchange, Repeated, Absent, Unsupported, Worded, TooMany, NoExchange, OtherHash, Memory, UserEntry, File, HasAllJoin, HasAllWorded, HasFew, HasDistinctNames, HasNamesLead, IsClearBelow, IsPlainQueue, IsSupported, queue_of, topology_of, AreHashed, IsSettled, below_next}
 use Rattle.definitions.specs.declared.document.QueueEntry.{QueueEntry}
 use Rattle.definitions.proofs.Order.{IsClearOf}
 
@@ -13,14 +13,14 @@ all_as P Q xs f a = λ k d h. f _ (a k d h)
 
 pub buildable : (f : File) → IsClearBelow 13 f → IsBuildable (topology_of f)
 buildable f c =
-    let apart : HasNamesApart f = c Repeated (omega arith) in
+    let distinct : HasDistinctNames f = c Repeated (omega arith) in
     let join : HasAllJoin f = c Absent (omega arith) in
     let plain : IsSupported f = c Unsupported (omega arith) in
     let worded : HasAllWorded f = c Worded (omega arith) in
     let few : HasFew f = c TooMany (omega arith) in
     let lead : HasNamesLead f = c NoExchange (omega arith) in
     record {
-      apart = apart.topology;
+      distinct = distinct.topology;
       join = join;
       keys = all_map KeyHasExchange queue_of f.queues (all_as IsPlainQueue (λ (q : QueueEntry). KeyHasExchange (queue_of q)) f.queues (λ q p. p.key) plain.queues);
       worded = worded.topology;

@@ -1,8 +1,8 @@
 -- The names that several files of these proofs use.
-pub use Rattle.definitions.specs.Causes.{HasAllJoin, HasAllWorded, HasFew, HasNamesApart, HasNamesLead, HasPermissions, IsClear, IsClearBelow, IsOfUser, IsPermitted, IsPlainQueue, IsSupported, PermitsAll, permission_names, user_names}
+pub use Rattle.definitions.specs.Causes.{HasAllJoin, HasAllWorded, HasFew, HasDistinctNames, HasNamesLead, HasPermissions, IsClear, IsClearBelow, IsOfUser, IsPermitted, IsPlainQueue, IsSupported, PermitsAll, permission_names, user_names}
 pub use Rattle.definitions.specs.File.{File, entries_at, file_of}
 pub use Rattle.definitions.specs.Hashed.{AreHashed}
-pub use Rattle.definitions.specs.Judged.{IsSettled, StatesOrTells}
+pub use Rattle.definitions.specs.Judged.{IsSettled, StatesOrReports}
 pub use Rattle.definitions.specs.Shape.{exchange_entry_at, permission_entry_at, plain_at, queue_entry_at, user_entry_at}
 pub use Rattle.definitions.specs.States.{hash_of, queue_of, topology_of, user_of}
 pub use Rattle.definitions.specs.declared.document.UserEntry.{UserEntry}
@@ -12,7 +12,7 @@ pub use Rattle.json_file.proofs.Refused.{AskNothing, free_of, refused, refused_u
 pub use Rattle.json_file.specs.Members.{optional_number_member, optional_text_member, text_member}
 pub use Rattle.json_file.specs.declared.causes.FileCause.{FileCause}
 pub use Rattle.json_file.specs.declared.causes.FileCause.TheVariants.{Absent, Malformed, Memory, NoExchange, NotJson, OtherHash, Repeated, TooMany, Unsupported, Worded}
-pub use Rattle.model.specs.Topology.{AreApart, Topology}
+pub use Rattle.model.specs.Topology.{AreDistinct, Topology}
 pub use Rattle.model.specs.Words.{Text}
 pub use Rattle.model.specs.declared.messages.User.{User}
 pub use Rattle.serde_json.specs.View.{view}

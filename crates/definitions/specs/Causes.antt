@@ -2,8 +2,8 @@
 -- what isn't supported, are own.
 use Rattle.std.specs.Prelude.{codes, ◌≡◌, ◌≤◌, ℕ, List, true, false, Some, None, IsSome, map, length, All, ◌⊎◌}
 use Rattle.model.specs.Words.{Text}
-use Rattle.model.specs.Topology.{AreApart, IsIn}
-use Rattle.topology_drafts.specs.Causes.{AllJoin, AllWorded, IsSmall, NamesApart, NamesLead}
+use Rattle.model.specs.Topology.{AreDistinct, IsIn}
+use Rattle.topology_drafts.specs.Causes.{AllJoin, AllWorded, IsSmall, NamesAreDistinct, NamesLead}
 use Rattle.definitions.specs.declared.document.VhostEntry.{VhostEntry}
 use Rattle.definitions.specs.declared.document.UserEntry.{UserEntry}
 use Rattle.definitions.specs.declared.document.PermissionEntry.{PermissionEntry}
@@ -13,7 +13,7 @@ use Rattle.definitions.specs.declared.document.BindingEntry.{BindingEntry}
 use Rattle.json_file.specs.declared.causes.FileCause.{FileCause}
 use Rattle.json_file.specs.declared.causes.FileCause.TheVariants.{OtherVhost, Repeated, Absent, OtherType, Unsupported}
 use Rattle.json_file.specs.declared.causes.FileCause.TheVariants.{NoOverflow, Worded, TooMany, NoExchange, OtherPermission, OtherHash}
-use Rattle.json_file.specs.Files.{AllClearBelow, IsCauseTold}
+use Rattle.json_file.specs.Files.{AllClearBelow, IsCauseReported}
 use Rattle.definitions.specs.File.{File}
 use Rattle.definitions.specs.States.{hash_of, kind_named, topology_of}
 
@@ -41,9 +41,9 @@ pub record HasOneVhost (f : File) : Type 0 where
 -- ---- 4: distinct names
 
 -- no two users have the same name, no two queues, and no two exchanges
-pub record HasNamesApart (f : File) : Type 0 where
-  pub users : AreApart (user_names f)
-  pub topology : NamesApart (topology_of f)
+pub record HasDistinctNames (f : File) : Type 0 where
+  pub users : AreDistinct (user_names f)
+  pub topology : NamesAreDistinct (topology_of f)
 
 -- ---- 5: the ends of bindings
 
@@ -140,7 +140,7 @@ pub record IsOfUser (names : List Text) (p : PermissionEntry) : Type 0 where
 -- each user has exactly one permission, each permission is of a user, and each allows configuring nothing, and writing and reading everything
 pub record HasPermissions (f : File) : Type 0 where
   pub whole : All PermitsAll f.permissions
-  pub apart : AreApart (permission_names f)
+  pub distinct : AreDistinct (permission_names f)
   pub each : All (IsPermitted (permission_names f)) f.users
   pub known : All (IsOfUser (user_names f)) f.permissions
 
@@ -155,7 +155,7 @@ HasHashes f = All (λ (u : UserEntry). IsSome (hash_of u)) f.users
 -- this cause does not apply to the file
 abbrev pub IsClear : FileCause → File → Type 0
 IsClear OtherVhost f = HasOneVhost f
-IsClear Repeated f = HasNamesApart f
+IsClear Repeated f = HasDistinctNames f
 IsClear Absent f = HasAllJoin f
 IsClear OtherType f = HasTypes f
 IsClear Unsupported f = IsSupported f
@@ -172,5 +172,5 @@ abbrev pub IsClearBelow : ℕ → File → Type 0
 IsClearBelow n f = AllClearBelow (λ (bad : FileCause). IsClear bad f) n
 
 -- the reported cause is the lowest-numbered one that applies; a report of an allocation failure promises nothing
-abbrev pub IsTold : FileCause → File → Type 0
-IsTold bad f = IsCauseTold (λ (lower : FileCause). IsClear lower f) bad
+abbrev pub IsReported : FileCause → File → Type 0
+IsReported bad f = IsCauseReported (λ (lower : FileCause). IsClear lower f) bad

@@ -4,7 +4,7 @@ use Rattle.json_file.specs.declared.causes.FileCause.{FileCause}
 use Rattle.json_file.specs.Files.{IsUnreadFile}
 use Rattle.definitions.specs.declared.document.Document.{Document}
 use Rattle.definitions.specs.File.{File, file_at, file_of}
-use Rattle.definitions.specs.Causes.{IsClearBelow, IsTold}
+use Rattle.definitions.specs.Causes.{IsClearBelow, IsReported}
 use Rattle.definitions.specs.States.{topology_of, users_of}
 use Rattle.definitions.specs.Reads.{IsDefinitionsFile, Stated}
 
@@ -16,7 +16,7 @@ OpensDefinitions (Err bad) bytes = IsUnreadFile file_at bad bytes
 -- no cause below 13 applies to the entries, or the reported one is the lowest-numbered one that does
 abbrev pub JudgesFile : Result ⊤ FileCause → File → Type 0
 JudgesFile (Ok done) f = IsClearBelow 13 f
-JudgesFile (Err bad) f = IsTold bad f
+JudgesFile (Err bad) f = IsReported bad f
 
 -- no cause below 15 applies to the entries, and `s` has the topology and the users that they set up
 pub record IsSettled (s : Stated) (f : File) : Type 0 where
@@ -25,6 +25,6 @@ pub record IsSettled (s : Stated) (f : File) : Type 0 where
   pub users : s.users ≡ users_of f
 
 -- the entries are accepted, and what they set up is returned; or the reported cause is the lowest-numbered one that applies
-abbrev pub StatesOrTells : Result Stated FileCause → File → Type 0
-StatesOrTells (Ok s) f = IsSettled s f
-StatesOrTells (Err bad) f = IsTold bad f
+abbrev pub StatesOrReports : Result Stated FileCause → File → Type 0
+StatesOrReports (Ok s) f = IsSettled s f
+StatesOrReports (Err bad) f = IsReported bad f

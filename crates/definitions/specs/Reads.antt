@@ -3,7 +3,7 @@ use Rattle.std.specs.Prelude.{◌≡◌, ℕ, List, Result, Ok, Err}
 use Rattle.model.specs.Topology.{Topology}
 use Rattle.model.specs.declared.messages.User.{User}
 use Rattle.json_file.specs.declared.causes.FileCause.{FileCause}
-use Rattle.json_file.specs.Files.{IsCauseTold, IsFileOf, IsFreeOf, IsLeastCause}
+use Rattle.json_file.specs.Files.{IsCauseReported, IsFileOf, IsFreeOf, IsLeastCause}
 use Rattle.definitions.specs.File.{File, file_at}
 use Rattle.definitions.specs.Causes.{IsClear}
 use Rattle.definitions.specs.States.{topology_of, users_of}
@@ -22,7 +22,7 @@ IsFirst bad bytes = IsLeastCause (IsFreeOf file_at IsClear bytes) bad
 
 -- a file is refused by its lowest-numbered cause; a refusal for an allocation failure promises nothing
 abbrev pub IsRefused : FileCause → List ℕ → Type 0
-IsRefused bad bytes = IsCauseTold (IsFreeOf file_at IsClear bytes) bad
+IsRefused bad bytes = IsCauseReported (IsFreeOf file_at IsClear bytes) bad
 
 -- the topology and the users that a file sets up
 pub record Stated : Type 0 where

@@ -2,7 +2,7 @@
 
 ghost use Rattle.std.specs.Prelude.{codes, ◌≡◌, ◌⊎◌, All, Decides, List, ℕ, Some, None};
 ghost use Rattle.definitions.specs.States.{kind_named, topology_of};
-ghost use Rattle.definitions.specs.Causes.{HasAllJoin, HasAllWorded, HasFew, HasNamesApart, HasNamesLead, HasOneVhost, HasOverflows, HasPermissions};
+ghost use Rattle.definitions.specs.Causes.{HasAllJoin, HasAllWorded, HasFew, HasDistinctNames, HasNamesLead, HasOneVhost, HasOverflows, HasPermissions};
 ghost use Rattle.definitions.specs.Causes.{HasTypes, IsOfUser, IsPermitted, IsPlainBinding, IsPlainExchange, IsPlainQueue, IsShortName, IsSupported};
 ghost use Rattle.definitions.specs.Causes.{PermitsAll, SaysOverflow, permission_names, user_names};
 ghost use Rattle.definitions.specs.File.{file_of};
@@ -47,17 +47,17 @@ pub fn has_one_vhost(document: &Document) -> bool
 // ---- 4: distinct names
 
 /// Returns whether no two users, no two queues and no two exchanges have the same name.
-pub fn has_names_apart(
+pub fn has_distinct_names(
     document: &Document,
     users: &Directory<'_, UserEntry>,
     draft: &Draft<'_>,
 ) -> bool
     requires users { users.now ≡ user_names (file_of document.now) }
     requires draft { draft.now ≡ topology_of (file_of document.now) }
-    ensures { Decides result (HasNamesApart (file_of document.now)) }
+    ensures { Decides result (HasDistinctNames (file_of document.now)) }
 {
     let _document = document;
-    users.is_apart() && draft.is_apart()
+    users.is_distinct() && draft.is_distinct()
 }
 
 // ---- 5: the ends of bindings
@@ -288,10 +288,10 @@ fn permissions_fit(
     ensures { Decides result (HasPermissions (file_of document.now)) }
 {
     let whole = all_permit_all(document.permissions.as_slice());
-    let apart = permitted.is_apart();
+    let distinct = permitted.is_distinct();
     let each = are_permitted(permitted, document.users.as_slice());
     let known = are_of_users(users, document.permissions.as_slice());
-    whole & apart & each & known
+    whole & distinct & each & known
 }
 
 /// Returns whether each user has exactly one permission, each permission is of a user, and each allows configuring nothing, and writing and reading everything.

@@ -2,7 +2,7 @@
 
 ghost use Rattle.std.specs.Prelude.{◌≡◌};
 ghost use Rattle.definitions.specs.File.{file_of};
-ghost use Rattle.definitions.specs.Judged.{OpensDefinitions, StatesOrTells};
+ghost use Rattle.definitions.specs.Judged.{OpensDefinitions, StatesOrReports};
 ghost use Rattle.definitions.specs.Reads.{ReadsDefinitions};
 
 use crate::document::Document;
@@ -79,7 +79,7 @@ fn open(alloc: Global, bytes: &[u8]) -> Result<Document, FileCause>
 /// Checks the entries, and returns what they set up. Fails with the lowest-numbered cause that applies to them, or with
 /// [`FileCause::Memory`] if an allocation fails.
 fn set_up(alloc: Global, document: &Document) -> Result<Definitions, FileCause>
-    ensures { StatesOrTells result (file_of document.now) }
+    ensures { StatesOrReports result (file_of document.now) }
 {
     let parts = Parts::of(alloc, document)?;
     check_entries(alloc, document, &parts)?;

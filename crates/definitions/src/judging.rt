@@ -3,13 +3,13 @@
 
 ghost use Rattle.std.specs.Prelude.{◌≡◌, ◌+◌, ◌<◌, Decides, MatchResult};
 ghost use Rattle.json_file.specs.Causes.{cause_number};
-ghost use Rattle.definitions.specs.Causes.{IsClear, IsClearBelow, IsTold};
+ghost use Rattle.definitions.specs.Causes.{IsClear, IsClearBelow, IsReported};
 ghost use Rattle.definitions.specs.File.{file_of};
 ghost use Rattle.definitions.specs.Judged.{JudgesFile};
 ghost use Rattle.definitions.specs.States.{topology_of};
 
 use crate::causes::{
-    has_all_join, has_all_worded, has_few, has_names_apart, has_names_lead, has_one_vhost,
+    has_all_join, has_all_worded, has_distinct_names, has_few, has_names_lead, has_one_vhost,
     has_overflows, has_permissions, has_types, is_supported,
 };
 use crate::document::{Document, UserEntry};
@@ -47,7 +47,7 @@ impl<'a> Entries<'a> {
     {
         match cause {
             FileCause::OtherVhost => has_one_vhost(self.document),
-            FileCause::Repeated => has_names_apart(self.document, self.users, self.draft),
+            FileCause::Repeated => has_distinct_names(self.document, self.users, self.draft),
             FileCause::Absent => has_all_join(self.document, self.draft),
             FileCause::OtherType => has_types(self.document),
             FileCause::Unsupported => is_supported(self.document),
@@ -64,7 +64,7 @@ impl<'a> Entries<'a> {
     fn tell(&self, cause: FileCause) -> Result<(), FileCause>
         requires asked { cause_number cause < 13 }
         requires below { IsClearBelow (cause_number cause) self.now }
-        ensures { MatchResult result (λ _. IsClearBelow (cause_number cause + 1) self.now) (λ bad. IsTold bad self.now) }
+        ensures { MatchResult result (λ _. IsClearBelow (cause_number cause + 1) self.now) (λ bad. IsReported bad self.now) }
     {
         if self.is_clear(cause) {
             Ok(())

@@ -1,5 +1,5 @@
 -- A queue that is not there has no entries, and nothing that is done to it changes any other.
-use Rattle.depot.proofs.Names.{◌≡◌, List, [], ◌∷◌, ◌++◌, refl, sym, ap, subst, ◌∙◌, Bool, true, false, cond, None, inl, inr, filter, bytes_eq, append-nil, bytes_eq-Decides, Text, Topology, queue_names, IsIn, listed, is_ready, with_queue, ready_in, purge_notes, Entry, Note, Store, entries_named, IsTakenFrom, TellsArrival, given_so, given_notes, IsPurgedBy}
+use Rattle.depot.proofs.Names.{◌≡◌, List, [], ◌∷◌, ◌++◌, refl, sym, ap, subst, ◌∙◌, Bool, true, false, cond, None, inl, inr, filter, bytes_eq, append-nil, bytes_eq-Decides, Text, Topology, queue_names, IsIn, listed, is_ready, with_queue, ready_in, purge_notes, Entry, Note, Store, entries_named, IsTakenFrom, ReturnsArrival, given_so, given_notes, IsPurgedBy}
 use Rattle.std.proofs.Common.{find, not}
 use Rattle.depot.specs.declared.givings.Giving.{Giving}
 use Rattle.depot.specs.declared.givings.Giving.TheVariants.{Held, Out}
@@ -39,12 +39,12 @@ taken_absent s name how none = record {
 }
 
 -- nothing is told of it, and nothing noted
-tells_none : (how : Giving) → TellsArrival how None None
+tells_none : (how : Giving) → ReturnsArrival how None None
 tells_none (Held holder) = refl
 tells_none (Out queue) = refl
 
-pub told_absent : (s : Store) (name : Text) (how : Giving) → entries_named s name ≡ [] → TellsArrival how (find is_ready (entries_named s name)) None
-told_absent s name how none = subst (λ (es : List Entry). TellsArrival how (find is_ready es) None) (sym none) (tells_none how)
+pub told_absent : (s : Store) (name : Text) (how : Giving) → entries_named s name ≡ [] → ReturnsArrival how (find is_ready (entries_named s name)) None
+told_absent s name how none = subst (λ (es : List Entry). ReturnsArrival how (find is_ready es) None) (sym none) (tells_none how)
 
 no_note : (how : Giving) → given_notes how None ≡ []
 no_note (Held holder) = refl
@@ -57,7 +57,7 @@ noted_absent s name how notes none =
 -- and nothing is purged
 pub purged_absent : (s : Store) (name : Text) (notes : List Note) → entries_named s name ≡ [] → IsPurgedBy s name notes notes 0 s
 purged_absent s name notes none = record {
-  told = sym (ap ready_in none);
+  reported = sym (ap ready_in none);
   noted = sym (append-nil notes) ∙ ap (λ (es : List Entry). notes ++ purge_notes name (filter is_ready es)) (sym none);
   queues = λ q. stays s name q none ∙ ap (λ (es : List Entry). with_queue (entries_named s) name (filter (λ (e : Entry). not (is_ready e)) es) q) (sym none);
   counted = refl;

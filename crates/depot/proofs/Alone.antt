@@ -16,8 +16,8 @@ one_target (place ∷ other ∷ more) one = absurd (omega (arith, one))
 
 -- the places that a route tells
 pub targets_here : (t here : Topology) (exchange key : Text) (places : List ℕ) (r : Route) → here ≡ t → places ≡ r.targets.items → IsRoute t exchange key r → AreTargets here exchange key places
-targets_here t here exchange key places r same told route =
-    subst (λ (u : Topology). AreTargets u exchange key places) (sym same) (subst (AreTargets t exchange key) (sym told) route.targets)
+targets_here t here exchange key places r same reported route =
+    subst (λ (u : Topology). AreTargets u exchange key places) (sym same) (subst (AreTargets t exchange key) (sym reported) route.targets)
 
 -- the one turn of a publish is taken
 pub one_enters : (t : Topology) (p : Publish) (m : Message) (place : ℕ) (first : Note) (before pushed after : List Note) (declared : List DeclaredQueue) (old mid new : List (List Entry)) (turn : PlannedTurn) (full : Bool)

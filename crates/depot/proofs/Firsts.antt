@@ -52,14 +52,14 @@ count-filter {A} p q (x ∷ xs) = go (q x) (count-filter p q xs)
 
 -- the first that passes is found as well where others are taken out
 pub find-filter : {A : Type 0} (p q : A → Bool) → ((x : A) → p x ≡ true → q x ≡ false) → (xs : List A) → find p (filter (λ x. not (q x)) xs) ≡ find p xs
-find-filter p q apart [] = refl
-find-filter {A} p q apart (x ∷ xs) = go (p x) refl (q x) refl (find-filter p q apart xs)
+find-filter p q distinct [] = refl
+find-filter {A} p q distinct (x ∷ xs) = go (p x) refl (q x) refl (find-filter p q distinct xs)
   where
     rest : List A
     rest = filter (λ y. not (q y)) xs
 
     go : (v : Bool) → p x ≡ v → (w : Bool) → q x ≡ w → find p rest ≡ find p xs → find p (cond (not w) (x ∷ rest) rest) ≡ cond v (Some x) (find p xs)
-    go true e true f more = absurd (false≢true (sym (apart x e) ∙ f))
+    go true e true f more = absurd (false≢true (sym (distinct x e) ∙ f))
     go true e false f more = ap (λ (b : Bool). cond b (Some x) (find p rest)) e
     go false e true f more = more
     go false e false f more = ap (λ (b : Bool). cond b (Some x) (find p rest)) e ∙ more

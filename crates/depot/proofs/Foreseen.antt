@@ -23,9 +23,9 @@ pub turn_foreseen : (qs : List DeclaredQueue) (old : List (List Entry)) (from to
     → to.arrivals ≡ from.arrivals ++ arrivals_at place (taken_if full letter) → to.notes ≡ from.notes ++ (outcome_of way.Dead name full letter place).note ∷ []
     → Foresees qs old letter (place ∷ []) from to
 turn_foreseen qs old from to letter place size full name tells long named came noted entries are =
-    let told : full ≡ is_full_at qs entries place (length letter.content.body) = (tells entries).told are ∙ ap (is_full_at qs entries place) (sym long) in
+    let reported : full ≡ is_full_at qs entries place (length letter.content.body) = (tells entries).reported are ∙ ap (is_full_at qs entries place) (sym long) in
     subst (λ (n : Text). ForeseesOutcomes qs old (outcome_of way.Dead n (is_full_at qs entries place (length letter.content.body)) letter place ∷ []) entries from to) named
-    (subst (λ (f : Bool). ForeseesOutcomes qs old (outcome_of way.Dead name f letter place ∷ []) entries from to) told
+    (subst (λ (f : Bool). ForeseesOutcomes qs old (outcome_of way.Dead name f letter place ∷ []) entries from to) reported
     (go full ((tells entries).tallied are letter long) came noted))
   where
     go : (f : Bool) → AreTallied qs old to.tallies (set entries place (get_or entries place [] ++ arriving (taken_if f letter))) → to.arrivals ≡ from.arrivals ++ arrivals_at place (taken_if f letter)

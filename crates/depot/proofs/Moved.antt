@@ -1,5 +1,5 @@
 -- Queues taken over, place by place and by their names.
-use Rattle.depot.proofs.Names.{◌≡◌, ℕ, zero, suc, ◌+◌, ◌<◌, ◌≤◌, List, [], ◌∷◌, ◌++◌, length, get_or, set, map, drop, refl, sym, ap, subst, ◌∙◌, arith, Bool, true, false, cond, inl, inr, bytes_eq, bytes_eq-Decides, false≢true, leb_tells, length-append, length-set, length-replicate, Text, IsIn, AreApart, queue_names, DeclaredQueue, listed, stood_now, Entry, IsMoved, stays, goes, AreMoved, GoneAreEmpty, taken, Line, Store, entries_named, entries_of}
+use Rattle.depot.proofs.Names.{◌≡◌, ℕ, zero, suc, ◌+◌, ◌<◌, ◌≤◌, List, [], ◌∷◌, ◌++◌, length, get_or, set, map, drop, refl, sym, ap, subst, ◌∙◌, arith, Bool, true, false, cond, inl, inr, bytes_eq, bytes_eq-Decides, false≢true, leb_tells, length-append, length-set, length-replicate, Text, IsIn, AreDistinct, queue_names, DeclaredQueue, listed, survived_now, Entry, IsMoved, stays, goes, AreMoved, GoneAreEmpty, taken, Line, Store, entries_named, entries_of}
 use Rattle.std.specs.Prelude.{replicate}
 use Rattle.depot.proofs.Changes.{entries_of-set}
 use Rattle.depot.proofs.Naming.{names-length, same_name, other_name, is_in, listed_at}
@@ -51,14 +51,14 @@ all_empty (x ∷ ns) (suc n) q = go (bytes_eq x q) (all_empty ns n q)
 
 -- one more is taken over
 pub taken_next : (places : List ℕ) (olds news : List (List Entry)) (i : ℕ) → i < length places → length places ≡ length olds
-    → taken (drop i places) (drop i olds) news ≡ taken (drop (i + 1) places) (drop (i + 1) olds) (set news (get_or places i 0) (map stood_now (get_or olds i [])))
+    → taken (drop i places) (drop i olds) news ≡ taken (drop (i + 1) places) (drop (i + 1) olds) (set news (get_or places i 0) (map survived_now (get_or olds i [])))
 taken_next [] olds news i lt len = absurd (omega (arith, lt))
 taken_next (p ∷ ps) [] news i lt len = absurd (omega (arith, len))
 taken_next (p ∷ ps) (es ∷ olds) news zero lt len = refl
 taken_next (p ∷ ps) (es ∷ olds) news (suc i) lt len =
     let step : suc (i + 1) ≡ suc i + 1 = omega arith in
     taken_next ps olds news i (omega (arith, lt)) (omega (arith, len))
-    ∙ ap (λ (n : ℕ). taken (drop n (p ∷ ps)) (drop n (es ∷ olds)) (set news (get_or ps i 0) (map stood_now (get_or olds i [])))) step
+    ∙ ap (λ (n : ℕ). taken (drop n (p ∷ ps)) (drop n (es ∷ olds)) (set news (get_or ps i 0) (map survived_now (get_or olds i [])))) step
 
 -- The queue is at the index of its name, or is gone and has no entry.
 data IsTaken (names : List Text) (q : Text) (p : ℕ) (entries : List Entry) : Type 0 where
@@ -74,14 +74,14 @@ AreTaken names ns ps olds = ⊥
 abbrev listed_or : List Text → List (List Entry) → Text → List Entry → List Entry
 listed_or [] lists q d = d
 listed_or (n ∷ ns) [] q d = d
-listed_or (n ∷ ns) (es ∷ lists) q d = cond (bytes_eq n q) (map stood_now es) (listed_or ns lists q d)
+listed_or (n ∷ ns) (es ∷ lists) q d = cond (bytes_eq n q) (map survived_now es) (listed_or ns lists q d)
 
-or_nothing : (names : List Text) (lists : List (List Entry)) (q : Text) → listed_or names lists q [] ≡ map stood_now (listed names lists q)
+or_nothing : (names : List Text) (lists : List (List Entry)) (q : Text) → listed_or names lists q [] ≡ map survived_now (listed names lists q)
 or_nothing [] lists q = refl
 or_nothing (n ∷ ns) [] q = refl
 or_nothing (n ∷ ns) (es ∷ lists) q = go (bytes_eq n q) (or_nothing ns lists q)
   where
-    go : (v : Bool) → listed_or ns lists q [] ≡ map stood_now (listed ns lists q) → cond v (map stood_now es) (listed_or ns lists q []) ≡ map stood_now (cond v es (listed ns lists q))
+    go : (v : Bool) → listed_or ns lists q [] ≡ map survived_now (listed ns lists q) → cond v (map survived_now es) (listed_or ns lists q []) ≡ map survived_now (cond v es (listed ns lists q))
     go true e = refl
     go false e = e
 
@@ -91,37 +91,37 @@ or_unlisted (n ∷ ns) [] q d not = refl
 or_unlisted (n ∷ ns) (es ∷ lists) q d not = rw (other_name n q (λ e. not (inl (sym e)))) (or_unlisted ns lists q d (λ i. not (inr i)))
 
 -- the queue that is moved has its entries, each marked as one that the reload found
-here_taken : (names : List Text) (n : Text) (p : ℕ) (es : List Entry) (news : List (List Entry)) → AreApart names → length news ≡ length names → IsTaken names n p es → listed names (set news p (map stood_now es)) n ≡ map stood_now es
-here_taken names n p es news apart len (kept lt is) =
-    let now : List Entry = map stood_now es in
-    listed-put names news p now n apart (sym len) lt ∙ ap (λ (b : Bool). cond b now (listed names news n)) (subst (λ (z : Text). bytes_eq (get_or names p []) z ≡ true) is (same_name (get_or names p [])))
-here_taken names n p es news apart len (gone not behind none) = unlisted names (set news p (map stood_now es)) n not ∙ ap (λ (xs : List Entry). map stood_now xs) (sym none)
+here_taken : (names : List Text) (n : Text) (p : ℕ) (es : List Entry) (news : List (List Entry)) → AreDistinct names → length news ≡ length names → IsTaken names n p es → listed names (set news p (map survived_now es)) n ≡ map survived_now es
+here_taken names n p es news distinct len (kept lt is) =
+    let now : List Entry = map survived_now es in
+    listed-put names news p now n distinct (sym len) lt ∙ ap (λ (b : Bool). cond b now (listed names news n)) (subst (λ (z : Text). bytes_eq (get_or names p []) z ≡ true) is (same_name (get_or names p [])))
+here_taken names n p es news distinct len (gone not behind none) = unlisted names (set news p (map survived_now es)) n not ∙ ap (λ (xs : List Entry). map survived_now xs) (sym none)
 
 -- and the others theirs
-others_taken : (names : List Text) (n : Text) (p : ℕ) (es : List Entry) (news : List (List Entry)) (q : Text) → AreApart names → (n ≡ q → ⊥) → length news ≡ length names → IsTaken names n p es
-    → listed names (set news p (map stood_now es)) q ≡ listed names news q
-others_taken names n p es news q apart ne len (kept lt is) =
-    let now : List Entry = map stood_now es in
-    listed-put names news p now q apart (sym len) lt ∙ ap (λ (b : Bool). cond b now (listed names news q)) (other_name (get_or names p []) q (λ e. ne (sym is ∙ e)))
-others_taken names n p es news q apart ne len (gone not behind none) = ap (λ (ls : List (List Entry)). listed names ls q) (set_behind news p (map stood_now es) (omega arith))
+others_taken : (names : List Text) (n : Text) (p : ℕ) (es : List Entry) (news : List (List Entry)) (q : Text) → AreDistinct names → (n ≡ q → ⊥) → length news ≡ length names → IsTaken names n p es
+    → listed names (set news p (map survived_now es)) q ≡ listed names news q
+others_taken names n p es news q distinct ne len (kept lt is) =
+    let now : List Entry = map survived_now es in
+    listed-put names news p now q distinct (sym len) lt ∙ ap (λ (b : Bool). cond b now (listed names news q)) (other_name (get_or names p []) q (λ e. ne (sym is ∙ e)))
+others_taken names n p es news q distinct ne len (gone not behind none) = ap (λ (ls : List (List Entry)). listed names ls q) (set_behind news p (map survived_now es) (omega arith))
 
-all_taken : (names ns : List Text) (ps : List ℕ) (olds news : List (List Entry)) (q : Text) → AreApart names → AreApart ns → length news ≡ length names → AreTaken names ns ps olds
+all_taken : (names ns : List Text) (ps : List ℕ) (olds news : List (List Entry)) (q : Text) → AreDistinct names → AreDistinct ns → length news ≡ length names → AreTaken names ns ps olds
     → listed names (taken ps olds news) q ≡ listed_or ns olds q (listed names news q)
-all_taken names [] [] [] news q apart apart' len t = refl
-all_taken names (n ∷ ns) (p ∷ ps) (es ∷ olds) news q apart apart' len (t, ts) =
-    all_taken names ns ps olds (set news p (map stood_now es)) q apart apart'.1 (length-set news p (map stood_now es) ∙ len) ts ∙ go (bytes_eq n q) refl
+all_taken names [] [] [] news q distinct distinct' len t = refl
+all_taken names (n ∷ ns) (p ∷ ps) (es ∷ olds) news q distinct distinct' len (t, ts) =
+    all_taken names ns ps olds (set news p (map survived_now es)) q distinct distinct'.1 (length-set news p (map survived_now es) ∙ len) ts ∙ go (bytes_eq n q) refl
   where
-    go : (v : Bool) → bytes_eq n q ≡ v → listed_or ns olds q (listed names (set news p (map stood_now es)) q) ≡ cond v (map stood_now es) (listed_or ns olds q (listed names news q))
+    go : (v : Bool) → bytes_eq n q ≡ v → listed_or ns olds q (listed names (set news p (map survived_now es)) q) ≡ cond v (map survived_now es) (listed_or ns olds q (listed names news q))
     go true e =
         let is = is_name n q e in
-        or_unlisted ns olds q (listed names (set news p (map stood_now es)) q) (λ i. apart'.0 (subst (λ (z : Text). IsIn z ns) (sym is) i))
-        ∙ subst (λ (z : Text). listed names (set news p (map stood_now es)) z ≡ map stood_now es) is (here_taken names n p es news apart len t)
+        or_unlisted ns olds q (listed names (set news p (map survived_now es)) q) (λ i. distinct'.0 (subst (λ (z : Text). IsIn z ns) (sym is) i))
+        ∙ subst (λ (z : Text). listed names (set news p (map survived_now es)) z ≡ map survived_now es) is (here_taken names n p es news distinct len t)
     go false e =
-        ap (λ (z : List Entry). listed_or ns olds q z) (others_taken names n p es news q apart (λ is. false≢true (sym e ∙ subst (λ (z : Text). bytes_eq n z ≡ true) is (same_name n))) len t)
-all_taken names [] [] (es ∷ olds) news q apart apart' len t = absurd t
-all_taken names [] (p ∷ ps) olds news q apart apart' len t = absurd t
-all_taken names (n ∷ ns) [] olds news q apart apart' len t = absurd t
-all_taken names (n ∷ ns) (p ∷ ps) [] news q apart apart' len t = absurd t
+        ap (λ (z : List Entry). listed_or ns olds q z) (others_taken names n p es news q distinct (λ is. false≢true (sym e ∙ subst (λ (z : Text). bytes_eq n z ≡ true) is (same_name n))) len t)
+all_taken names [] [] (es ∷ olds) news q distinct distinct' len t = absurd t
+all_taken names [] (p ∷ ps) olds news q distinct distinct' len t = absurd t
+all_taken names (n ∷ ns) [] olds news q distinct distinct' len t = absurd t
+all_taken names (n ∷ ns) (p ∷ ps) [] news q distinct distinct' len t = absurd t
 
 -- ---- from the table
 
@@ -152,26 +152,26 @@ tabled (n ∷ ns) new (p ∷ ps) (es ∷ olds) len m g = (
 )
 
 -- each name has the entries that it had, each marked as one that the reload found
-names_taken : (old new : List Text) (places : List ℕ) (olds : List (List Entry)) (n : ℕ) → AreApart old → AreApart new → length olds ≡ length old → n ≡ length new → AreMoved old new places
+names_taken : (old new : List Text) (places : List ℕ) (olds : List (List Entry)) (n : ℕ) → AreDistinct old → AreDistinct new → length olds ≡ length old → n ≡ length new → AreMoved old new places
     → ((q : Text) → IsIn q old → (IsIn q new → ⊥) → listed old olds q ≡ []) → (q : Text)
-    → listed new (taken places olds (replicate n [])) q ≡ map stood_now (listed old olds q)
-names_taken old new places olds n apart apart' len is m none_left q =
+    → listed new (taken places olds (replicate n [])) q ≡ map survived_now (listed old olds q)
+names_taken old new places olds n distinct distinct' len is m none_left q =
     let none : List Entry = [] in
-    let here : GoneHere old new olds = record { none = λ k lt not. sym (listed_at old olds k apart (sym len) lt) ∙ none_left (get_or old k []) (is_in old k lt) not } in
-    all_taken new old places olds (replicate n []) q apart' apart (length-replicate n none ∙ is) (tabled old new places olds len m here)
+    let here : GoneHere old new olds = record { none = λ k lt not. sym (listed_at old olds k distinct (sym len) lt) ∙ none_left (get_or old k []) (is_in old k lt) not } in
+    all_taken new old places olds (replicate n []) q distinct' distinct (length-replicate n none ∙ is) (tabled old new places olds len m here)
     ∙ ap (λ (z : List Entry). listed_or old olds q z) (all_empty new n q)
     ∙ or_nothing old olds q
 
 -- .. and the same of a whole store, whose queues are empty before
-pub store_taken : (old self : Store) (places : List ℕ) (now : List (List Entry)) → AreApart (queue_names old.topology.queues) → AreApart (queue_names self.topology.queues)
+pub store_taken : (old self : Store) (places : List ℕ) (now : List (List Entry)) → AreDistinct (queue_names old.topology.queues) → AreDistinct (queue_names self.topology.queues)
     → length old.queues ≡ length old.topology.queues → AreMoved (queue_names old.topology.queues) (queue_names self.topology.queues) places
     → self.queues ≡ replicate (length self.topology.queues) [] → GoneAreEmpty old (queue_names self.topology.queues) → now ≡ taken places old.queues self.queues → (q : Text)
-    → listed (queue_names self.topology.queues) now q ≡ map stood_now (entries_named old q)
-store_taken old self places now apart apart' len m empty none_left is q =
+    → listed (queue_names self.topology.queues) now q ≡ map survived_now (entries_named old q)
+store_taken old self places now distinct distinct' len m empty none_left is q =
     let names = queue_names self.topology.queues in
     let n = names-length old.topology.queues in
     ap (λ (ls : List (List Entry)). listed names ls q) (is ∙ ap (taken places old.queues) empty)
-    ∙ names_taken (queue_names old.topology.queues) names places old.queues (length self.topology.queues) apart apart' (len ∙ sym n) (sym (names-length self.topology.queues)) m none_left q
+    ∙ names_taken (queue_names old.topology.queues) names places old.queues (length self.topology.queues) distinct distinct' (len ∙ sym n) (sym (names-length self.topology.queues)) m none_left q
 
 -- ---- the table
 

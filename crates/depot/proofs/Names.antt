@@ -1,11 +1,11 @@
 -- The names that several files of these proofs use.
 pub use Rattle.depot.specs.Dying.{ArePlanned, Death, EnterBelow, Extends, Foresees, ForeseesDeaths, ForeseesGiven, ForeseesLetters, ForeseesOutcomes, ForeseesTurns, ForeseesWaiting, IsDeathOf, IsForeseen, LettersAt, MayHaveLetters, Planned, Plans, PlansAt, Rejects, all_arrivals, all_left, all_notes, arrivals_in, arrived, arriving_at, death_notes, died, died_all, given_at, outcomes_of, so_far, without}
-pub use Rattle.depot.specs.Givings.{CanGive, IsTakenFrom, TellsArrival, given_notes, given_so}
+pub use Rattle.depot.specs.Givings.{CanGive, IsTakenFrom, ReturnsArrival, given_notes, given_so}
 pub use Rattle.depot.specs.Marked.{ArePropertiesMarked, text_field}
 pub use Rattle.depot.specs.Moving.{AreMoved, GoneAreEmpty, IsMoved, goes, stays, taken}
 pub use Rattle.depot.specs.Purging.{IsPurgedBy}
-pub use Rattle.depot.specs.Settled.{AreOf, AreSettledBy, IsApart, departure_in, left_at, returned_at, store_of}
-pub use Rattle.depot.specs.Signs.{AreSignedBut, TellsNext, ready_bit, ready_places}
+pub use Rattle.depot.specs.Settled.{AreOf, AreSettledBy, IsHeldOnce, departure_in, left_at, returned_at, store_of}
+pub use Rattle.depot.specs.Signs.{AreSignedBut, ReturnsNext, ready_bit, ready_places}
 pub use Rattle.depot.specs.Store.{IsNextReady, IsStoreWhole, Store, entries_named, entries_of, queue_at, with_entries_at}
 pub use Rattle.depot.specs.Turns.{AreEmptied, Enters, GainsNone, IsPlan, IsRoomy, LinesHaveRoom, MakesAtMost, MakesRoom, TurnOutcome, all_entered, arriving, entered_one, is_full_at, is_refusal, no_line, no_turns, notes_of_outcomes, outcome, outcome_at, outcome_of, outcomes, places, room_at, times, turn_at}
 pub use Rattle.depot.specs.Tallies.{AreTallied, CountsTurn, TellsTurn, arrivals_at, is_limited, taken_if, tally_at, tally_of}
@@ -21,9 +21,9 @@ pub use Rattle.model.specs.Deliveries.{AreRejected, Leaves, Returns, left_note, 
 pub use Rattle.model.specs.Entries.{freed, is_held_as, is_under, number_of, without_first}
 pub use Rattle.model.specs.Message.{Message}
 pub use Rattle.model.specs.Placed.{AreByTag, AreWithin, holder_of_delivery, is_waiting, outstanding_in, waiting}
-pub use Rattle.model.specs.Reloading.{stood_now}
+pub use Rattle.model.specs.Reloading.{survived_now}
 pub use Rattle.model.specs.Routing.{key_after}
-pub use Rattle.model.specs.Topology.{AreApart, IsIn, IsWellFormed, Topology, queue_names}
+pub use Rattle.model.specs.Topology.{AreDistinct, IsIn, IsWellFormed, Topology, queue_names}
 pub use Rattle.model.specs.Words.{Text}
 pub use Rattle.model.specs.declared.contents.Content.{Content}
 pub use Rattle.model.specs.declared.deliveries.ChannelId.{ChannelId}

@@ -1,5 +1,5 @@
 -- What a publish does, by the names of the queues.
-use Rattle.depot.proofs.Names.{◌≡◌, ℕ, zero, suc, ◌+◌, ◌<◌, ◌≤◌, List, [], ◌∷◌, ◌++◌, length, get_or, set, map, refl, sym, ap, subst, ◌∙◌, arith, Bool, true, false, cond, Option, Some, None, All, AllPairs, append_assoc, inl, inr, list_any, ◌&&◌, ◌||◌, nat_lt, slice_get, position_or_len, common_steps, bytes_eq, bytes_eq-Decides, append-nil, length-set, get_or-set_other, Text, Topology, queue_names, IsIn, AreApart, IsWellFormed, listed, ready_bytes, refuses, queue_named, is_full, Entry, Message, Ready, DeclaredQueue, Content, Publish, Note, Published, Entered, Refused, Way, ready_count, names_at, PlannedTurn, Store, TurnOutcome, outcome_of, outcome, outcomes, turn_at, is_full_at, places, notes_of_outcomes, is_refusal, no_turns, arriving, entered_one, all_entered, IsPlan, Enters}
+use Rattle.depot.proofs.Names.{◌≡◌, ℕ, zero, suc, ◌+◌, ◌<◌, ◌≤◌, List, [], ◌∷◌, ◌++◌, length, get_or, set, map, refl, sym, ap, subst, ◌∙◌, arith, Bool, true, false, cond, Option, Some, None, All, AllPairs, append_assoc, inl, inr, list_any, ◌&&◌, ◌||◌, nat_lt, slice_get, position_or_len, common_steps, bytes_eq, bytes_eq-Decides, append-nil, length-set, get_or-set_other, Text, Topology, queue_names, IsIn, AreDistinct, IsWellFormed, listed, ready_bytes, refuses, queue_named, is_full, Entry, Message, Ready, DeclaredQueue, Content, Publish, Note, Published, Entered, Refused, Way, ready_count, names_at, PlannedTurn, Store, TurnOutcome, outcome_of, outcome, outcomes, turn_at, is_full_at, places, notes_of_outcomes, is_refusal, no_turns, arriving, entered_one, all_entered, IsPlan, Enters}
 use Rattle.std.specs.Prelude.{not, option_map, position}
 use Rattle.model.specs.Step.{message, entry_notes, comes_to, is_none}
 use Rattle.model.specs.declared.notes.Way.TheVariants as way
@@ -27,27 +27,27 @@ other_name a b ne = go (bytes_eq a b) refl
     go true e = absurd (ne ((bytes_eq-Decides a b).0 e))
     go false e = refl
 
-pub later_name : (n : Text) (ns : List Text) (i : ℕ) → AreApart (n ∷ ns) → i < length ns → bytes_eq n (get_or ns i []) ≡ false
-later_name n ns i apart lt = other_name n (get_or ns i []) (λ e. apart.0 (subst (λ (z : Text). IsIn z ns) (sym e) (is_in ns i lt)))
+pub later_name : (n : Text) (ns : List Text) (i : ℕ) → AreDistinct (n ∷ ns) → i < length ns → bytes_eq n (get_or ns i []) ≡ false
+later_name n ns i distinct lt = other_name n (get_or ns i []) (λ e. distinct.0 (subst (λ (z : Text). IsIn z ns) (sym e) (is_in ns i lt)))
 
-pub listed_at : (names : List Text) (lists : List (List Entry)) (i : ℕ) → AreApart names → length names ≡ length lists → i < length names → listed names lists (get_or names i []) ≡ get_or lists i []
-listed_at [] lists i apart len lt = absurd (omega arith)
-listed_at (n ∷ ns) [] i apart len lt = absurd (omega arith)
-listed_at (n ∷ ns) (es ∷ ess) zero apart len lt = rw (same_name n) refl
-listed_at (n ∷ ns) (es ∷ ess) (suc i) apart len lt = rw (later_name n ns i apart (omega arith)) (listed_at ns ess i apart.1 (omega arith) (omega arith))
+pub listed_at : (names : List Text) (lists : List (List Entry)) (i : ℕ) → AreDistinct names → length names ≡ length lists → i < length names → listed names lists (get_or names i []) ≡ get_or lists i []
+listed_at [] lists i distinct len lt = absurd (omega arith)
+listed_at (n ∷ ns) [] i distinct len lt = absurd (omega arith)
+listed_at (n ∷ ns) (es ∷ ess) zero distinct len lt = rw (same_name n) refl
+listed_at (n ∷ ns) (es ∷ ess) (suc i) distinct len lt = rw (later_name n ns i distinct (omega arith)) (listed_at ns ess i distinct.1 (omega arith) (omega arith))
 
-declared_at : (qs : List DeclaredQueue) (i : ℕ) → AreApart (queue_names qs) → i < length qs → queue_named qs (get_or (queue_names qs) i []) ≡ slice_get qs i
-declared_at [] i apart lt = absurd (omega arith)
-declared_at (q ∷ qs) zero apart lt = rw (same_name q.name) refl
-declared_at (q ∷ qs) (suc i) apart lt = let long = names-length qs in rw (later_name q.name (queue_names qs) i apart (omega arith)) (declared_at qs i apart.1 (omega arith))
+declared_at : (qs : List DeclaredQueue) (i : ℕ) → AreDistinct (queue_names qs) → i < length qs → queue_named qs (get_or (queue_names qs) i []) ≡ slice_get qs i
+declared_at [] i distinct lt = absurd (omega arith)
+declared_at (q ∷ qs) zero distinct lt = rw (same_name q.name) refl
+declared_at (q ∷ qs) (suc i) distinct lt = let long = names-length qs in rw (later_name q.name (queue_names qs) i distinct (omega arith)) (declared_at qs i distinct.1 (omega arith))
 
-full_at : (t : Topology) (lists : List (List Entry)) (i size : ℕ) → AreApart (queue_names t.queues) → length lists ≡ length t.queues → i < length t.queues
+full_at : (t : Topology) (lists : List (List Entry)) (i size : ℕ) → AreDistinct (queue_names t.queues) → length lists ≡ length t.queues → i < length t.queues
     → is_full t (listed (queue_names t.queues) lists) (get_or (queue_names t.queues) i []) size ≡ is_full_at t.queues lists i size
-full_at t lists i size apart len lt =
+full_at t lists i size distinct len lt =
     let names = queue_names t.queues in
     let long = names-length t.queues in
-    ap (λ (o : Option DeclaredQueue). refuses o (ready_count (listed names lists (get_or names i []))) (ready_bytes (listed names lists (get_or names i []))) size) (declared_at t.queues i apart lt)
-    ∙ ap (λ (es : List Entry). refuses (slice_get t.queues i) (ready_count es) (ready_bytes es) size) (listed_at names lists i apart (omega arith) (omega arith))
+    ap (λ (o : Option DeclaredQueue). refuses o (ready_count (listed names lists (get_or names i []))) (ready_bytes (listed names lists (get_or names i []))) size) (declared_at t.queues i distinct lt)
+    ∙ ap (λ (es : List Entry). refuses (slice_get t.queues i) (ready_count es) (ready_bytes es) size) (listed_at names lists i distinct (omega arith) (omega arith))
 
 -- ---- the queue of a name
 
@@ -107,33 +107,33 @@ abbrev pub arrivals : List Text → List TurnOutcome → Text → List Entry
 arrivals names [] q = []
 arrivals names (o ∷ os) q = cond (bytes_eq (get_or names o.place []) q) (arriving o.message) [] ++ arrivals names os q
 
-listed-set : (names : List Text) (lists : List (List Entry)) (i : ℕ) (x : List Entry) (q : Text) → AreApart names → length names ≡ length lists → i < length names
+listed-set : (names : List Text) (lists : List (List Entry)) (i : ℕ) (x : List Entry) (q : Text) → AreDistinct names → length names ≡ length lists → i < length names
     → listed names (set lists i (get_or lists i [] ++ x)) q ≡ listed names lists q ++ cond (bytes_eq (get_or names i []) q) x []
-listed-set [] lists i x q apart len lt = absurd (omega arith)
-listed-set (n ∷ ns) [] i x q apart len lt = absurd (omega arith)
-listed-set (n ∷ ns) (es ∷ ess) zero x q apart len lt = go (bytes_eq n q)
+listed-set [] lists i x q distinct len lt = absurd (omega arith)
+listed-set (n ∷ ns) [] i x q distinct len lt = absurd (omega arith)
+listed-set (n ∷ ns) (es ∷ ess) zero x q distinct len lt = go (bytes_eq n q)
   where
     go : (b : Bool) → cond b (es ++ x) (listed ns ess q) ≡ cond b es (listed ns ess q) ++ cond b x []
     go true = refl
     go false = sym (append-nil (listed ns ess q))
-listed-set (n ∷ ns) (es ∷ ess) (suc i) x q apart len lt = go (bytes_eq n q) refl (listed-set ns ess i x q apart.1 (omega arith) (omega arith))
+listed-set (n ∷ ns) (es ∷ ess) (suc i) x q distinct len lt = go (bytes_eq n q) refl (listed-set ns ess i x q distinct.1 (omega arith) (omega arith))
   where
     go : (b : Bool) → bytes_eq n q ≡ b → listed ns (set ess i (get_or ess i [] ++ x)) q ≡ listed ns ess q ++ cond (bytes_eq (get_or ns i []) q) x []
         → cond b es (listed ns (set ess i (get_or ess i [] ++ x)) q) ≡ cond b es (listed ns ess q) ++ cond (bytes_eq (get_or ns i []) q) x []
     go true is ih =
         let same : n ≡ q = (bytes_eq-Decides n q).0 is in
         let other : bytes_eq (get_or ns i []) q ≡ false
-        = other_name (get_or ns i []) q (λ e. apart.0 (subst (λ (z : Text). IsIn z ns) (e ∙ sym same) (is_in ns i (omega arith)))) in
+        = other_name (get_or ns i []) q (λ e. distinct.0 (subst (λ (z : Text). IsIn z ns) (e ∙ sym same) (is_in ns i (omega arith)))) in
         sym (ap (λ (b : Bool). es ++ cond b x []) other ∙ append-nil es)
     go false is ih = ih
 
-listed-entered : (names : List Text) (os : List TurnOutcome) (lists : List (List Entry)) (q : Text) → AreApart names → length names ≡ length lists → All (λ (i : ℕ). i < length names) (places_of os)
+listed-entered : (names : List Text) (os : List TurnOutcome) (lists : List (List Entry)) (q : Text) → AreDistinct names → length names ≡ length lists → All (λ (i : ℕ). i < length names) (places_of os)
     → listed names (all_entered os lists) q ≡ listed names lists q ++ arrivals names os q
-listed-entered names [] lists q apart len within = sym (append-nil (listed names lists q))
-listed-entered names (o ∷ os) lists q apart len within =
+listed-entered names [] lists q distinct len within = sym (append-nil (listed names lists q))
+listed-entered names (o ∷ os) lists q distinct len within =
     let kept = length-set lists o.place (get_or lists o.place [] ++ arriving o.message) in
-    listed-entered names os (entered_one o lists) q apart (omega arith) (λ i d lt. within (suc i) d (omega arith))
-    ∙ ap (λ (es : List Entry). es ++ arrivals names os q) (listed-set names lists o.place (arriving o.message) q apart len (within 0 0 (omega arith)))
+    listed-entered names os (entered_one o lists) q distinct (omega arith) (λ i d lt. within (suc i) d (omega arith))
+    ∙ ap (λ (es : List Entry). es ++ arrivals names os q) (listed-set names lists o.place (arriving o.message) q distinct len (within 0 0 (omega arith)))
     ∙ append_assoc (listed names lists q) (cond (bytes_eq (get_or names o.place []) q) (arriving o.message) []) (arrivals names os q)
 
 -- ---- the turns of a message
@@ -201,40 +201,40 @@ pub turned : (t : Topology) (how : Way) (lists : List (List Entry)) (exchange ke
 turned t how lists exchange key m turns plan =
     ap (λ (ts : List PlannedTurn). outcomes how t.queues ts lists) plan.turned ∙ outcomes_start how t.queues m plan.targets lists lists plan.routed.rising (λ k lt. refl)
 
-arrive : (t : Topology) (how : Way) (lists : List (List Entry)) (m : Message) (q : Text) (targets : List ℕ) → AreApart (queue_names t.queues) → length lists ≡ length t.queues → All (λ (i : ℕ). i < length t.queues) targets
+arrive : (t : Topology) (how : Way) (lists : List (List Entry)) (m : Message) (q : Text) (targets : List ℕ) → AreDistinct (queue_names t.queues) → length lists ≡ length t.queues → All (λ (i : ℕ). i < length t.queues) targets
     → arrivals (queue_names t.queues) (map (outcome_at how t.queues lists m) targets) q ≡ comes_to t (listed (queue_names t.queues) lists) m q (names_at (queue_names t.queues) targets)
-arrive t how lists m q [] apart len within = refl
-arrive t how lists m q (i ∷ is) apart len within =
+arrive t how lists m q [] distinct len within = refl
+arrive t how lists m q (i ∷ is) distinct len within =
     let names = queue_names t.queues in
     let name = get_or names i [] in
     let full = is_full_at t.queues lists i (length m.content.body) in
     let later = comes_to t (listed names lists) m q (names_at names is) in
     ap (λ (j : ℕ). cond (bytes_eq (get_or names j []) q) (arriving (outcome_of how name full m i).message) [] ++ arrivals names (map (outcome_at how t.queues lists m) is) q) (place_of_outcome how name m i full)
-    ∙ one_arrives how name m i (bytes_eq name q) full _ later (arrive t how lists m q is apart len (λ k d lt. within (suc k) d (omega arith)))
-    ∙ ap (λ (f : Bool). cond (bytes_eq name q && not f) (record { message = m; mark = Ready } ∷ later) later) (sym (full_at t lists i (length m.content.body) apart len (within 0 0 (omega arith))))
+    ∙ one_arrives how name m i (bytes_eq name q) full _ later (arrive t how lists m q is distinct len (λ k d lt. within (suc k) d (omega arith)))
+    ∙ ap (λ (f : Bool). cond (bytes_eq name q && not f) (record { message = m; mark = Ready } ∷ later) later) (sym (full_at t lists i (length m.content.body) distinct len (within 0 0 (omega arith))))
 
-note : (t : Topology) (how : Way) (lists : List (List Entry)) (m : Message) (targets : List ℕ) → AreApart (queue_names t.queues) → length lists ≡ length t.queues → All (λ (i : ℕ). i < length t.queues) targets
+note : (t : Topology) (how : Way) (lists : List (List Entry)) (m : Message) (targets : List ℕ) → AreDistinct (queue_names t.queues) → length lists ≡ length t.queues → All (λ (i : ℕ). i < length t.queues) targets
     → notes_of_outcomes (map (outcome_at how t.queues lists m) targets) ≡ entry_notes t (listed (queue_names t.queues) lists) (length m.content.body) m.number how (names_at (queue_names t.queues) targets)
-note t how lists m [] apart len within = refl
-note t how lists m (i ∷ is) apart len within =
+note t how lists m [] distinct len within = refl
+note t how lists m (i ∷ is) distinct len within =
     let names = queue_names t.queues in
     let name = get_or names i [] in
     let full = is_full_at t.queues lists i (length m.content.body) in
     let later = entry_notes t (listed names lists) (length m.content.body) m.number how (names_at names is) in
-    ap (λ (ns : List Note). (outcome_of how name full m i).note ∷ ns) (note t how lists m is apart len (λ k d lt. within (suc k) d (omega arith)))
+    ap (λ (ns : List Note). (outcome_of how name full m i).note ∷ ns) (note t how lists m is distinct len (λ k d lt. within (suc k) d (omega arith)))
     ∙ ap (λ (n : Note). n ∷ later) (note_of_outcome how name m i full)
-    ∙ ap (λ (f : Bool). cond f (Refused m.number name) (Entered m.number name how) ∷ later) (sym (full_at t lists i (length m.content.body) apart len (within 0 0 (omega arith))))
+    ∙ ap (λ (f : Bool). cond f (Refused m.number name) (Entered m.number name how) ∷ later) (sym (full_at t lists i (length m.content.body) distinct len (within 0 0 (omega arith))))
 
-refuse : (t : Topology) (how : Way) (lists : List (List Entry)) (m : Message) (targets : List ℕ) → AreApart (queue_names t.queues) → length lists ≡ length t.queues → All (λ (i : ℕ). i < length t.queues) targets
+refuse : (t : Topology) (how : Way) (lists : List (List Entry)) (m : Message) (targets : List ℕ) → AreDistinct (queue_names t.queues) → length lists ≡ length t.queues → All (λ (i : ℕ). i < length t.queues) targets
     → list_any is_refusal (map (outcome_at how t.queues lists m) targets) ≡ list_any (λ (q : Text). is_full t (listed (queue_names t.queues) lists) q (length m.content.body)) (names_at (queue_names t.queues) targets)
-refuse t how lists m [] apart len within = refl
-refuse t how lists m (i ∷ is) apart len within =
+refuse t how lists m [] distinct len within = refl
+refuse t how lists m (i ∷ is) distinct len within =
     let names = queue_names t.queues in
     let name = get_or names i [] in
     let full = is_full_at t.queues lists i (length m.content.body) in
     let later = list_any (λ (q : Text). is_full t (listed names lists) q (length m.content.body)) (names_at names is) in
-    ap (λ (b : Bool). is_refusal (outcome_of how name full m i) || b) (refuse t how lists m is apart len (λ k d lt. within (suc k) d (omega arith)))
-    ∙ ap (λ (b : Bool). b || later) (refusal_of_outcome how name m i full ∙ sym (full_at t lists i (length m.content.body) apart len (within 0 0 (omega arith))))
+    ap (λ (b : Bool). is_refusal (outcome_of how name full m i) || b) (refuse t how lists m is distinct len (λ k d lt. within (suc k) d (omega arith)))
+    ∙ ap (λ (b : Bool). b || later) (refusal_of_outcome how name m i full ∙ sym (full_at t lists i (length m.content.body) distinct len (within 0 0 (omega arith))))
 
 nothing : (qs : List DeclaredQueue) (m : Message) (targets : List ℕ) → no_turns (map (turn_at qs m) targets) ≡ is_none (names_at (queue_names qs) targets)
 nothing qs m [] = refl
@@ -244,24 +244,24 @@ nothing qs m (i ∷ is) = refl
 
 -- what is noted of a message that comes to its queues
 pub noted_by_names : (t : Topology) (how : Way) (lists : List (List Entry)) (exchange key : Text) (m : Message) (turns : List PlannedTurn) (plan : IsPlan t exchange key m turns)
-    → AreApart (queue_names t.queues) → length lists ≡ length t.queues
+    → AreDistinct (queue_names t.queues) → length lists ≡ length t.queues
     → notes_of_outcomes (outcomes how t.queues turns lists) ≡ entry_notes t (listed (queue_names t.queues) lists) (length m.content.body) m.number how (names_at (queue_names t.queues) plan.targets)
-noted_by_names t how lists exchange key m turns plan apart len = ap notes_of_outcomes (turned t how lists exchange key m turns plan) ∙ note t how lists m plan.targets apart len plan.routed.within
+noted_by_names t how lists exchange key m turns plan distinct len = ap notes_of_outcomes (turned t how lists exchange key m turns plan) ∙ note t how lists m plan.targets distinct len plan.routed.within
 
 -- and what each queue has then
 pub entered_by_names : (t : Topology) (how : Way) (lists : List (List Entry)) (exchange key : Text) (m : Message) (turns : List PlannedTurn) (plan : IsPlan t exchange key m turns) (q : Text)
-    → AreApart (queue_names t.queues) → length lists ≡ length t.queues
+    → AreDistinct (queue_names t.queues) → length lists ≡ length t.queues
     → listed (queue_names t.queues) (all_entered (outcomes how t.queues turns lists) lists) q
     ≡ listed (queue_names t.queues) lists q ++ comes_to t (listed (queue_names t.queues) lists) m q (names_at (queue_names t.queues) plan.targets)
-entered_by_names t how lists exchange key m turns plan q apart len =
+entered_by_names t how lists exchange key m turns plan q distinct len =
     let names = queue_names t.queues in
     let long = names-length t.queues in
     let os = map (outcome_at how t.queues lists m) plan.targets in
     let within : All (λ (i : ℕ). i < length names) (places_of os)
     = subst (λ (is : List ℕ). All (λ (i : ℕ). i < length names) is) (sym (places_of_outcomes how t.queues lists m plan.targets)) (subst (λ (k : ℕ). All (λ (i : ℕ). i < k) plan.targets) (sym long) plan.routed.within) in
     ap (λ (xs : List TurnOutcome). listed names (all_entered xs lists) q) (turned t how lists exchange key m turns plan)
-    ∙ listed-entered names os lists q apart (omega arith) within
-    ∙ ap (λ (es : List Entry). listed names lists q ++ es) (arrive t how lists m q plan.targets apart len plan.routed.within)
+    ∙ listed-entered names os lists q distinct (omega arith) within
+    ∙ ap (λ (es : List Entry). listed names lists q ++ es) (arrive t how lists m q plan.targets distinct len plan.routed.within)
 
 -- what was done by places is the publish
 pub published : (old new : Store) (c h : ℕ) (p : Publish) (content : Content) (confirm : Option ℕ) (before after : List Note) (routed : Routed)
@@ -273,7 +273,7 @@ published old new c h p content confirm before after routed formed len counted s
     let lists = old.queues in
     let names = queue_names t.queues in
     let m = message (old.published + 1) p content in
-    let apart = formed.queues_apart in
+    let distinct = formed.queues_distinct in
     let targets = e.plan.targets in
     let within = e.plan.routed.within in
     let first = Published (old.published + 1) c h p.exchange p.routing_key confirm in
@@ -283,15 +283,15 @@ published old new c h p content confirm before after routed formed len counted s
       publishes = record {
         targets = names_at names targets;
         picked = e.plan.routed.picked;
-        notes = ap (λ (ns : List Note). first ∷ ns) (noted_by_names t way.Publish lists p.exchange p.routing_key m e.turns e.plan apart len);
+        notes = ap (λ (ns : List Note). first ∷ ns) (noted_by_names t way.Publish lists p.exchange p.routing_key m e.turns e.plan distinct len);
         none = e.none ∙ ap no_turns e.plan.turned ∙ nothing t.queues m targets;
-        full = e.full ∙ ap (list_any is_refusal) (turned t way.Publish lists p.exchange p.routing_key m e.turns e.plan) ∙ refuse t way.Publish lists m targets apart len within;
+        full = e.full ∙ ap (list_any is_refusal) (turned t way.Publish lists p.exchange p.routing_key m e.turns e.plan) ∙ refuse t way.Publish lists m targets distinct len within;
         counted = counted;
         topology = same;
         queues = λ q.
             ap (λ (u : Topology). listed (queue_names u.queues) new.queues q) same
             ∙ ap (λ (ess : List (List Entry)). listed names ess q) e.entries
-            ∙ entered_by_names t way.Publish lists p.exchange p.routing_key m e.turns e.plan q apart len;
+            ∙ entered_by_names t way.Publish lists p.exchange p.routing_key m e.turns e.plan q distinct len;
       };
     }
 
@@ -300,10 +300,10 @@ pub published_as : (was now s : Store) (c h : ℕ) (p : Publish) (content : Cont
     → was ≡ s → t ≡ was.topology → m ≡ message (was.published + 1) p content → first ≡ Published (was.published + 1) c h p.exchange p.routing_key confirm
     → IsWellFormed t → length was.queues ≡ length was.topology.queues → now.published ≡ was.published + 1 → now.topology ≡ was.topology
     → Enters t was.queues now.queues p m first before after routed → Publishing s c h p content confirm before after routed now
-published_as was now s c h p content confirm before after routed t m first view same made told formed len counted topology enters =
+published_as was now s c h p content confirm before after routed t m first view same made reported formed len counted topology enters =
     let number = was.published + 1 in
     let note = Published number c h p.exchange p.routing_key confirm in
     subst (λ (x : Store). Publishing x c h p content confirm before after routed now) view
     (published was now c h p content confirm before after routed (subst IsWellFormed same formed) len counted topology
     (subst (λ (u : Topology). Enters u was.queues now.queues p (message number p content) note before after routed) same
-    (subst (λ (x : Message). Enters t was.queues now.queues p x note before after routed) made (subst (λ (x : Note). Enters t was.queues now.queues p m x before after routed) told enters))))
+    (subst (λ (x : Message). Enters t was.queues now.queues p x note before after routed) made (subst (λ (x : Note). Enters t was.queues now.queues p m x before after routed) reported enters))))

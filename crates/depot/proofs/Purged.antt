@@ -94,15 +94,15 @@ pub purging_next : (x : Note) (all : List Note) (left entries : List Entry) (pla
     → Purging x all left after (place + 1) new
 purging_next x all left entries place notes e new after p f is gone =
     let n = next_is x entries e f in
-    let told = numbered (number_of e) x in
+    let reported = numbered (number_of e) x in
     let blanks = replicate (length (filter is_ready (without_first is_ready entries))) (numbered 0 x) in
     let others : List Note = map (λ (y : Entry). numbered (number_of y) x) (filter is_ready (without_first is_ready entries)) in
     let was = p.is ∙ ap (λ (ns : List Note). p.front ++ ns) n.count in
     subst (λ (es : List Entry). Purging x all left es (place + 1) new) (sym gone) (record {
-      front = p.front ++ told ∷ [];
-      is = is ∙ ap (λ (ns : List Note). set ns place told) was ∙ set_at p.front (numbered 0 x) blanks told place p.at ∙ sym (append_assoc p.front (told ∷ []) blanks);
-      at = length_push p.front told ∙ ap (λ (n : ℕ). n + 1) p.at;
-      whole = append_assoc p.front (told ∷ []) others ∙ ap (λ (es : List Entry). p.front ++ map (λ (y : Entry). numbered (number_of y) x) es) (sym n.ready) ∙ p.whole;
+      front = p.front ++ reported ∷ [];
+      is = is ∙ ap (λ (ns : List Note). set ns place reported) was ∙ set_at p.front (numbered 0 x) blanks reported place p.at ∙ sym (append_assoc p.front (reported ∷ []) blanks);
+      at = length_push p.front reported ∙ ap (λ (n : ℕ). n + 1) p.at;
+      whole = append_assoc p.front (reported ∷ []) others ∙ ap (λ (es : List Entry). p.front ++ map (λ (y : Entry). numbered (number_of y) x) es) (sym n.ready) ∙ p.whole;
       rest = rest_filtered is_ready entries ∙ p.rest;
     })
 
@@ -119,13 +119,13 @@ pub purged_by : (old new : Store) (place : ℕ) (before after : List Note) (coun
     → count ≡ ready_in (queue_at old place) → after ≡ before ++ purge_notes (queue_name old.topology place) (filter is_ready (queue_at old place))
     → new.queues ≡ set old.queues place (filter (λ (e : Entry). not (is_ready e)) (queue_at old place))
     → IsPurgedBy old (queue_name old.topology place) before after count new
-purged_by old new place before after count whole lt counted same told noted lists =
+purged_by old new place before after count whole lt counted same reported noted lists =
     let name = queue_name old.topology place in
     let here : queue_at old place ≡ entries_named old name = sym (queue_of-place old place whole lt) in
     let left : List Entry = filter (λ (e : Entry). not (is_ready e)) (queue_at old place) in
     let done : with_entries_at old place left ≡ new = rw (same, counted, lists) refl in
     record {
-      told = told ∙ ap ready_in here;
+      reported = reported ∙ ap ready_in here;
       noted = noted ∙ ap (λ (es : List Entry). before ++ purge_notes name (filter is_ready es)) here;
       queues = λ q. ap (λ (s : Store). entries_named s q) (sym done)
           ∙ queue_of-changed old place left q whole lt

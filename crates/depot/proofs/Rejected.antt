@@ -1,5 +1,5 @@
 -- What is done by the places of queues is the rejection by their names.
-use Rattle.depot.proofs.Names.{◌≡◌, ℕ, zero, suc, ◌+◌, ◌<◌, ◌≤◌, List, [], ◌∷◌, ◌++◌, Bool, true, false, cond, refl, sym, ap, subst, ◌∙◌, map, filter, length, get_or, set, arith, Option, Some, None, Result, Ok, Err, OnOk, count_by, nat_lt, ◌&&◌, common_steps, bytes_eq, length-set, get_or_past, bytes_eq-Decides, Text, Topology, queue_names, AreApart, key_after, queue_named, listed, is_full, ready_bytes, refuses, Message, is_held_as, without_first, dead_letter, DiesBy, DiesIn, MayDie, AreRejected, Content, Entry, Holder, Ready, DeclaredQueue, Note, Entered, Refused, ready_count, queue_name, names_at, ChannelId, Delivery, Death, PlannedTurn, Store, entries_named, IsStoreWhole, TurnOutcome, outcomes, arriving, entered_one, all_entered, notes_of_outcomes, AreSettledBy, IsApart, holder_of_delivery, outstanding_in, AreWithin, AreByTag, MayHaveLetters, IsDeathOf, Plans, given_at, ArePlanned, without, outcomes_of, died, death_notes, died_all, all_notes, Rejects}
+use Rattle.depot.proofs.Names.{◌≡◌, ℕ, zero, suc, ◌+◌, ◌<◌, ◌≤◌, List, [], ◌∷◌, ◌++◌, Bool, true, false, cond, refl, sym, ap, subst, ◌∙◌, map, filter, length, get_or, set, arith, Option, Some, None, Result, Ok, Err, OnOk, count_by, nat_lt, ◌&&◌, common_steps, bytes_eq, length-set, get_or_past, bytes_eq-Decides, Text, Topology, queue_names, AreDistinct, key_after, queue_named, listed, is_full, ready_bytes, refuses, Message, is_held_as, without_first, dead_letter, DiesBy, DiesIn, MayDie, AreRejected, Content, Entry, Holder, Ready, DeclaredQueue, Note, Entered, Refused, ready_count, queue_name, names_at, ChannelId, Delivery, Death, PlannedTurn, Store, entries_named, IsStoreWhole, TurnOutcome, outcomes, arriving, entered_one, all_entered, notes_of_outcomes, AreSettledBy, IsHeldOnce, holder_of_delivery, outstanding_in, AreWithin, AreByTag, MayHaveLetters, IsDeathOf, Plans, given_at, ArePlanned, without, outcomes_of, died, death_notes, died_all, all_notes, Rejects}
 use Rattle.std.proofs.Common.{not}
 use Rattle.std.specs.Prelude.{find, if◌then◌else◌}
 use Rattle.model.specs.Entering.{entry_note, entry_notes, comes_to}
@@ -43,8 +43,8 @@ found_after qs d lists a k ne =
     ∙ seen-set (find (is_held_as a)) lists d.place k (filter (λ (e : Entry). not (is_held_as d.holder e)) (get_or lists d.place [])) (find-filter (is_held_as a) (is_held_as d.holder) (held_apart a d.holder ne) (get_or lists d.place []))
 
 -- at most one entry of each queue is held under one tag
-abbrev pub AreApartBy : List (List Entry) → Type 0
-AreApartBy lists = (k : ℕ) (a : Holder) → count_by (is_held_as a) (get_or lists k []) ≤ 1
+abbrev pub AreDistinctBy : List (List Entry) → Type 0
+AreDistinctBy lists = (k : ℕ) (a : Holder) → count_by (is_held_as a) (get_or lists k []) ≤ 1
 
 pub fewer-set : (p : Entry → Bool) (lists : List (List Entry)) (i k : ℕ) (es : List Entry) → count_by p es ≤ count_by p (get_or lists i []) → count_by p (get_or (set lists i es) k []) ≤ count_by p (get_or lists k [])
 fewer-set p [] i k es e = omega arith
@@ -53,12 +53,12 @@ fewer-set p (xs ∷ xss) zero (suc k) es e = omega arith
 fewer-set p (xs ∷ xss) (suc i) zero es e = omega arith
 fewer-set p (xs ∷ xss) (suc i) (suc k) es e = fewer-set p xss i k es e
 
-apart_after : (qs : List DeclaredQueue) (d : Death) (lists : List (List Entry)) → AreApartBy lists → AreApartBy (died qs d lists)
-apart_after qs d lists apart k a =
+apart_after : (qs : List DeclaredQueue) (d : Death) (lists : List (List Entry)) → AreDistinctBy lists → AreDistinctBy (died qs d lists)
+apart_after qs d lists distinct k a =
     let same = seen-entered (count_by (is_held_as a)) (count_arriving a) (outcomes_of qs d lists) (without d lists) k in
     let kept = filter (λ (e : Entry). not (is_held_as d.holder e)) (get_or lists d.place []) in
     let fewer = fewer-set (is_held_as a) lists d.place k kept (count-filter (is_held_as a) (λ (e : Entry). not (is_held_as d.holder e)) (get_or lists d.place [])) in
-    let one = apart k a in
+    let one = distinct k a in
     omega (arith, same, fewer, one)
 
 length-entered : (os : List TurnOutcome) (lists : List (List Entry)) → length (all_entered os lists) ≡ length lists
@@ -101,15 +101,15 @@ come_same t f g same m q (r ∷ rs) =
 abbrev with_lists : Store → List (List Entry) → Store
 with_lists s lists = record s { queues = lists }
 
-named_there : (qs : List DeclaredQueue) (i : ℕ) (q : DeclaredQueue) → AreApart (queue_names qs) → i < length qs → q ≡ get_or qs i q → queue_named qs (get_or (queue_names qs) i []) ≡ Some q
-named_there [] i q apart lt is = absurd (omega arith)
-named_there (x ∷ xs) zero q apart lt is = rw (same_name x.name) (ap Some (sym is))
-named_there (x ∷ xs) (suc i) q apart lt is = let long = names-length xs in rw (later_name x.name (queue_names xs) i apart (omega arith)) (named_there xs i q apart.1 (omega arith) is)
+named_there : (qs : List DeclaredQueue) (i : ℕ) (q : DeclaredQueue) → AreDistinct (queue_names qs) → i < length qs → q ≡ get_or qs i q → queue_named qs (get_or (queue_names qs) i []) ≡ Some q
+named_there [] i q distinct lt is = absurd (omega arith)
+named_there (x ∷ xs) zero q distinct lt is = rw (same_name x.name) (ap Some (sym is))
+named_there (x ∷ xs) (suc i) q distinct lt is = let long = names-length xs in rw (later_name x.name (queue_names xs) i distinct (omega arith)) (named_there xs i q distinct.1 (omega arith) is)
 
 -- the queues without the message that dies, by their names
-without_named : (s : Store) (c h : ℕ) (g : Delivery) (d : Death) (q : Text) → IsStoreWhole s → AreApartBy s.queues → g.queue < length s.topology.queues → d.place ≡ g.queue → d.holder ≡ holder_of_delivery c h g
+without_named : (s : Store) (c h : ℕ) (g : Delivery) (d : Death) (q : Text) → IsStoreWhole s → AreDistinctBy s.queues → g.queue < length s.topology.queues → d.place ≡ g.queue → d.holder ≡ holder_of_delivery c h g
     → entries_named (with_lists s (without d s.queues)) q ≡ given.without_given c h (entries_named s) (outstanding_in (queue_names s.topology.queues) g) q
-without_named s c h g d q whole apart lt place holder =
+without_named s c h g d q whole distinct lt place holder =
     let p = is_held_as (holder_of_delivery c h g) in
     let name = queue_name s.topology g.queue in
     let here = queue_of-place s g.queue whole lt in
@@ -117,7 +117,7 @@ without_named s c h g d q whole apart lt place holder =
     ap (λ (i : ℕ). entries_named (with_lists s (set s.queues i (filter (λ (e : Entry). not (is_held_as d.holder e)) (get_or s.queues i [])))) q) place
     ∙ ap (λ (a : Holder). entries_named (with_lists s (set s.queues g.queue (filter (λ (e : Entry). not (is_held_as a e)) (get_or s.queues g.queue [])))) q) holder
     ∙ queue_of-changed s g.queue gone q whole lt
-    ∙ ap (λ (es : List Entry). if bytes_eq name q then es else entries_named s q) (one_passes p (get_or s.queues g.queue []) (apart g.queue (holder_of_delivery c h g)) ∙ ap (without_first p) (sym here))
+    ∙ ap (λ (es : List Entry). if bytes_eq name q then es else entries_named s q) (one_passes p (get_or s.queues g.queue []) (distinct g.queue (holder_of_delivery c h g)) ∙ ap (without_first p) (sym here))
 
 -- a message that dies, and its dead letter
 dies_by : (s : Store) (q : DeclaredQueue) (m : Message) (d : Death) (queues : Text → List Entry) (x : Option Text) → IsStoreWhole s → ((r : Text) → entries_named (with_lists s (without d s.queues)) r ≡ queues r)
@@ -136,18 +136,18 @@ dies_by s q m d queues (Some exchange) whole same letters =
     let letter = dead_letter m exchange key letters.content in
     let targets = names_at (queue_names t.queues) letters.plan.targets in
     let len = length-without d s.queues ∙ whole.len in
-    let apart = whole.formed.queues_apart in
+    let distinct = whole.formed.queues_distinct in
     record {
       headers = headers;
       marked = letters.marked.marked;
       targets = targets;
       routed = letters.plan.routed.picked;
       noted =
-          noted_by_names t way.Dead w exchange key letter d.turns letters.plan apart len
+          noted_by_names t way.Dead w exchange key letter d.turns letters.plan distinct len
           ∙ ap (λ (content : Content). entry_notes t (listed (queue_names t.queues) w) (length content.body) m.number way.Dead targets) letters.marked.made
           ∙ notes_same t (listed (queue_names t.queues) w) queues same (length m.content.body) m.number targets;
       left = λ r.
-          entered_by_names t way.Dead w exchange key letter d.turns letters.plan r apart len
+          entered_by_names t way.Dead w exchange key letter d.turns letters.plan r distinct len
           ∙ ap (λ (es : List Entry). es ++ comes_to t (listed (queue_names t.queues) w) letter r targets) (same r)
           ∙ ap (λ (es : List Entry). queues r ++ es)
           (come_same t (listed (queue_names t.queues) w) queues same letter r targets
@@ -156,9 +156,9 @@ dies_by s q m d queues (Some exchange) whole same letters =
 
 -- ---- all of them
 
-may_die : (s : Store) (c h : ℕ) (g : Delivery) (e : Entry) (d : Death) → IsStoreWhole s → AreApartBy s.queues → g.queue < length s.topology.queues → IsDeathOf s.topology c h g e d
+may_die : (s : Store) (c h : ℕ) (g : Delivery) (e : Entry) (d : Death) → IsStoreWhole s → AreDistinctBy s.queues → g.queue < length s.topology.queues → IsDeathOf s.topology c h g e d
     → MayDie s.topology (queue_name s.topology g.queue) (given.without_given c h (entries_named s) (outstanding_in (queue_names s.topology.queues) g)) (death_notes s.topology.queues d s.queues) (entries_named (with_lists s (died s.topology.queues d s.queues))) (Some e)
-may_die s c h g e d whole apart lt is =
+may_die s c h g e d whole distinct lt is =
     let t = s.topology in
     let q = queue_there t.queues g.queue lt in
     let queues = given.without_given c h (entries_named s) (outstanding_in (queue_names t.queues) g) in
@@ -166,8 +166,8 @@ may_die s c h g e d whole apart lt is =
     let new = entries_named (with_lists s (died t.queues d s.queues)) in (
       notes,
       ap (λ (n : Note). n ∷ notes) is.note,
-      subst (DiesIn t queues e.message notes new) (sym (named_there t.queues g.queue q.0 whole.formed.queues_apart lt q.1))
-          (dies_by s q.0 e.message d queues q.0.dead_letter_exchange whole (λ r. without_named s c h g d r whole apart lt is.place is.holder) (is.letters q.0 q.1)),
+      subst (DiesIn t queues e.message notes new) (sym (named_there t.queues g.queue q.0 whole.formed.queues_distinct lt q.1))
+          (dies_by s q.0 e.message d queues q.0.dead_letter_exchange whole (λ r. without_named s c h g d r whole distinct lt is.place is.holder) (is.letters q.0 q.1)),
     )
 
 not_there : (s : Store) (c h : ℕ) (g : Delivery) (r : Text) → find (is_held_as (holder_of_delivery c h g)) (entries_named s (queue_name s.topology g.queue)) ≡ None → entries_named s r ≡ given.without_given c h (entries_named s) (outstanding_in (queue_names s.topology.queues) g) r
@@ -194,11 +194,11 @@ RejectedBy s c h gone ds =
 -- what is still to do once the first of them is done
 abbrev IsLater : Store → ℕ → ℕ → List Delivery → List Death → Type 0
 IsLater s c h gs rest =
-    (lists : List (List Entry)) → IsStoreWhole (with_lists s lists) → AreApartBy lists → ArePlanned s.topology c h lists gs rest → RejectedBy (with_lists s lists) c h gs rest
+    (lists : List (List Entry)) → IsStoreWhole (with_lists s lists) → AreDistinctBy lists → ArePlanned s.topology c h lists gs rest → RejectedBy (with_lists s lists) c h gs rest
 
-rejected_next : (s : Store) (c h : ℕ) (g : Delivery) (gs : List Delivery) (first rest ds : List Death) (o : Option Entry) → given_at c h s.queues g ≡ o → IsStoreWhole s → AreApartBy s.queues → AreByTag (g ∷ gs) → g.queue < length s.topology.queues
+rejected_next : (s : Store) (c h : ℕ) (g : Delivery) (gs : List Delivery) (first rest ds : List Death) (o : Option Entry) → given_at c h s.queues g ≡ o → IsStoreWhole s → AreDistinctBy s.queues → AreByTag (g ∷ gs) → g.queue < length s.topology.queues
     → Plans s.topology c h g o first → ds ≡ first ++ rest → ArePlanned s.topology c h s.queues gs rest → IsLater s c h gs rest → RejectedBy s c h (g ∷ gs) ds
-rejected_next s c h g gs first rest ds None there whole apart ordered lt none e planned later =
+rejected_next s c h g gs first rest ds None there whole distinct ordered lt none e planned later =
     let t = s.topology in
     let name = queue_name t g.queue in
     let p = is_held_as (holder_of_delivery c h g) in
@@ -210,9 +210,9 @@ rejected_next s c h g gs first rest ds None there whole apart ordered lt none e 
       all_notes t.queues rest s.queues,
       subst (MayDie t name (given.without_given c h (entries_named s) (outstanding_in (queue_names t.queues) g)) [] (entries_named s)) (sym absent) (refl, λ r. not_there s c h g r absent),
       refl,
-      later s.queues whole apart planned,
+      later s.queues whole distinct planned,
     )
-rejected_next s c h g gs first rest ds (Some x) there whole apart ordered lt one e planned later =
+rejected_next s c h g gs first rest ds (Some x) there whole distinct ordered lt one e planned later =
     let t = s.topology in
     let d = one.0 in
     let name = queue_name t g.queue in
@@ -229,24 +229,24 @@ rejected_next s c h g gs first rest ds (Some x) there whole apart ordered lt one
       entries_named (with_lists s now),
       death_notes t.queues d s.queues,
       all_notes t.queues rest now,
-      subst (MayDie t name (given.without_given c h (entries_named s) (outstanding_in (queue_names t.queues) g)) (death_notes t.queues d s.queues) (entries_named (with_lists s now))) (sym present) (may_die s c h g x d whole apart lt one.2),
+      subst (MayDie t name (given.without_given c h (entries_named s) (outstanding_in (queue_names t.queues) g)) (death_notes t.queues d s.queues) (entries_named (with_lists s now))) (sym present) (may_die s c h g x d whole distinct lt one.2),
       refl,
-      later now (whole_with s now whole (length-died t.queues d s.queues)) (apart_after t.queues d s.queues apart) still,
+      later now (whole_with s now whole (length-died t.queues d s.queues)) (apart_after t.queues d s.queues distinct) still,
     )
 
-rejected_from : (s : Store) (c h : ℕ) (gone : List Delivery) (ds : List Death) → IsStoreWhole s → AreApartBy s.queues → AreByTag gone → AreWithin s.topology gone → ArePlanned s.topology c h s.queues gone ds → RejectedBy s c h gone ds
-rejected_from s c h [] ds whole apart ordered within are =
+rejected_from : (s : Store) (c h : ℕ) (gone : List Delivery) (ds : List Death) → IsStoreWhole s → AreDistinctBy s.queues → AreByTag gone → AreWithin s.topology gone → ArePlanned s.topology c h s.queues gone ds → RejectedBy s c h gone ds
+rejected_from s c h [] ds whole distinct ordered within are =
     (ap (λ (xs : List Death). all_notes s.topology.queues xs s.queues) are, (λ q. ap (λ (xs : List Death). entries_named (with_lists s (died_all s.topology.queues xs s.queues)) q) are))
-rejected_from s c h (g ∷ gs) ds whole apart ordered within are =
-    rejected_next s c h g gs are.0 are.1 ds (given_at c h s.queues g) refl whole apart ordered (within 0 g (omega arith)) are.2 are.3 are.4
+rejected_from s c h (g ∷ gs) ds whole distinct ordered within are =
+    rejected_next s c h g gs are.0 are.1 ds (given_at c h s.queues g) refl whole distinct ordered (within 0 g (omega arith)) are.2 are.3 are.4
     (λ lists w a p.
     rejected_from (with_lists s lists) c h gs are.1 w a (λ i j k l m. ordered (suc i) (suc j) k (omega (arith, l)) (omega (arith, m))) (λ i k l. within (suc i) k (omega (arith, l))) p)
 
-pub apart_by : (s : Store) → IsStoreWhole s → IsApart s → AreApartBy s.queues
-apart_by s whole apart k a = go (nat_lt k (length s.topology.queues)) refl
+pub apart_by : (s : Store) → IsStoreWhole s → IsHeldOnce s → AreDistinctBy s.queues
+apart_by s whole distinct k a = go (nat_lt k (length s.topology.queues)) refl
   where
     go : (b : Bool) → nat_lt k (length s.topology.queues) ≡ b → count_by (is_held_as a) (get_or s.queues k []) ≤ 1
-    go true is = let lt : k < length s.topology.queues = grind (arith, common_steps) in let one = apart (queue_name s.topology k) a in let here = ap (count_by (is_held_as a)) (queue_of-place s k whole lt) in omega (arith, one, here)
+    go true is = let lt : k < length s.topology.queues = grind (arith, common_steps) in let one = distinct (queue_name s.topology k) a in let here = ap (count_by (is_held_as a)) (queue_of-place s k whole lt) in omega (arith, one, here)
     go false is =
         let len = whole.len in
         let past : length s.queues ≤ k = grind (arith, common_steps) in
@@ -254,15 +254,15 @@ apart_by s whole apart k a = go (nat_lt k (length s.topology.queues)) refl
         omega (arith, none)
 
 -- what was done by places is the rejection
-pub rejecting : (old new : Store) (id : ChannelId) (gone : List Delivery) (before after : List Note) → IsStoreWhole old → IsApart old → AreByTag gone → AreWithin old.topology gone → new.published ≡ old.published → new.topology ≡ old.topology
+pub rejecting : (old new : Store) (id : ChannelId) (gone : List Delivery) (before after : List Note) → IsStoreWhole old → IsHeldOnce old → AreByTag gone → AreWithin old.topology gone → new.published ≡ old.published → new.topology ≡ old.topology
     → Rejects old.topology id gone old.queues new.queues before after → AreSettledBy given.Rejects old id.connection id.number gone before after new
-rejecting old new id gone before after whole apart ordered within counted same r =
+rejecting old new id gone before after whole distinct ordered within counted same r =
     let t = old.topology in
     let done : with_lists old (died_all t.queues r.deaths old.queues) ≡ new = rw (same, counted, r.entries) refl in
     record {
       noted = all_notes t.queues r.deaths old.queues;
       appended = r.notes;
-      settled = subst (λ (s : Store). AreRejected t id.connection id.number (map (outstanding_in (queue_names t.queues)) gone) (entries_named old) (all_notes t.queues r.deaths old.queues) (entries_named s)) done (rejected_from old id.connection id.number gone r.deaths whole (apart_by old whole apart) ordered within r.planned);
+      settled = subst (λ (s : Store). AreRejected t id.connection id.number (map (outstanding_in (queue_names t.queues)) gone) (entries_named old) (all_notes t.queues r.deaths old.queues) (entries_named s)) done (rejected_from old id.connection id.number gone r.deaths whole (apart_by old whole distinct) ordered within r.planned);
       counted = counted;
       topology = same;
     }

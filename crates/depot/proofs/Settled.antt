@@ -8,27 +8,27 @@ use Rattle.depot.specs.declared.departures.Departure.{Departure}
 use Rattle.depot.proofs.Firsts.{one_passes, count-filter}
 use Rattle.depot.proofs.Named.{queue_of-changed, queue_of-place}
 use Rattle.depot.proofs.Waiting.{nothing, next_waiting}
-use Rattle.depot.proofs.Rejected.{AreApartBy, fewer-set}
+use Rattle.depot.proofs.Rejected.{AreDistinctBy, fewer-set}
 
 -- ---- one delivery
 
 -- the queues without its message, by their names
-left_named : (s : Store) (c h : ℕ) (d : Delivery) (q : Text) → IsStoreWhole s → AreApartBy s.queues → d.queue < length s.topology.queues
+left_named : (s : Store) (c h : ℕ) (d : Delivery) (q : Text) → IsStoreWhole s → AreDistinctBy s.queues → d.queue < length s.topology.queues
     → entries_named (record s { queues = left_at c h s.queues d }) q ≡ given.without_given c h (entries_named s) (outstanding_in (queue_names s.topology.queues) d) q
-left_named s c h d q whole apart lt =
+left_named s c h d q whole distinct lt =
     let p = is_held_as (holder_of_delivery c h d) in
     let here = get_or s.queues d.queue [] in
     queue_of-changed s d.queue (filter (λ (e : Entry). not (p e)) here) q whole lt
     ∙ ap (λ (es : List Entry). if bytes_eq (queue_name s.topology d.queue) q then es else entries_named s q)
-    (one_passes p here (apart d.queue (holder_of_delivery c h d)) ∙ ap (without_first p) (sym (queue_of-place s d.queue whole lt)))
+    (one_passes p here (distinct d.queue (holder_of_delivery c h d)) ∙ ap (without_first p) (sym (queue_of-place s d.queue whole lt)))
 
 -- what is held is still apart without it
-apart_left : (c h : ℕ) (lists : List (List Entry)) (d : Delivery) → AreApartBy lists → AreApartBy (left_at c h lists d)
-apart_left c h lists d apart k a =
+apart_left : (c h : ℕ) (lists : List (List Entry)) (d : Delivery) → AreDistinctBy lists → AreDistinctBy (left_at c h lists d)
+apart_left c h lists d distinct k a =
     let p = is_held_as (holder_of_delivery c h d) in
     let kept = filter (λ (e : Entry). not (p e)) (get_or lists d.queue []) in
     let fewer = fewer-set (is_held_as a) lists d.queue k kept (count-filter (is_held_as a) (λ (e : Entry). not (p e)) (get_or lists d.queue [])) in
-    let one = apart k a in
+    let one = distinct k a in
     omega (arith, fewer, one)
 
 -- the queues with it ready again, by their names
@@ -50,10 +50,10 @@ none_returns s c h = record { noted = []; appended = refl; settled = (refl, λ q
 
 -- one leaves its queue, and then others do
 pub leaves_first : (cause : Cause) (s : Store) (c h : ℕ) (d : Delivery) (ds : List Delivery) (lists : List (List Entry)) (before middle after : List Note) (new : Store)
-    → IsStoreWhole s → AreApartBy s.queues → d.queue < length s.topology.queues
+    → IsStoreWhole s → AreDistinctBy s.queues → d.queue < length s.topology.queues
     → lists ≡ left_at c h s.queues d → middle ≡ before ++ left_note cause (queue_name s.topology d.queue) (given_at c h s.queues d)
     → AreSettledBy (Leaves cause) (record s { queues = lists }) c h ds middle after new → AreSettledBy (Leaves cause) s c h (d ∷ ds) before after new
-leaves_first cause s c h d ds lists before middle after new whole apart lt moved noted rest =
+leaves_first cause s c h d ds lists before middle after new whole distinct lt moved noted rest =
     let name = queue_name s.topology d.queue in
     let note = left_note cause name (given_at c h s.queues d) in
     record {
@@ -62,7 +62,7 @@ leaves_first cause s c h d ds lists before middle after new whole apart lt moved
       settled = (
         entries_named (record s { queues = lists }),
         rest.noted,
-        (λ q. ap (λ (ls : List (List Entry)). entries_named (record s { queues = ls }) q) moved ∙ left_named s c h d q whole apart lt),
+        (λ q. ap (λ (ls : List (List Entry)). entries_named (record s { queues = ls }) q) moved ∙ left_named s c h d q whole distinct lt),
         ap (λ (es : List Entry). left_note cause name (find (is_held_as (holder_of_delivery c h d)) es) ++ rest.noted) (sym (queue_of-place s d.queue whole lt)),
         rest.settled,
       );
@@ -96,12 +96,12 @@ pub record AreLeaving (t : Topology) (c h : ℕ) (old now : List (List Entry)) (
   pub rest_are : rest ≡ map (departure_in t) still
   pub within : AreWithin t still
   pub len : length now ≡ length t.queues
-  pub apart : AreApartBy now
+  pub distinct : AreDistinctBy now
   pub all : (n : ℕ) (after : List Note) (new : Store) → AreSettledBy (Leaves Acked) (store_of t now n) c h still noted after new → AreSettledBy (Leaves Acked) (store_of t old n) c h gone before after new
 
-pub leaving_begins : (t : Topology) (c h : ℕ) (old : List (List Entry)) (gone : List Delivery) (rest : List Departure) (before : List Note) → rest ≡ map (departure_in t) gone → AreWithin t gone → length old ≡ length t.queues → AreApartBy old
+pub leaving_begins : (t : Topology) (c h : ℕ) (old : List (List Entry)) (gone : List Delivery) (rest : List Departure) (before : List Note) → rest ≡ map (departure_in t) gone → AreWithin t gone → length old ≡ length t.queues → AreDistinctBy old
     → AreLeaving t c h old old gone rest before before
-leaving_begins t c h old gone rest before are within len apart = record { still = gone; rest_are = are; within = within; len = len; apart = apart; all = λ n after new settled. settled }
+leaving_begins t c h old gone rest before are within len distinct = record { still = gone; rest_are = are; within = within; len = len; distinct = distinct; all = λ n after new settled. settled }
 
 pub leaving_within : (t : Topology) (c h : ℕ) (old now : List (List Entry)) (gone : List Delivery) (rest later : List Departure) (d : Departure) (before noted : List Note)
     → AreLeaving t c h old now gone rest before noted → rest ≡ d ∷ later → d.given.queue < length now
@@ -128,7 +128,7 @@ leaving_ends t c h n old now gone rest before noted leaving none = go leaving.st
 pub leaving_next : (t : Topology) (c h : ℕ) (old now new : List (List Entry)) (gone : List Delivery) (rest later : List Departure) (d : Departure) (before noted more : List Note) → IsWellFormed t
     → AreLeaving t c h old now gone rest before noted → rest ≡ d ∷ later → new ≡ left_at c h now d.given → more ≡ noted ++ left_note Acked d.queue (given_at c h now d.given)
     → AreLeaving t c h old new gone later before more
-leaving_next t c h old now new gone rest later d before noted more formed leaving next moved told = go leaving.still leaving.within leaving.all (sym next ∙ leaving.rest_are)
+leaving_next t c h old now new gone rest later d before noted more formed leaving next moved reported = go leaving.still leaving.within leaving.all (sym next ∙ leaving.rest_are)
   where
     go : (ds : List Delivery) → AreWithin t ds
         → ((n : ℕ) (after : List Note) (last : Store) → AreSettledBy (Leaves Acked) (store_of t now n) c h ds noted after last → AreSettledBy (Leaves Acked) (store_of t old n) c h gone before after last)
@@ -140,29 +140,29 @@ leaving_next t c h old now new gone rest later d before noted more formed leavin
         let name : d.queue ≡ queue_name t x.queue = ap (λ (y : Departure). y.queue) first in
         let lists : new ≡ left_at c h now x = moved ∙ ap (left_at c h now) at in
         let notes : more ≡ noted ++ left_note Acked (queue_name t x.queue) (given_at c h now x)
-        = told ∙ ap (λ (q : Text). noted ++ left_note Acked q (given_at c h now d.given)) name ∙ ap (λ (y : Delivery). noted ++ left_note Acked (queue_name t x.queue) (given_at c h now y)) at in
+        = reported ∙ ap (λ (q : Text). noted ++ left_note Acked q (given_at c h now d.given)) name ∙ ap (λ (y : Delivery). noted ++ left_note Acked (queue_name t x.queue) (given_at c h now y)) at in
         let lt = within 0 x (omega arith) in
         record {
           still = xs;
           rest_are = cc (e);
           within = λ k y l. within (suc k) y (omega (arith, l));
           len = ap length lists ∙ length-set now x.queue (filter (λ (y : Entry). not (is_held_as (holder_of_delivery c h x) y)) (get_or now x.queue [])) ∙ leaving.len;
-          apart = subst AreApartBy (sym lists) (apart_left c h now x leaving.apart);
+          distinct = subst AreDistinctBy (sym lists) (apart_left c h now x leaving.distinct);
           all = λ n after last settled.
-              all n after last (leaves_first Acked (store_of t now n) c h x xs new noted more after last (record { formed = formed; len = leaving.len }) leaving.apart lt lists notes settled);
+              all n after last (leaves_first Acked (store_of t now n) c h x xs new noted more after last (record { formed = formed; len = leaving.len }) leaving.distinct lt lists notes settled);
         }
 
 -- where there is one, and it waits, it leaves
-pub one_left : (t : Topology) (c h n : ℕ) (gone : List Delivery) (old new : List (List Entry)) (before after : List Note) → IsWellFormed t → length old ≡ length t.queues → AreApartBy old → AreWithin t (waiting gone)
+pub one_left : (t : Topology) (c h n : ℕ) (gone : List Delivery) (old new : List (List Entry)) (before after : List Note) → IsWellFormed t → length old ≡ length t.queues → AreDistinctBy old → AreWithin t (waiting gone)
     → length gone ≡ 1 → is_waiting (get_or gone 0 nothing) ≡ true → new ≡ left_at c h old (get_or gone 0 nothing)
     → after ≡ before ++ left_note Acked (queue_name t (get_or gone 0 nothing).queue) (given_at c h old (get_or gone 0 nothing))
     → AreSettledBy (Leaves Acked) (store_of t old n) c h (waiting gone) before after (store_of t new n)
-one_left t c h n [] old new before after formed len apart within one w moved noted = absurd (omega (arith, one))
-one_left t c h n (x ∷ y ∷ zs) old new before after formed len apart within one w moved noted = absurd (omega (arith, one))
-one_left t c h n (x ∷ []) old new before after formed len apart within one w moved noted =
+one_left t c h n [] old new before after formed len distinct within one w moved noted = absurd (omega (arith, one))
+one_left t c h n (x ∷ y ∷ zs) old new before after formed len distinct within one w moved noted = absurd (omega (arith, one))
+one_left t c h n (x ∷ []) old new before after formed len distinct within one w moved noted =
     let alone : waiting (x ∷ []) ≡ x ∷ [] = ap (λ (b : Bool). cond b (x ∷ []) []) w in
     subst (λ (ds : List Delivery). AreSettledBy (Leaves Acked) (store_of t old n) c h ds before after (store_of t new n)) (sym alone)
-    (leaves_first Acked (store_of t old n) c h x [] new before after after (store_of t new n) (record { formed = formed; len = len }) apart (subst (AreWithin t) alone within 0 x (omega arith)) moved noted
+    (leaves_first Acked (store_of t old n) c h x [] new before after after (store_of t new n) (record { formed = formed; len = len }) distinct (subst (AreWithin t) alone within 0 x (omega arith)) moved noted
     (none_leaves Acked (store_of t new n) c h after))
 
 -- those that wait from this place on are ready again

@@ -1,5 +1,5 @@
 -- What the signs of queues say, as queues are lent and change.
-use Rattle.depot.proofs.Names.{◌≡◌, ℕ, zero, suc, ◌+◌, ◌*◌, ◌<◌, ◌≤◌, Bool, false, cond, List, [], Option, Some, None, length, get_or, set, refl, sym, ap, subst, ◌∙◌, arith, inl, inr, ne_eqb, eqb_tells, leb_tells, get_or-set_other, get_or_past, get_or-replicate, length-set, length-replicate, Topology, Entry, bit_of, IsNextMark, Line, ready_count, Store, entries_of, IsNextReady, ready_bit, ready_places, AreSignedBut, TellsNext}
+use Rattle.depot.proofs.Names.{◌≡◌, ℕ, zero, suc, ◌+◌, ◌*◌, ◌<◌, ◌≤◌, Bool, false, cond, List, [], Option, Some, None, length, get_or, set, refl, sym, ap, subst, ◌∙◌, arith, inl, inr, ne_eqb, eqb_tells, leb_tells, get_or-set_other, get_or_past, get_or-replicate, length-set, length-replicate, Topology, Entry, bit_of, IsNextMark, Line, ready_count, Store, entries_of, IsNextReady, ready_bit, ready_places, AreSignedBut, ReturnsNext}
 use Rattle.std.proofs.Common.{◌==◌, replicate}
 use Rattle.depot.proofs.Changes.{entries_of-length, entries_of-at, entries_of-set}
 
@@ -60,7 +60,7 @@ next_behind lent from place bits set agree lt not next = record {
 }
 
 -- it is passed
-pub next_past : (lent from : ℕ) (bits set : ℕ → ℕ) (o : Option ℕ) → ((k : ℕ) → (k ≡ lent → ⊥) → bits k ≡ set k) → from ≤ lent → set lent ≡ 0 → NoneBefore bits from lent → TellsNext bits (lent + 1) o → TellsNext set from o
+pub next_past : (lent from : ℕ) (bits set : ℕ → ℕ) (o : Option ℕ) → ((k : ℕ) → (k ≡ lent → ⊥) → bits k ≡ set k) → from ≤ lent → set lent ≡ 0 → NoneBefore bits from lent → ReturnsNext bits (lent + 1) o → ReturnsNext set from o
 next_past lent from bits set o agree ge not none next = tells o next
   where
     passed : (k : ℕ) → from ≤ k → k ≤ lent → set k ≡ 0
@@ -75,7 +75,7 @@ next_past lent from bits set o agree ge not none next = tells o next
       | inr q ↦ (let gt = q.1 in sym (agree k (λ e. absurd (omega (arith, e, gt)))) ∙ before k (omega (arith, gt)) lt)
     ]
 
-    tells : (o : Option ℕ) → TellsNext bits (lent + 1) o → TellsNext set from o
+    tells : (o : Option ℕ) → ReturnsNext bits (lent + 1) o → ReturnsNext set from o
     tells None nothing = λ k g. empty (k + 1) k (λ j l lt. nothing j l) g (omega arith)
     tells (Some place) n = let least = n.least in record {
       least = omega (arith, ge, least);
@@ -96,7 +96,7 @@ none_ready n e h =
     absurd (omega (arith, one, e))
 
 -- the next one has something ready, and none before it
-told_there : (t : Topology) (lines : List Line) (n from : ℕ) (o : Option ℕ) → length lines ≡ length t.queues → TellsNext (ready_places (entries_of lines)) from o
+told_there : (t : Topology) (lines : List Line) (n from : ℕ) (o : Option ℕ) → length lines ≡ length t.queues → ReturnsNext (ready_places (entries_of lines)) from o
     → IsNextReady (record { topology = t; queues = entries_of lines; published = n }) from o
 told_there t lines n from None len none = λ p ge lt has. none_ready (ready_count (get_or (entries_of lines) p [])) (none p ge) has
 told_there t lines n from (Some place) len next = record {
@@ -114,5 +114,5 @@ told_there t lines n from (Some place) len next = record {
 }
 
 pub next_told : (t : Topology) (lines : List Line) (n : ℕ) (s : Store) (from : ℕ) (o : Option ℕ) → record { topology = t; queues = entries_of lines; published = n } ≡ s → length lines ≡ length t.queues
-    → TellsNext (ready_places (entries_of lines)) from o → IsNextReady s from o
+    → ReturnsNext (ready_places (entries_of lines)) from o → IsNextReady s from o
 next_told t lines n s from o view len next = subst (λ (x : Store). IsNextReady x from o) view (told_there t lines n from o len next)

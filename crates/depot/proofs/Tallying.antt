@@ -91,7 +91,7 @@ nothing_arrives (x ∷ xs) (suc i) = ap (λ (ys : List (List Entry)). x ∷ ys) 
 pub refuses_full : (qs : List DeclaredQueue) (old : List (List Entry)) (tl : List (ℕ × Tally)) (place size : ℕ) (q : DeclaredQueue) (t : Tally) → place < length qs → q ≡ get_or qs place q → is_limited q ≡ true → t ≡ tally_at old tl place
     → (is_at q.limit t.ready || is_past q.byte_limit (t.bytes + size)) ≡ true → (entries : List (List Entry)) → TellsTurn qs old tl tl place size true entries
 refuses_full qs old tl place size q t lt at limited is full entries = record {
-  told = λ are. sym full ∙ judged qs old entries tl place size q t (found_there qs place q lt at) limited is are;
+  reported = λ are. sym full ∙ judged qs old entries tl place size q t (found_there qs place q lt at) limited is are;
   tallied = λ are m long. subst (AreTallied qs old tl) (sym (nothing_arrives entries place)) are;
 }
 
@@ -102,7 +102,7 @@ pub takes_more : (qs : List DeclaredQueue) (old : List (List Entry)) (tl tl' : L
 takes_more qs old tl tl' place size q t t' lt at limited is takes more long updates entries =
     let found = found_there qs place q lt at in
     record {
-      told = λ are. sym takes ∙ judged qs old entries tl place size q t found limited is are;
+      reported = λ are. sym takes ∙ judged qs old entries tl place size q t found limited is are;
       tallied = λ are m body. record {
         len = length-set entries place (get_or entries place [] ++ arriving (Some m)) ∙ are.len;
         tallied = λ k x there lim. elim (eqb_tells place k) [

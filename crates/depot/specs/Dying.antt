@@ -205,6 +205,6 @@ pub record IsForeseen (t : Topology) (id : ChannelId) (gone : List Delivery) (ol
   pub arrivals : came ≡ all_arrivals t.queues deaths old
   pub notes : after ≡ before ++ all_notes t.queues deaths old
 
--- what is appended to
+-- the second list is the first with notes appended
 abbrev pub Extends : List Note → List Note → Type 0
 Extends notes notes' = (more : List Note) × (notes' ≡ notes ++ more)

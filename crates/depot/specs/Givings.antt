@@ -33,9 +33,9 @@ given_notes (Held holder) first = []
 given_notes (Out queue) first = left_note Auto queue first
 
 -- an arrival number is returned exactly if a message is held now
-abbrev pub TellsArrival : Giving → Option Entry → Option ℕ → Type 0
-TellsArrival (Held holder) first told = is_some told ≡ is_some first
-TellsArrival (Out queue) first told = told ≡ None
+abbrev pub ReturnsArrival : Giving → Option Entry → Option ℕ → Type 0
+ReturnsArrival (Held holder) first reported = is_some reported ≡ is_some first
+ReturnsArrival (Out queue) first reported = reported ≡ None
 
 -- The first ready message of the queue with this name was given out, if there is one; nothing else changed.
 pub record IsTakenFrom (old : Store) (name : Text) (how : Giving) (new : Store) : Type 0 where

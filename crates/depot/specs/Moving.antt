@@ -2,7 +2,7 @@
 use Rattle.std.specs.Prelude.{◌≡◌, ◌<◌, ◌≤◌, ℕ, List, [], ◌∷◌, length, map, slice_index_or, slice_set}
 use Rattle.model.specs.Words.{Text}
 use Rattle.model.specs.Topology.{IsIn, queue_names}
-use Rattle.model.specs.Reloading.{stood_now}
+use Rattle.model.specs.Reloading.{survived_now}
 use Rattle.model.specs.declared.messages.Entry.{Entry}
 use Rattle.depot.specs.Store.{Store, entries_named}
 
@@ -24,4 +24,4 @@ GoneAreEmpty old new = (q : Text) → IsIn q (queue_names old.topology.queues) �
 abbrev pub taken : List ℕ → List (List Entry) → List (List Entry) → List (List Entry)
 taken [] olds news = news
 taken (p ∷ ps) [] news = news
-taken (p ∷ ps) (es ∷ olds) news = taken ps olds (slice_set news p (map stood_now es))
+taken (p ∷ ps) (es ∷ olds) news = taken ps olds (slice_set news p (map survived_now es))

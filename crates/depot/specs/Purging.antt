@@ -9,7 +9,7 @@ use Rattle.depot.specs.Store.{Store, entries_named}
 -- Exactly the ready messages have left the queue with this name, `count` of them. A note for each is appended, and nothing else
 -- changed.
 pub record IsPurgedBy (old : Store) (name : Text) (before after : List Note) (count : ℕ) (new : Store) : Type 0 where
-  pub told : count ≡ ready_in (entries_named old name)
+  pub reported : count ≡ ready_in (entries_named old name)
   pub noted : after ≡ before ++ purge_notes name (filter is_ready (entries_named old name))
   pub queues : (q : Text) → entries_named new q
       ≡ with_queue (entries_named old) name (filter (λ e. not (is_ready e)) (entries_named old name)) q

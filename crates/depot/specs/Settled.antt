@@ -26,8 +26,8 @@ pub record AreSettledBy (how : Settlement) (old : Store) (c h : ℕ) (gone : Lis
   pub topology : new.topology ≡ old.topology
 
 -- at most one message of each queue is held under one tag
-abbrev pub IsApart : Store → Type 0
-IsApart s = (q : Text) (holder : Holder) → count_by (is_held_as holder) (entries_named s q) ≤ 1
+abbrev pub IsHeldOnce : Store → Type 0
+IsHeldOnce s = (q : Text) (holder : Holder) → count_by (is_held_as holder) (entries_named s q) ≤ 1
 
 -- ---- by index
 

@@ -41,7 +41,7 @@ taken_if full m = if full then None else Some m
 -- If the queues `entries` are tallied, this is whether the queue at index `place` refuses a body of `size` bytes, and they are tallied after that.
 pub record TellsTurn (queues : List DeclaredQueue) (old : List (List Entry)) (tallies tallies' : List (ℕ × Tally)) (place size : ℕ) (full : Bool)
     (entries : List (List Entry)) : Type 0 where
-  pub told : AreTallied queues old tallies entries → full ≡ is_full_at queues entries place size
+  pub reported : AreTallied queues old tallies entries → full ≡ is_full_at queues entries place size
   pub tallied : AreTallied queues old tallies entries → (m : Message) → length m.content.body ≡ size
       → AreTallied queues old tallies' (slice_set entries place (slice_index_or entries place [] ++ arriving (taken_if full m)))
 

@@ -90,9 +90,9 @@ impl Depot {
     ghost use Rattle.model.specs.Entries.{is_held_as};
     ghost use Rattle.queue.specs.Line.{ready_count};
     ghost use Rattle.depot.specs.Store.{entries_named, queue_at, with_entries_at, IsStoreWhole, IsQueueNamed, IsNextReady};
-    ghost use Rattle.depot.specs.Givings.{CanGive, HasRoomFor, IsTakenFrom, TellsArrival, given_notes, given_so};
+    ghost use Rattle.depot.specs.Givings.{CanGive, HasRoomFor, IsTakenFrom, ReturnsArrival, given_notes, given_so};
     ghost use Rattle.model.specs.Topology.{queue_names};
-    ghost use Rattle.model.specs.Reloading.{stood_now};
+    ghost use Rattle.model.specs.Reloading.{survived_now};
     ghost use Rattle.model.specs.Words.{Text};
     ghost use Rattle.exchange_graph.specs.Routers.{IsRoute};
     ghost use Rattle.depot.specs.Moving.{AreMoved, GoneAreEmpty};
@@ -100,7 +100,7 @@ impl Depot {
     ghost use Rattle.model.specs.Placed.{waiting, AreWithin, AreByTag};
     ghost use Rattle.model.specs.Deliveries.{Leaves, Rejects, Returns};
     ghost use Rattle.model.specs.declared.notes.Cause.TheVariants.{Acked};
-    ghost use Rattle.depot.specs.Settled.{AreSettledBy, IsApart};
+    ghost use Rattle.depot.specs.Settled.{AreSettledBy, IsHeldOnce};
     ghost use Rattle.depot.specs.Purging.{IsPurgedBy};
     ghost use Rattle.exchange_graph.specs.Marks.{queue_name};
 
@@ -211,7 +211,7 @@ impl Depot {
         notes: &mut Notes,
     ) -> Result<(), AllocError>
         requires within { AreWithin self.old.topology (waiting gone.now) }
-        requires apart { IsApart self.old }
+        requires distinct { IsHeldOnce self.old }
         ensures ok { OnOk result (AreSettledBy (Leaves Acked) self.old id.connection id.number (waiting gone.now)
             notes.old.items notes.new.items self.new) }
         ensures store { OnErr result (self.new ≡ self.old) }
@@ -247,7 +247,7 @@ impl Depot {
         // What the caller knows of the deliveries: queues that exist, ascending tags, one message of a queue under a tag.
         requires within { AreWithin self.old.topology (waiting gone.now) }
         requires ordered { AreByTag (waiting gone.now) }
-        requires apart { IsApart self.old }
+        requires distinct { IsHeldOnce self.old }
         // The promise; a failure changes neither the store nor the notes.
         ensures ok { OnOk result
             (AreSettledBy Rejects self.old id.connection id.number (waiting gone.now)
@@ -318,7 +318,7 @@ impl Depot {
     pub fn take(&mut self, name: &[u8], how: Giving, notes: &mut Notes) -> Option<u64>
         requires free { CanGive how (entries_named self.old name.now) }
         requires room { HasRoomFor how (vec_len notes.old) (vec_capacity notes.old) }
-        ensures told { TellsArrival how (find is_ready (entries_named self.old name.now)) result }
+        ensures reported { ReturnsArrival how (find is_ready (entries_named self.old name.now)) result }
         ensures taken { IsTakenFrom self.old name.now how self.new }
         ensures notes { notes.new.items ≡ notes.old.items ++ given_notes how (find is_ready (entries_named self.old name.now)) }
     {
@@ -362,7 +362,7 @@ impl Depot {
     /// Returns the index of the first queue at or after `from` with a ready message, or `None` if there is none. Looks at a set of indices, not
     /// at the queues before it.
     pub fn next_ready(&self, from: usize) -> Option<usize>
-        ensures told { IsNextReady self.now from result }
+        ensures reported { IsNextReady self.now from result }
     {
         self.queues.next_ready(from)
     }
@@ -392,7 +392,7 @@ impl Depot {
         requires free { CanGive how (queue_at self.old index) }
         requires room { HasRoomFor how (vec_len notes.old) (vec_capacity notes.old) }
         // What is returned, what changes, and what is noted.
-        ensures told { TellsArrival how (find is_ready (queue_at self.old index)) result }
+        ensures reported { ReturnsArrival how (find is_ready (queue_at self.old index)) result }
         ensures store { self.new ≡ with_entries_at self.old index (given_so how (queue_at self.old index)) }
         ensures notes { notes.new.items ≡ notes.old.items ++ given_notes how (find is_ready (queue_at self.old index)) }
     {
@@ -452,7 +452,7 @@ impl Depot {
         requires empty { self.old.queues ≡ replicate (length self.old.topology.queues) [] }
         requires gone { GoneAreEmpty old (queue_names self.old.topology.queues) }
         // Each queue has the entries that `old` has under its name; the frame.
-        ensures entries { (q : Text) → entries_named self.new q ≡ map stood_now (entries_named old q) }
+        ensures entries { (q : Text) → entries_named self.new q ≡ map survived_now (entries_named old q) }
         ensures published { self.new.published ≡ old.published }
         ensures topology { self.new.topology ≡ self.old.topology }
     {

@@ -116,11 +116,14 @@ pub(crate) fn enter(
     turn: PlannedTurn,
     notes: &mut Notes,
 ) -> bool
+    // What the caller knows: there is room for the message and capacity for its note.
     requires room { 0 < queue.old.room }
     requires notes { vec_len notes.old < vec_capacity notes.old }
+    // The outcome of the turn decides what is returned and what enters; a refused message uses no room.
     ensures refused { result ≡ is_refusal (outcome_at Publish declared.now queue.old.entries turn) }
     ensures entries { queue.new.entries ≡ queue.old.entries ++ arriving (outcome_at Publish declared.now queue.old.entries turn).message }
     ensures room { queue.new.room + length (arriving (outcome_at Publish declared.now queue.old.entries turn).message) ≡ queue.old.room }
+    // One note is appended, within the capacity that there was.
     ensures notes { notes.new.items ≡ notes.old.items ++ (outcome_at Publish declared.now queue.old.entries turn).note ∷ [] }
     ensures notes_len { vec_len notes.new ≡ vec_len notes.old + 1 }
     ensures notes_capacity { vec_capacity notes.new ≡ vec_capacity notes.old }
@@ -155,14 +158,17 @@ fn enter_at(
     turn: PlannedTurn,
     notes: &mut Notes,
 ) -> bool
+    // What the caller knows: each queue is declared, the turn's is one of them, and there is room for the message and capacity for its note.
     requires len { length queues.old ≡ length declared.now }
     requires within { turn.place < length queues.old }
     requires room { 0 < room_at queues.old turn.place }
     requires notes { vec_len notes.old < vec_capacity notes.old }
+    // The outcome of the turn decides what is returned and what enters; only the turn's queue uses room, for one message.
     ensures refused { result ≡ is_refusal (outcome Publish declared.now (entries_of queues.old) turn) }
     ensures entries { entries_of queues.new ≡ entered_one (outcome Publish declared.now (entries_of queues.old) turn) (entries_of queues.old) }
     ensures room { (place : ℕ) → room_at queues.old place ≤ room_at queues.new place + cond (place == turn.place) 1 0 }
     ensures len { length queues.new ≡ length queues.old }
+    // One note is appended, within the capacity that there was.
     ensures notes { notes.new.items ≡ notes.old.items ++ (outcome Publish declared.now (entries_of queues.old) turn).note ∷ [] }
     ensures notes_len { vec_len notes.new ≡ vec_len notes.old + 1 }
     ensures notes_capacity { vec_capacity notes.new ≡ vec_capacity notes.old }
@@ -180,13 +186,16 @@ pub(crate) fn enter_all(
     turns: Vec<PlannedTurn>,
     notes: &mut Notes,
 ) -> bool
+    // What the caller knows: each queue is declared, the turns' are among them, and there is room for all messages and capacity for their notes.
     requires len { length queues.old ≡ length declared.now }
     requires within { All (λ i. i < length queues.old) (places turns.items) }
     requires room { IsRoomy queues.old (places turns.items) }
     requires notes { vec_len notes.old + vec_len turns ≤ vec_capacity notes.old }
+    // Each queue judges a turn as the earlier turns left it; any refusal is reported, and there are as many queues as before.
     ensures refused { result ≡ list_any is_refusal (outcomes Publish declared.now turns.items (entries_of queues.old)) }
     ensures entries { entries_of queues.new ≡ all_entered (outcomes Publish declared.now turns.items (entries_of queues.old)) (entries_of queues.old) }
     ensures len { length queues.new ≡ length queues.old }
+    // One note is appended for each turn, in their order, within the capacity that there was.
     ensures notes { notes.new.items ≡ notes.old.items ++ notes_of_outcomes (outcomes Publish declared.now turns.items (entries_of queues.old)) }
     ensures notes_len { vec_len notes.new ≡ vec_len notes.old + vec_len turns }
     ensures notes_capacity { vec_capacity notes.new ≡ vec_capacity notes.old }

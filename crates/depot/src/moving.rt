@@ -2,7 +2,7 @@
 
 ghost use Rattle.std.specs.Prelude.{◌≡◌, ◌+◌, ◌*◌, ◌<◌, ◌≤◌, ℕ, [], length, drop, map, slice_set, slice_index_or, IfOk};
 ghost use Rattle.model.specs.Topology.{queue_names};
-ghost use Rattle.model.specs.Reloading.{stood_now};
+ghost use Rattle.model.specs.Reloading.{survived_now};
 ghost use Rattle.depot.specs.Store.{entries_of};
 ghost use Rattle.depot.specs.Signs.{AreSignedBut};
 ghost use Rattle.depot.specs.Moving.{AreMoved, IsMoved, taken};
@@ -45,7 +45,7 @@ fn exchange_at(queues: &mut [Queue], place: usize, old: &mut [Queue], from: usiz
     requires place { place < length queues.old }
     requires from { from < length old.old }
     // The queue is at its new index, and the queues of `old` after it are unchanged.
-    ensures entries { entries_of queues.new ≡ slice_set (entries_of queues.old) place (map stood_now (slice_index_or (entries_of old.old) from [])) }
+    ensures entries { entries_of queues.new ≡ slice_set (entries_of queues.old) place (map survived_now (slice_index_or (entries_of old.old) from [])) }
     ensures len { length queues.new ≡ length queues.old }
     ensures rest { drop (from + 1) (entries_of old.new) ≡ drop (from + 1) (entries_of old.old) }
     ensures old_len { length old.new ≡ length old.old }
@@ -65,7 +65,7 @@ fn exchange(
     requires from { from < length old.old }
     requires room { length queues.old ≤ length signs.old * 64 }
     // The queue is at its new index, the bits are right, and later queues are unchanged.
-    ensures entries { entries_of queues.new ≡ slice_set (entries_of queues.old) place (map stood_now (slice_index_or (entries_of old.old) from [])) }
+    ensures entries { entries_of queues.new ≡ slice_set (entries_of queues.old) place (map survived_now (slice_index_or (entries_of old.old) from [])) }
     ensures signed { (lent : ℕ) → AreSignedBut lent (entries_of queues.old) signs.old → AreSignedBut lent (entries_of queues.new) signs.new }
     ensures room { length signs.new ≡ length signs.old }
     ensures len { length queues.new ≡ length queues.old }

@@ -76,8 +76,10 @@ fn give_back_all(queues: &mut Queues, arrivals: &[Arrival])
 /// enter it. Fails only if an allocation fails; no queue has more room then than before.
 pub(crate) fn make_rooms(queues: &mut Queues, arrivals: &[Arrival]) -> Result<(), AllocError>
     requires { EnterBelow (length queues.old) arrivals.now }
+    // The frame, also after a failure: no entry changes, and no queue is added.
     ensures same { entries_of queues.new ≡ entries_of queues.old }
     ensures len { length queues.new ≡ length queues.old }
+    // On success each queue has room for its letters, and at most that much more than before; after a failure none has gained any.
     ensures room { OnOk result (IsRoomy queues.new (arriving_at arrivals.now)) }
     ensures few { OnOk result (MakesAtMost queues.old queues.new (λ k. times k (arriving_at arrivals.now))) }
     ensures gains { OnErr result (GainsNone queues.old queues.new) }

@@ -71,7 +71,7 @@ pub(crate) fn purge_in(
     notes: &mut Notes,
 ) -> Result<usize, AllocError>
     // What is returned, noted and removed.
-    ensures told { IfOk result (λ count. count ≡ ready_in queue.old.entries) }
+    ensures reported { IfOk result (λ count. count ≡ ready_in queue.old.entries) }
     ensures noted { IfOk result (λ count. notes.new.items ≡ notes.old.items ++ purge_notes name.now (filter is_ready queue.old.entries)) }
     ensures entries { IfOk result (λ count. queue.new.entries ≡ filter (λ e. not (is_ready e)) queue.old.entries) }
     // A failure changes nothing, and comes only if there is a ready message.

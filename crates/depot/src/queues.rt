@@ -2,7 +2,7 @@
 
 ghost use Rattle.std.specs.Prelude.{◌≡◌, [], replicate, IfOk};
 ghost use Rattle.depot.specs.Store.{entries_of};
-ghost use Rattle.depot.specs.Signs.{AreSignedBut, TellsNext, ready_places};
+ghost use Rattle.depot.specs.Signs.{AreSignedBut, ReturnsNext, ready_places};
 
 use crate::lags::Lags;
 use crate::moving::take_over_in;
@@ -62,7 +62,7 @@ fn move_loan(queues: &[Queue], signs: &mut QueueSigns, lent: usize, place: usize
 /// Returns the index of the first queue at or after `from` with a ready message, or `None`. Uses `signs`, except for the queue borrowed last (`lent`).
 fn next_in(queues: &[Queue], signs: &QueueSigns, lent: usize, from: usize) -> Option<usize>
     requires { AreSignedBut lent (entries_of queues.now) signs.now }
-    ensures { TellsNext (ready_places (entries_of queues.now)) from result }
+    ensures { ReturnsNext (ready_places (entries_of queues.now)) from result }
 {
     let next = signs.next_ready(from);
     if lent < from || lent >= queues.len() {
@@ -96,7 +96,7 @@ impl Queues {
     };
     ghost use Rattle.std.specs.Borrow.{sem};
     ghost use Rattle.depot.specs.Store.{entries_of};
-    ghost use Rattle.depot.specs.Signs.{ready_places, TellsNext};
+    ghost use Rattle.depot.specs.Signs.{ready_places, ReturnsNext};
     ghost use Rattle.depot.specs.Turns.{no_line};
     ghost use Rattle.depot.specs.Moving.{taken};
     ghost use Rattle.depot.specs.Lends.{LendsQueue};
@@ -147,7 +147,7 @@ impl Queues {
 
     /// Returns the index of the first queue at or after `from` with a ready message.
     pub(crate) fn next_ready(&self, from: usize) -> Option<usize>
-        ensures { TellsNext (ready_places (entries_of self.now)) from result }
+        ensures { ReturnsNext (ready_places (entries_of self.now)) from result }
     {
         next_in(&self.queues, &self.signs, self.lent, from)
     }

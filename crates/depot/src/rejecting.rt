@@ -43,11 +43,13 @@ fn plan_turn(
     plan: &mut Plan,
     notes: &mut Notes,
 ) -> Result<(), AllocError>
+    // What the caller knows: each queue is declared, `place` is one of them, and there is capacity for the note.
     requires len { length queues.now ≡ length declared.now }
     requires within { place < length queues.now }
     requires room { vec_len notes.old < vec_capacity notes.old }
     ensures ok { OnOk result (Foresees declared.now (entries_of queues.now) letter.now (place ∷ [])
         (so_far plan.old notes.old) (so_far plan.new notes.new)) }
+    // Also after a failure: planned letters still enter queues that exist, and at most one note is appended, within the capacity that there was.
     ensures within { (n : ℕ) → place < n → EnterBelow n plan.old.arrivals.items → EnterBelow n plan.new.arrivals.items }
     ensures notes { Extends notes.old.items notes.new.items }
     ensures notes_len { vec_len notes.new ≤ vec_len notes.old + 1 }
@@ -80,11 +82,13 @@ fn plan_turns(
     plan: &mut Plan,
     notes: &mut Notes,
 ) -> Result<(), AllocError>
+    // What the caller knows: each queue is declared, `targets` are among them, and there is capacity for a note each.
     requires len { length queues.now ≡ length declared.now }
     requires within { All (λ i. i < length queues.now) targets.now }
     requires room { vec_len notes.old + length targets.now ≤ vec_capacity notes.old }
     ensures ok { OnOk result (Foresees declared.now (entries_of queues.now) letter.now targets.now
         (so_far plan.old notes.old) (so_far plan.new notes.new)) }
+    // Also after a failure: planned letters still enter queues that exist, and notes are only appended.
     ensures within { EnterBelow (length queues.now) plan.old.arrivals.items → EnterBelow (length queues.now) plan.new.arrivals.items }
     ensures notes { Extends notes.old.items notes.new.items }
 {
@@ -129,10 +133,12 @@ fn plan_letter(
     plan: &mut Plan,
     notes: &mut Notes,
 ) -> Result<(), AllocError>
+    // What the caller knows: the queues are the topology's, and `place` is one of them.
     requires len { length queues.now ≡ length router.old.queues }
     requires within { place < length router.old.queues }
     ensures ok { OnOk result (ForeseesLetters router.old place message.now (entries_of queues.now)
         (so_far plan.old notes.old) (so_far plan.new notes.new)) }
+    // Also after a failure: planned letters still enter queues that exist, notes are only appended, and the topology is unchanged.
     ensures within { EnterBelow (length queues.now) plan.old.arrivals.items → EnterBelow (length queues.now) plan.new.arrivals.items }
     ensures notes { Extends notes.old.items notes.new.items }
     ensures same { router.new ≡ router.old }
@@ -162,10 +168,12 @@ fn plan_one(
     plan: &mut Plan,
     notes: &mut Notes,
 ) -> Result<(), AllocError>
+    // What the caller knows: the queues are the topology's, and the delivery is from one of them.
     requires len { length queues.now ≡ length router.old.queues }
     requires within { given.now.queue < length router.old.queues }
     ensures ok { OnOk result (ForeseesGiven router.old id given.now (entries_of queues.now)
         (so_far plan.old notes.old) (so_far plan.new notes.new)) }
+    // Also after a failure: planned letters still enter queues that exist, notes are only appended, and the topology is unchanged.
     ensures within { EnterBelow (length queues.now) plan.old.arrivals.items → EnterBelow (length queues.now) plan.new.arrivals.items }
     ensures notes { Extends notes.old.items notes.new.items }
     ensures same { router.new ≡ router.old }
@@ -195,11 +203,14 @@ fn plan_waiting(
     plan: &mut Plan,
     notes: &mut Notes,
 ) -> Result<(), AllocError>
+    // What the caller knows: the queues are the topology's, and an unacknowledged delivery is from one of them.
     requires len { length queues.now ≡ length router.old.queues }
     requires within { is_waiting given.now ≡ true → given.now.queue < length router.old.queues }
+    // The death is planned if the delivery is unacknowledged; otherwise nothing is planned and nothing noted.
     ensures yes { OnOk result (ForeseesWaiting router.old id given.now (entries_of queues.now)
         (so_far plan.old notes.old) (so_far plan.new notes.new)) }
     ensures no { OnOk result (is_waiting given.now ≡ false → so_far plan.new notes.new ≡ so_far plan.old notes.old) }
+    // Also after a failure: planned letters still enter queues that exist, notes are only appended, and the topology is unchanged.
     ensures within { EnterBelow (length queues.now) plan.old.arrivals.items → EnterBelow (length queues.now) plan.new.arrivals.items }
     ensures notes { Extends notes.old.items notes.new.items }
     ensures same { router.new ≡ router.old }
@@ -221,11 +232,14 @@ fn plan_all(
     gone: &[Delivery],
     notes: &mut Notes,
 ) -> Result<Vec<Arrival>, AllocError>
+    // What the caller knows: the queues are the topology's, and the unacknowledged deliveries are from them.
     requires len { length queues.now ≡ length router.old.queues }
     requires within { AreWithin router.old (waiting gone.now) }
+    // The returned letters are those that the deaths bring, each to a queue that exists.
     ensures foreseen { IfOk result (λ came.
         IsForeseen router.old id (waiting gone.now) (entries_of queues.now) came.items notes.old.items notes.new.items) }
     ensures within { IfOk result (λ came. EnterBelow (length queues.now) came.items) }
+    // The frame, also after a failure: notes are only appended, and the topology is unchanged.
     ensures notes { Extends notes.old.items notes.new.items }
     ensures same { router.new ≡ router.old }
 {
@@ -297,14 +311,18 @@ fn prepare(
     gone: &[Delivery],
     notes: &mut Notes,
 ) -> Result<Vec<Arrival>, AllocError>
+    // What the caller knows: the queues are the topology's, and the unacknowledged deliveries are from them.
     requires len { length queues.old ≡ length router.old.queues }
     requires within { AreWithin router.old (waiting gone.now) }
+    // The returned letters are those that the deaths bring, each to a queue that exists.
     ensures foreseen { IfOk result (λ came.
         IsForeseen router.old id (waiting gone.now) (entries_of queues.old) came.items notes.old.items notes.new.items) }
     ensures within { IfOk result (λ came. EnterBelow (length queues.old) came.items) }
+    // On success each queue has room for its letters, and at most that much more than before; after a failure none has gained any.
     ensures room { IfOk result (λ came. IsRoomy queues.new (arriving_at came.items)) }
     ensures few { IfOk result (λ came. MakesAtMost queues.old queues.new (λ k. times k (arriving_at came.items))) }
     ensures gains { OnErr result (GainsNone queues.old queues.new) }
+    // The frame, also after a failure: no entry changes, notes are only appended, and the topology is unchanged.
     ensures queues { entries_of queues.new ≡ entries_of queues.old }
     ensures len { length queues.new ≡ length queues.old }
     ensures notes { Extends notes.old.items notes.new.items }

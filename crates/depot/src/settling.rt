@@ -7,7 +7,7 @@ ghost use Rattle.model.specs.Placed.{is_waiting, waiting, AreWithin};
 ghost use Rattle.model.specs.declared.notes.Cause.TheVariants.{Acked};
 ghost use Rattle.depot.specs.Store.{entries_of};
 ghost use Rattle.depot.specs.Dying.{given_at};
-ghost use Rattle.depot.specs.Settled.{AreReturnedIn, AreSettledIn, AreOf, IsApart, departure_in, left_at, returned_at, store_of};
+ghost use Rattle.depot.specs.Settled.{AreReturnedIn, AreSettledIn, AreOf, IsHeldOnce, departure_in, left_at, returned_at, store_of};
 
 use crate::departures::Departure;
 use crate::queues::Queues;
@@ -111,7 +111,7 @@ pub(crate) fn ack_all(
     requires formed { IsWellFormed topology.now }
     requires len { length queues.old ≡ length topology.now.queues }
     requires within { AreWithin topology.now (waiting gone.now) }
-    requires apart { IsApart (store_of topology.now (entries_of queues.old) 0) }
+    requires distinct { IsHeldOnce (store_of topology.now (entries_of queues.old) 0) }
     // The promise; a failure changes neither the queues nor the notes.
     ensures ok { OnOk result (AreSettledIn (Leaves Acked) topology.now id (waiting gone.now)
         queues.old queues.new notes.old.items notes.new.items) }

@@ -60,7 +60,7 @@ fn room_for(alloc: Global, places: usize) -> Result<QueueMarks, AllocError>
 impl QueueSigns {
     ghost use Rattle.std.specs.Prelude.{◌≡◌, [], ◌<◌, ◌*◌, length, replicate, IfOk};
     ghost use Rattle.marks.specs.Places.{bit_of, Differs};
-    ghost use Rattle.depot.specs.Signs.{ready_bit, AreSignedBut, TellsNext};
+    ghost use Rattle.depot.specs.Signs.{ready_bit, AreSignedBut, ReturnsNext};
 
     /// Makes the set for `queues` empty queues. Fails only if an allocation fails.
     pub(crate) fn new(alloc: Global, queues: usize) -> Result<QueueSigns, AllocError>
@@ -81,7 +81,7 @@ impl QueueSigns {
 
     /// Returns the first index of the set at or after `from`.
     pub(crate) fn next_ready(&self, from: usize) -> Option<usize>
-        ensures { TellsNext (bit_of self.now) from result }
+        ensures { ReturnsNext (bit_of self.now) from result }
     {
         self.ready.next(from)
     }

@@ -2,7 +2,7 @@
 
 ghost use Rattle.std.specs.Prelude.{◌≡◌, ◌++◌, find, vec_len, vec_capacity};
 ghost use Rattle.model.specs.Broker.{is_ready};
-ghost use Rattle.depot.specs.Givings.{CanGive, HasRoomFor, TellsArrival, given_notes, given_so};
+ghost use Rattle.depot.specs.Givings.{CanGive, HasRoomFor, ReturnsArrival, given_notes, given_so};
 
 use crate::givings::Giving;
 use crate::queues::Queue;
@@ -14,7 +14,7 @@ use queue::Store;
 pub(crate) fn give(queue: &mut Queue, how: Giving, notes: &mut Notes) -> Option<u64>
     requires free { CanGive how queue.old.entries }
     requires room { HasRoomFor how (vec_len notes.old) (vec_capacity notes.old) }
-    ensures told { TellsArrival how (find is_ready queue.old.entries) result }
+    ensures reported { ReturnsArrival how (find is_ready queue.old.entries) result }
     ensures entries { queue.new.entries ≡ given_so how queue.old.entries }
     ensures notes { notes.new.items ≡ notes.old.items ++ given_notes how (find is_ready queue.old.entries) }
 {

@@ -4,19 +4,19 @@ pub use Rattle.assembly.specs.Front.{HasFront}
 pub use Rattle.assembly.specs.Held.{Held, stream_of}
 pub use Rattle.assembly.specs.Onward.{GivesCommand, Stops, YieldsNext}
 pub use Rattle.broker.specs.Turns.{WithTurn}
-pub use Rattle.broker.specs.Waiting.{IsToldInTurn, LinesMove, NobodyIsPutBack, NoneIsLater, ServesSoon}
+pub use Rattle.broker.specs.Waiting.{IsPickedInTurn, LinesMove, NobodyIsPutBack, NoneIsLater, ServesSoon}
 pub use Rattle.commands.specs.Picked.{IsPick}
 pub use Rattle.commands.specs.State.{Kept, nothing}
 pub use Rattle.engine.specs.Engines.{Becomes, Changes, ConnectionFed, ConnectionSent, ConnectionTookOr, ConnectionsFed, ConnectionsSent, ConnectionsTook, HasConnection, IsConnectionPlace, IsStanding, IsSwept, OnDid, Turned, left_in, left_to_read, room_for, room_in}
 pub use Rattle.engine.specs.InForce.{in_force}
-pub use Rattle.engine.specs.Offered.{TellsWhatStands}
+pub use Rattle.engine.specs.Offered.{JudgesOffered}
 pub use Rattle.engine.specs.Opening.{Numbers, OpenedBy, OpenedNew, OpenedReady}
 pub use Rattle.engine.specs.Performing.{ByBroker, ByPhase, DecidesByPhase, IsAskedBy, PausesOr, Rules, rules_of, session_after}
 pub use Rattle.engine.specs.Pumping.{ConnectionPumped, ConnectionsNotPumped, ConnectionsPumped, IsPump, IsPumpTo, OutputChanges}
-pub use Rattle.engine.specs.Putting.{IsPut, TellsNotPut, TellsPut}
+pub use Rattle.engine.specs.Putting.{IsPut, ReportsNotPut, PutMeans}
 pub use Rattle.engine.specs.Reading.{ComesNext, HasCommand, HasMore, IsEventMade, IsKeptEvent, kept_for, kept_of, to_read}
 pub use Rattle.engine.specs.Turning.{ConnectionDid, ConnectionSame, ConnectionStays, ConnectionTook, ConnectionWaits, DidEvent, DidNext, MayTurn, OnIdle, Performed, has_performed}
-pub use Rattle.engine.specs.Waiting.{KeepsTold, KeepsTurns, PerformsNext, ServesOne, TellsNobody, TellsOne, TurnLeaves}
+pub use Rattle.engine.specs.Waiting.{KeepsPicked, KeepsTurns, PerformsNext, ServesOne, PicksNobody, PicksOne, TurnLeaves}
 pub use Rattle.engine.specs.Wanting.{brings_message, engine_lacks}
 pub use Rattle.engine.specs.World.{AreConnections, AreRising, IsConnection, IsEngine, IsNew, Parts, config_of, connection_in, is_connection_gone, session_of, state_of, wire_in, wire_of, world_of}
 pub use Rattle.engine.specs.declared.connection.Connection.{Connection}
@@ -24,7 +24,7 @@ pub use Rattle.engine.specs.declared.turning.Turn.{Turn}
 pub use Rattle.laws.proofs.Consistency.{new_is_consistent, stay_consistent}
 pub use Rattle.laws.proofs.Naming.{worlds_named}
 pub use Rattle.laws.proofs.Whole.{pump_keeps, turn_confirms, turn_keeps}
-pub use Rattle.model.specs.Arrivals.{Delivers, IsIdle, IsSaid, Loses, NoneCanDeliver, Pauses, Reads, Same, SameToCome, Seen, Takes_off, Turns, Waits, Wire, World, again, can_open, delivers, event_of, fault, fresh, is_awake, is_ended, is_gone, is_over, is_past_bound, is_paused, kept, new_wire, new_world, standing, still, told, under_session, waits, wire_after, with_heard}
+pub use Rattle.model.specs.Arrivals.{Delivers, IsIdle, IsSaid, Loses, NoneCanDeliver, Pauses, Reads, Same, SameToCome, Seen, Takes_off, Turns, Waits, Wire, World, again, can_open, delivers, event_of, fault, fresh, is_awake, is_ended, is_gone, is_over, is_past_bound, is_paused, kept, new_wire, new_world, standing, still, with_setup, under_session, waits, wire_after, with_heard}
 pub use Rattle.model.specs.Broker.{Broker, with_one}
 pub use Rattle.model.specs.Commands.{Ends, GoesOn, IsCommand, Stream, Takes, Yields, goes, heard, opened_stream, running_stream, stays}
 pub use Rattle.model.specs.Consistent.{IsConsistent}
@@ -53,7 +53,7 @@ pub use Rattle.reloading.specs.Obstacles.{Judges}
 pub use Rattle.reloading.specs.Wanting.{MayWant, none_gone}
 pub use Rattle.runs.proofs.Worlds.{waits_not, world_same}
 pub use Rattle.runs.specs.Opened.{Hears, Idles, IsLost, IsOpened, OpensNew, OpensReady, TakesAway, runs}
-pub use Rattle.runs.specs.Reloaded.{IsMemory, IsPutInForce, TellsReload, wanting}
+pub use Rattle.runs.specs.Reloaded.{IsMemory, IsPutInForce, ReportsReload, wanting}
 pub use Rattle.runs.specs.Wants.{To_reload}
 pub use Rattle.std.proofs.Common.{Bool, List, None, Option, Some, [], ap, append-nil, arith, cond, drop, eqb, false, get_or, inl, inr, length, ltb, ltb-false, ltb-true, map, refl, remove, rules, set, subst, suc, sym, true, zero, ℕ, ◌++◌, ◌+◌, ◌<◌, ◌∙◌, ◌∷◌, ◌≡◌, ◌≢◌, ◌≤◌, ◌⊎◌}
 pub use Rattle.std.proofs.lemmas.Bool.{eq-eqb, eqb-true, false≢true}

@@ -42,12 +42,12 @@ connection_in-set low (x ∷ xs) zero old new d r lt g n = go (old.number == d) 
         ∙ sym (ap (λ (v : Bool). cond v (Some x) (connection_in xs d)) (ap (λ (k : Connection). k.number == d) g ∙ e))
 connection_in-set low (x ∷ xs) (suc i) old new d r lt g n = go (x.number == d) refl (connection_in-set x.number xs i old new d r.1 (omega (arith, lt)) g n)
   where
-    apart : old.number ≡ d → x.number ≡ d → ⊥
-    apart e k = let above = above_at x.number xs i old r.1 (omega (arith, lt)) g in omega (arith, above, e, k)
+    distinct : old.number ≡ d → x.number ≡ d → ⊥
+    distinct e k = let above = above_at x.number xs i old r.1 (omega (arith, lt)) g in omega (arith, above, e, k)
 
     go : (b : Bool) → (x.number == d) ≡ b → connection_in (set xs i new) d ≡ (if old.number == d then Some new else connection_in xs d)
         → cond b (Some x) (connection_in (set xs i new) d) ≡ (if old.number == d then Some new else cond b (Some x) (connection_in xs d))
-    go true e ih = sym (ap (λ (v : Bool). cond v (Some new) (Some x)) (other_false old.number d (λ k. apart k (eqb-true x.number d e))))
+    go true e ih = sym (ap (λ (v : Bool). cond v (Some new) (Some x)) (other_false old.number d (λ k. distinct k (eqb-true x.number d e))))
     go false e ih = ih
 
 -- with it taken out there is none of this number, and the others stay
@@ -61,12 +61,12 @@ connection_in-remove low (x ∷ xs) zero old d r lt g = go (old.number == d) ref
     go false e = sym (ap (λ (v : Bool). cond v (Some x) (connection_in xs d)) (ap (λ (k : Connection). k.number == d) g ∙ e))
 connection_in-remove low (x ∷ xs) (suc i) old d r lt g = go (x.number == d) refl (connection_in-remove x.number xs i old d r.1 (omega (arith, lt)) g)
   where
-    apart : old.number ≡ d → x.number ≡ d → ⊥
-    apart e k = let above = above_at x.number xs i old r.1 (omega (arith, lt)) g in omega (arith, above, e, k)
+    distinct : old.number ≡ d → x.number ≡ d → ⊥
+    distinct e k = let above = above_at x.number xs i old r.1 (omega (arith, lt)) g in omega (arith, above, e, k)
 
     go : (b : Bool) → (x.number == d) ≡ b → connection_in (remove xs i) d ≡ (if old.number == d then None else connection_in xs d)
         → cond b (Some x) (connection_in (remove xs i) d) ≡ (if old.number == d then None else cond b (Some x) (connection_in xs d))
-    go true e ih = sym (ap (λ (v : Bool). cond v None (Some x)) (other_false old.number d (λ k. apart k (eqb-true x.number d e))))
+    go true e ih = sym (ap (λ (v : Bool). cond v None (Some x)) (other_false old.number d (λ k. distinct k (eqb-true x.number d e))))
     go false e ih = ih
 
 -- with a new one at the end, that is the one of its number, and the others stay

@@ -1,7 +1,7 @@
 -- What is put in force leaves an engine one.
-use Rattle.engine.proofs.Names.{◌≡◌, ◌∙◌, ℕ, List, Option, Some, None, refl, sym, ap, subst, Config, World, Same, IsSound, Guarantee, AllHold, Topology, IsWellFormed, User, Obstacle, stay_consistent, worlds_named, IsPutInForce, TellsReload, IsMemory, wanting, Judges, WithTurn, in_force, IsPut, TellsPut, Parts, connection_in, session_of, wire_of, config_of, world_of, AreConnections, IsEngine, Connection}
+use Rattle.engine.proofs.Names.{◌≡◌, ◌∙◌, ℕ, List, Option, Some, None, refl, sym, ap, subst, Config, World, Same, IsSound, Guarantee, AllHold, Topology, IsWellFormed, User, Obstacle, stay_consistent, worlds_named, IsPutInForce, ReportsReload, IsMemory, wanting, Judges, WithTurn, in_force, IsPut, PutMeans, Parts, connection_in, session_of, wire_of, config_of, world_of, AreConnections, IsEngine, Connection}
 use Rattle.std.proofs.Common.{Result, Err}
-use Rattle.model.specs.Reloading.{NothingStands}
+use Rattle.model.specs.Reloading.{HasNoObstacle}
 use Rattle.runs.proofs.Reloads.{put_reloads}
 use Rattle.runs.specs.Faults.{obstacle_in}
 use Rattle.runs.specs.declared.faults.ReloadFault.{ReloadFault}
@@ -52,7 +52,7 @@ put_engine old new offered e sound t =
 
 -- what was judged, where nothing is told
 pub nothing_stands : (b : WithTurn) (t : Topology) (gs : List Guarantee) (users : List User) (o : Option Obstacle) → o ≡ None → Judges (topology_kept b) (record { topology = t; guarantees = gs; users = users }) (broker_of b) o
-    → NothingStands (topology_kept b) (record { topology = t; guarantees = gs; users = users }) (broker_of b)
+    → HasNoObstacle (topology_kept b) (record { topology = t; guarantees = gs; users = users }) (broker_of b)
 nothing_stands b t gs users o none judged = subst (λ (z : Option Obstacle). Judges (topology_kept b) (record { topology = t; guarantees = gs; users = users }) (broker_of b) z) none judged
 
 pub offered_sound : (checked : Admitted) (users : List User) (t : Topology) (gs : List Guarantee) → t ≡ checked.topology → gs ≡ checked.guarantees → AllHold t gs → IsWellFormed t → IsSound (in_force checked users)
@@ -60,9 +60,9 @@ offered_sound checked users t gs te ge hold wf =
     subst IsSound (λ i. record { topology = te i; guarantees = ge i; users = users }) (record { wf = wf; hold = hold })
 
 pub tells_offered : (old new : WithTurn) (checked : Admitted) (users : List User) (t : Topology) (lent gs : List Guarantee) (r : Result Unit ReloadFault)
-    → t ≡ checked.topology → lent ≡ gs → gs ≡ checked.guarantees → TellsPut old (record { topology = t; guarantees = lent; users = users }) r new → TellsPut old (in_force checked users) r new
+    → t ≡ checked.topology → lent ≡ gs → gs ≡ checked.guarantees → PutMeans old (record { topology = t; guarantees = lent; users = users }) r new → PutMeans old (in_force checked users) r new
 tells_offered old new checked users t lent gs r te le ge tells =
-    subst (λ (offered : Config). TellsPut old offered r new) (λ i. record { topology = te i; guarantees = (le ∙ ge) i; users = users }) tells
+    subst (λ (offered : Config). PutMeans old offered r new) (λ i. record { topology = te i; guarantees = (le ∙ ge) i; users = users }) tells
 
 pub takes : (old : Parts) (b : WithTurn) (checked : Admitted) (users : List User) (gs : List Guarantee) → gs ≡ checked.guarantees → IsPut old.broker (in_force checked users) b
     → Takes old (in_force checked users) (record old { broker = b; guarantees = gs; users = users })
@@ -70,29 +70,29 @@ takes old b checked users gs ge put = record { put = put; guarantees = ge; users
 
 -- ---- nothing is different where it was refused
 
-not_put : (old new : WithTurn) (offered : Config) (f : ReloadFault) → TellsPut old offered (Err f) new → new ≡ old
+not_put : (old new : WithTurn) (offered : Config) (f : ReloadFault) → PutMeans old offered (Err f) new → new ≡ old
 not_put old new offered (InUse q) t = t.1
 not_put old new offered (Breaks q key number) t = t.1
 not_put old new offered Memory t = t
 
-pub refused_is : (old : Parts) (b : WithTurn) (offered : Config) (f : ReloadFault) → TellsPut old.broker offered (Err f) b → record old { broker = b } ≡ old
+pub refused_is : (old : Parts) (b : WithTurn) (offered : Config) (f : ReloadFault) → PutMeans old.broker offered (Err f) b → record old { broker = b } ≡ old
 refused_is old b offered f t = ap (λ (z : WithTurn). record old { broker = z }) (not_put old.broker b offered f t)
 
-pub refused_engine : (old : Parts) (b : WithTurn) (offered : Config) (f : ReloadFault) → IsEngine old → TellsPut old.broker offered (Err f) b → IsEngine (record old { broker = b })
+pub refused_engine : (old : Parts) (b : WithTurn) (offered : Config) (f : ReloadFault) → IsEngine old → PutMeans old.broker offered (Err f) b → IsEngine (record old { broker = b })
 refused_engine old b offered f e t = subst IsEngine (sym (refused_is old b offered f t)) e
 
 refused_same : (old new : Parts) → new ≡ old → Same (world_of old) (world_of new)
 refused_same old new e = subst (λ (p : Parts). Same (world_of old) (world_of p)) (sym e) (record { config = refl; state = refl; given = refl; wires = λ c. refl })
 
-not_told : (old : Parts) (b : WithTurn) (offered : Config) (f : ReloadFault) → TellsPut old.broker offered (Err f) b → TellsReload (world_of old) offered (Err f) (world_of (record old { broker = b }))
+not_told : (old : Parts) (b : WithTurn) (offered : Config) (f : ReloadFault) → PutMeans old.broker offered (Err f) b → ReportsReload (world_of old) offered (Err f) (world_of (record old { broker = b }))
 not_told old b offered (InUse q) t = (t.0, refused_same old (record old { broker = b }) (refused_is old b offered (InUse q) t))
 not_told old b offered (Breaks q key number) t = (t.0, refused_same old (record old { broker = b }) (refused_is old b offered (Breaks q key number) t))
 not_told old b offered Memory t = refused_same old (record old { broker = b }) (refused_is old b offered Memory t)
 
 -- the fault is handed on as it is
-pub refused_told : (old : Parts) (b : WithTurn) (offered : Config) (r : Result Unit ReloadFault) (f g : ReloadFault) → r ≡ Err f → f ≡ g → TellsPut old.broker offered (Err g) b
-    → TellsReload (world_of old) offered r (world_of (record old { broker = b }))
-refused_told old b offered r f g is same t = subst (λ (z : Result Unit ReloadFault). TellsReload (world_of old) offered z (world_of (record old { broker = b }))) (sym (is ∙ ap Err same)) (not_told old b offered g t)
+pub refused_told : (old : Parts) (b : WithTurn) (offered : Config) (r : Result Unit ReloadFault) (f g : ReloadFault) → r ≡ Err f → f ≡ g → PutMeans old.broker offered (Err g) b
+    → ReportsReload (world_of old) offered r (world_of (record old { broker = b }))
+refused_told old b offered r f g is same t = subst (λ (z : Result Unit ReloadFault). ReportsReload (world_of old) offered z (world_of (record old { broker = b }))) (sym (is ∙ ap Err same)) (not_told old b offered g t)
 
 -- what reports an obstacle is no allocation failure
 pub told_is_no_memory : {f : ReloadFault} {o : Obstacle} → obstacle_in f ≡ Some o → IsMemory (Err f) → ⊥

@@ -3,8 +3,8 @@ use Rattle.engine.proofs.Names.{◌≡◌, ◌≢◌, ℕ, List, [], ◌∷◌, 
 use Rattle.outputs.specs.Storages.{AreAtMost, IsReleased, SpareCounts, TakesIn, storage_of}
 use Rattle.outputs.specs.declared.room.Room.TheVariants as room
 
-apart : (a b : ℕ) → eqb a b ≡ false → a ≢ b
-apart a b e is = false≢true (sym e ∙ eq-eqb a b is)
+distinct : (a b : ℕ) → eqb a b ≡ false → a ≢ b
+distinct a b e is = false≢true (sym e ∙ eq-eqb a b is)
 
 takes_few : (bytes : ℕ) (old new : SpareCounts) → TakesIn bytes old new → IsReleased old → AreAtMost 9 3 new
 takes_few bytes old new takes few = go (eqb bytes (storage_of room.Reply)) (eqb bytes (storage_of room.Content)) refl refl
@@ -25,7 +25,7 @@ takes_few bytes old new takes few = go (eqb bytes (storage_of room.Reply)) (eqb 
         let contents = few.contents_most in
         record { replies_most = omega (arith, same, replies); contents_most = omega (arith, most, contents) }
     go false false s l =
-        let same = takes.other (apart bytes (storage_of room.Reply) s) (apart bytes (storage_of room.Content) l) in
+        let same = takes.other (distinct bytes (storage_of room.Reply) s) (distinct bytes (storage_of room.Content) l) in
         let replies = few.replies_most in
         let contents = few.contents_most in
         rw same (record { replies_most = omega (arith, replies); contents_most = omega (arith, contents) })

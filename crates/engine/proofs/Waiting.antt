@@ -1,5 +1,5 @@
 -- What the calls of an engine leave of turns to be served.
-use Rattle.engine.proofs.Names.{◌≡◌, ◌∙◌, ◌<◌, ℕ, List, Bool, false, Option, Some, None, get_or, length, refl, sym, ap, subst, arith, IfOk, Broker, Stream, Wire, Reads, is_ended, Command, Event, stream_of, IsPick, WithTurn, Note, IsPumpTo, NobodyIsPutBack, NoneIsLater, IsToldInTurn, ServesSoon, Rules, rules_of, kept_of, ComesNext, DidEvent, DidNext, Parts, connection_in, wire_in, wire_of, world_of, IsEngine, IsConnectionPlace, ConnectionsTook, KeepsTurns, PerformsNext, TurnLeaves, KeepsTold, TellsOne, ServesOne, Connection, Turn}
+use Rattle.engine.proofs.Names.{◌≡◌, ◌∙◌, ◌<◌, ℕ, List, Bool, false, Option, Some, None, get_or, length, refl, sym, ap, subst, arith, IfOk, Broker, Stream, Wire, Reads, is_ended, Command, Event, stream_of, IsPick, WithTurn, Note, IsPumpTo, NobodyIsPutBack, NoneIsLater, IsPickedInTurn, ServesSoon, Rules, rules_of, kept_of, ComesNext, DidEvent, DidNext, Parts, connection_in, wire_in, wire_of, world_of, IsEngine, IsConnectionPlace, ConnectionsTook, KeepsTurns, PerformsNext, TurnLeaves, KeepsPicked, PicksOne, ServesOne, Connection, Turn}
 use Rattle.std.proofs.Common.{Result, Ok, Err}
 use Rattle.std.proofs.lemmas.Option.{same_Some}
 use Rattle.commands.specs.State as core
@@ -89,20 +89,20 @@ leaves_at (Err x) p c i b ls new e place t leaves = tt
 
 -- ---- a delivery
 
-pub told_again : (old : WithTurn) (told : Pick) → ((p : Pick) → old.turn ≡ Some p → IsPick (broker_of old) p → Some told ≡ Some p) → KeepsTold old told
-told_again old told again p had could = same_Some told p (again p had could)
+pub told_again : (old : WithTurn) (reported : Pick) → ((p : Pick) → old.turn ≡ Some p → IsPick (broker_of old) p → Some reported ≡ Some p) → KeepsPicked old reported
+told_again old reported again p had could = same_Some reported p (again p had could)
 
 -- who is told, and whether it is served or not
-pub tells_one : (old mid : WithTurn) (told : Pick) → mid.kept ≡ old.kept → IsToldInTurn old told mid → mid.turn ≡ Some told
-    → ((p : Pick) → old.turn ≡ Some p → IsPick (broker_of old) p → Some told ≡ Some p) → TellsOne old mid
-tells_one old mid told kept turns has again = record { told = told; again = told_again old told again; turn = has; kept = kept; in_turn = turns }
+pub tells_one : (old mid : WithTurn) (reported : Pick) → mid.kept ≡ old.kept → IsPickedInTurn old reported mid → mid.turn ≡ Some reported
+    → ((p : Pick) → old.turn ≡ Some p → IsPick (broker_of old) p → Some reported ≡ Some p) → PicksOne old mid
+tells_one old mid reported kept turns has again = record { reported = reported; again = told_again old reported again; turn = has; kept = kept; in_turn = turns }
 
-pub serves_one : (old : Parts) (mid : WithTurn) (new : Parts) (told : Pick) (notes : List Note) → mid.kept ≡ old.broker.kept → IsToldInTurn old.broker told mid → mid.turn ≡ Some told
-    → ((p : Pick) → old.broker.turn ≡ Some p → IsPick (broker_of old.broker) p → Some told ≡ Some p) → IsPumpTo (world_of old) told notes (world_of new)
-    → NoneIsLater mid new.broker → topology_kept new.broker ≡ topology_kept mid → new.broker.turn ≡ None → ServesSoon mid told → ServesOne old told.connection notes new
-serves_one old mid new told notes kept turns has again served later topology over soon = record {
+pub serves_one : (old : Parts) (mid : WithTurn) (new : Parts) (reported : Pick) (notes : List Note) → mid.kept ≡ old.broker.kept → IsPickedInTurn old.broker reported mid → mid.turn ≡ Some reported
+    → ((p : Pick) → old.broker.turn ≡ Some p → IsPick (broker_of old.broker) p → Some reported ≡ Some p) → IsPumpTo (world_of old) reported notes (world_of new)
+    → NoneIsLater mid new.broker → topology_kept new.broker ≡ topology_kept mid → new.broker.turn ≡ None → ServesSoon mid reported → ServesOne old reported.connection notes new
+serves_one old mid new reported notes kept turns has again served later topology over soon = record {
   mid = mid;
-  told = record { told = told; again = told_again old.broker told again; turn = has; kept = kept; in_turn = turns };
+  reported = record { reported = reported; again = told_again old.broker reported again; turn = has; kept = kept; in_turn = turns };
   its = refl;
   served = served;
   over = over;

@@ -6,5 +6,5 @@ use Rattle.model.specs.declared.obstacles.Obstacle.{Obstacle}
 use Rattle.reloading.specs.Obstacles.{Judges}
 
 -- `o` is the first obstacle to putting `offered` in force, or `None` if there is none
-abbrev pub TellsWhatStands : World → Config → Option Obstacle → Type 0
-TellsWhatStands w offered o = Judges w.config.topology offered w.state.broker o
+abbrev pub JudgesOffered : World → Config → Option Obstacle → Type 0
+JudgesOffered w offered o = Judges w.config.topology offered w.state.broker o

@@ -2,7 +2,7 @@
 use Rattle.std.specs.Prelude.{◌≡◌, Option, Some, None, Result, Ok, Err}
 use Rattle.model.specs.Step.{Is}
 use Rattle.model.specs.State.{Config}
-use Rattle.model.specs.Reloading.{IsObstacle, NothingStands, with_all_stood}
+use Rattle.model.specs.Reloading.{IsObstacle, HasNoObstacle, with_all_survived}
 use Rattle.model.specs.declared.obstacles.Obstacle.{Obstacle}
 use Rattle.runs.specs.Faults.{obstacle_in}
 use Rattle.runs.specs.declared.faults.ReloadFault.{ReloadFault}
@@ -10,16 +10,16 @@ use Rattle.broker.specs.Turns.{WithTurn, topology_kept, broker_of}
 
 -- There was no obstacle: the broker runs the offered topology, and each message in a queue is marked as one that a reload found there.
 pub record IsPut (old : WithTurn) (offered : Config) (new : WithTurn) : Type 0 where
-  pub nothing : NothingStands (topology_kept old) offered (broker_of old)
+  pub nothing : HasNoObstacle (topology_kept old) offered (broker_of old)
   pub topology : topology_kept new ≡ offered.topology
-  pub broker : Is (with_all_stood (broker_of old)) (broker_of new)
+  pub broker : Is (with_all_survived (broker_of old)) (broker_of new)
 
 -- The topology was not put in force: the first obstacle is reported, or an allocation failed, and nothing has changed.
-abbrev pub TellsNotPut : WithTurn → Config → Option Obstacle → WithTurn → Type 0
-TellsNotPut old offered (Some o) new = IsObstacle (topology_kept old) offered (broker_of old) o × (new ≡ old)
-TellsNotPut old offered None new = new ≡ old
+abbrev pub ReportsNotPut : WithTurn → Config → Option Obstacle → WithTurn → Type 0
+ReportsNotPut old offered (Some o) new = IsObstacle (topology_kept old) offered (broker_of old) o × (new ≡ old)
+ReportsNotPut old offered None new = new ≡ old
 
 -- what each result of putting a topology in force means
-abbrev pub TellsPut : WithTurn → Config → Result Unit ReloadFault → WithTurn → Type 0
-TellsPut old offered (Ok x) new = IsPut old offered new
-TellsPut old offered (Err f) new = TellsNotPut old offered (obstacle_in f) new
+abbrev pub PutMeans : WithTurn → Config → Result Unit ReloadFault → WithTurn → Type 0
+PutMeans old offered (Ok x) new = IsPut old offered new
+PutMeans old offered (Err f) new = ReportsNotPut old offered (obstacle_in f) new

@@ -7,7 +7,7 @@ use Rattle.model.specs.declared.notes.Note.{Note}
 use Rattle.commands.specs.Picked.{IsPick}
 use Rattle.commands.specs.declared.picks.Pick.{Pick}
 use Rattle.broker.specs.Turns.{WithTurn, topology_kept, broker_of}
-use Rattle.broker.specs.Waiting.{NobodyIsPutBack, NoneIsLater, LinesStay, IsToldInTurn, ServesSoon}
+use Rattle.broker.specs.Waiting.{NobodyIsPutBack, NoneIsLater, LinesStay, IsPickedInTurn, ServesSoon}
 use Rattle.engine.specs.Pumping.{IsPumpTo}
 use Rattle.engine.specs.World.{Parts, world_of}
 use Rattle.engine.specs.declared.turning.Turn.{Turn}
@@ -40,31 +40,31 @@ TurnLeaves c w old turn.Over new = new ≡ old
 -- ---- calls that pick a consumer
 
 -- if a consumer is picked already and still can take a message, it is picked again
-abbrev pub KeepsTold : WithTurn → Pick → Type 0
-KeepsTold old told = (p : Pick) → old.turn ≡ Some p → IsPick (broker_of old) p → told ≡ p
+abbrev pub KeepsPicked : WithTurn → Pick → Type 0
+KeepsPicked old reported = (p : Pick) → old.turn ≡ Some p → IsPick (broker_of old) p → reported ≡ p
 
--- The consumer `told` is picked: again if it was picked before and still can take a message, otherwise in round-robin order. Nothing is delivered.
-pub record TellsOne (old new : WithTurn) : Type 0 where
-  pub told : Pick
-  pub again : KeepsTold old told
-  pub turn : new.turn ≡ Some told
+-- The consumer `reported` is picked: again if it was picked before and still can take a message, otherwise in round-robin order. Nothing is delivered.
+pub record PicksOne (old new : WithTurn) : Type 0 where
+  pub reported : Pick
+  pub again : KeepsPicked old reported
+  pub turn : new.turn ≡ Some reported
   pub kept : new.kept ≡ old.kept
-  pub in_turn : IsToldInTurn old told new
+  pub in_turn : IsPickedInTurn old reported new
 
 -- A consumer of `connection` was picked in its turn, and a message was delivered to it. Each other consumer that waits at the same queue was passed
 -- over by few deliveries of that queue, this delivery included, and no consumer is put back.
 pub record ServesOne (old : Parts) (connection : ℕ) (notes : List Note) (new : Parts) : Type 0 where
   pub mid : WithTurn
-  pub told : TellsOne old.broker mid
-  pub its : told.told.connection ≡ connection
-  pub served : IsPumpTo (world_of old) told.told notes (world_of new)
+  pub reported : PicksOne old.broker mid
+  pub its : reported.reported.connection ≡ connection
+  pub served : IsPumpTo (world_of old) reported.reported notes (world_of new)
   pub over : new.broker.turn ≡ None
   pub topology : topology_kept new.broker ≡ topology_kept old.broker
   pub later : NoneIsLater mid new.broker
-  pub soon : ServesSoon mid told.told
+  pub soon : ServesSoon mid reported.reported
 
 -- No consumer is picked: the order of each queue's consumers is unchanged, and so is everything else.
-pub record TellsNobody (old new : WithTurn) : Type 0 where
+pub record PicksNobody (old new : WithTurn) : Type 0 where
   pub turn : new.turn ≡ None
   pub kept : new.kept ≡ old.kept
   pub lines : LinesStay old new

@@ -25,8 +25,8 @@ pub(crate) struct Connection {
     /// The pending event: read and not performed yet. Between turns it is a command for which an allocation failed.
     pub(crate) kept: Option<Event>,
     pub(crate) output: Output,
-    /// Reading this connection's input may use the memory of the reserve only if at most this number of bytes is unread.
-    /// Depends on the last command that was performed.
+    /// The most bytes that may be unread for a read of this connection's input to use the memory of the reserve. Depends on the last command that was
+    /// performed.
     pub(crate) allowance: usize,
 }
 

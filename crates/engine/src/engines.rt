@@ -7,13 +7,13 @@ ghost use Rattle.std.specs.Prelude.{◌≡◌, ◌<◌, ℕ, length, true, IfOk,
 ghost use Rattle.model.specs.Arrivals.{Same, Waits, new_world, is_over, is_awake};
 ghost use Rattle.model.specs.Consuming.{CanDeliver};
 ghost use Rattle.model.specs.Headline.{IsSound};
-ghost use Rattle.model.specs.Tracing.{AreKept, AreSafe, NoneStood};
+ghost use Rattle.model.specs.Tracing.{AreKept, AreSafe, NoneSurvived};
 ghost use Rattle.runs.specs.Opened.{runs, Hears, Idles, TakesAway, IsLost};
 ghost use Rattle.engine.specs.World.{world_of};
 ghost use Rattle.engine.specs.Reading.{HasMore};
 ghost use Rattle.engine.specs.Engines.{Turned, OnDid, left_in, room_for};
 ghost use Rattle.engine.specs.Pumping.{IsPump};
-ghost use Rattle.engine.specs.Waiting.{KeepsTurns, TurnLeaves, ServesOne, TellsOne, TellsNobody};
+ghost use Rattle.engine.specs.Waiting.{KeepsTurns, TurnLeaves, ServesOne, PicksOne, PicksNobody};
 ghost use Rattle.engine.specs.Opening.{Numbers, OpenedNew, OpenedReady};
 ghost use Rattle.engine.specs.InForce.{in_force};
 
@@ -239,11 +239,11 @@ impl Engine {
         ensures ok { IfOk result (λ did. MatchOption did (Idles (world_of self.old) (world_of self.new))
             (λ d. IsPump (world_of self.old) d.connection d.notes.items (world_of self.new))) }
         // The delivery goes to the consumer whose turn it is, and no other that waits is put back.
-        ensures in_turn { IfOk result (λ did. MatchOption did (TellsNobody self.old.broker self.new.broker)
+        ensures in_turn { IfOk result (λ did. MatchOption did (PicksNobody self.old.broker self.new.broker)
             (λ d. ServesOne self.old d.connection d.notes.items self.new)) }
         // A failure delivers nothing, leaves the picked consumer picked, and occurs only if a delivery can be made.
         ensures err { OnErr result (Same (world_of self.old) (world_of self.new)) }
-        ensures told { OnErr result (TellsOne self.old.broker self.new.broker) }
+        ensures reported { OnErr result (PicksOne self.old.broker self.new.broker) }
         ensures wanted { OnErr result ((c : ℕ) × CanDeliver (world_of self.old).state.broker c) }
     {
         let Some(pick) = self.broker.pick() else {
@@ -339,7 +339,7 @@ impl Engine {
     /// message is in a queue that is forbidden to it.
     pub fn ghost_is_safe(&self)
         ensures kept { AreKept (world_of self.now).config (world_of self.now).state.broker }
-        ensures safe { NoneStood (world_of self.now).state.broker
+        ensures safe { NoneSurvived (world_of self.now).state.broker
             → AreSafe (world_of self.now).config.topology (world_of self.now).config.guarantees (world_of self.now).state.broker }
     {
         // Borrowing a field brings the invariant of an engine into scope.

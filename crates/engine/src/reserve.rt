@@ -1,8 +1,8 @@
 //! Calls that retry with the memory of the reserve.
 //!
-//! The spare storages of the outputs are the reserve. If an allocation fails, they are freed, and the call is made again. Only a publish
-//! leaves them alone: it brings a message in, and is performed only while the reserve is whole. Reading frees them only while at most a number of
-//! bytes, the connection's allowance, is unread: so publishers that keep sending don't take the memory that others need to empty their queues.
+//! The spare storages of the outputs are the reserve. If an allocation fails, they are freed, and the call is made again. Only a publish leaves them
+//! alone: it brings a message in, and is performed only while the reserve is whole. Reading frees them only while the connection's unread bytes are
+//! within its allowance: so publishers that keep sending don't take the memory that others need to empty their queues.
 
 ghost use Rattle.std.specs.Prelude.{◌≡◌, ◌≤◌, ◌<◌, ◌+◌, if◌then◌else◌, [], None, IsOk, IfOk, OnOk, OnErr, length, true, false};
 ghost use Rattle.model.specs.Arrivals.{IsSaid};

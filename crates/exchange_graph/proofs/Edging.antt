@@ -69,7 +69,7 @@ onward_end : (t : Topology) (at : ℕ) (other : Text) (e : End) → IsWellFormed
 onward_end t at other (Onward i) w h q r p =
     let n : length (exchange_names t.exchanges) ≡ length t.exchanges = length-map t.exchanges (λ (z : Exchange). z.name) in
     let same : exchange_name t i ≡ other = cc in
-    ap (λ (j : ℕ). Onward j) (apart_same (exchange_names t.exchanges) i at w.exchanges_apart (omega (arith, n, r)) (omega (arith, n, h)) (same ∙ sym q))
+    ap (λ (j : ℕ). Onward j) (apart_same (exchange_names t.exchanges) i at w.exchanges_distinct (omega (arith, n, r)) (omega (arith, n, h)) (same ∙ sym q))
 onward_end t at other (Into i) w h q r p = absurd (cc)
 
 into_end : (t : Topology) (at : ℕ) (queue : Text) (e : End) → IsWellFormed t → at < length t.queues → queue_name t at ≡ queue → EndsWithin (length t.exchanges) (length t.queues) e
@@ -77,7 +77,7 @@ into_end : (t : Topology) (at : ℕ) (queue : Text) (e : End) → IsWellFormed t
 into_end t at queue (Into i) w h q r p =
     let n : length (queue_names t.queues) ≡ length t.queues = length-map t.queues (λ (z : DeclaredQueue). z.name) in
     let same : queue_name t i ≡ queue = cc in
-    ap (λ (j : ℕ). Into j) (apart_same (queue_names t.queues) i at w.queues_apart (omega (arith, n, r)) (omega (arith, n, h)) (same ∙ sym q))
+    ap (λ (j : ℕ). Into j) (apart_same (queue_names t.queues) i at w.queues_distinct (omega (arith, n, r)) (omega (arith, n, h)) (same ∙ sym q))
 into_end t at queue (Onward i) w h q r p = absurd (cc)
 
 pub steps_on : (t : Topology) (key name other : Text) (at : ℕ) (ends : List End) → IsWellFormed t → AreSteps t key name ends → at < length t.exchanges → exchange_name t at ≡ other
@@ -114,7 +114,7 @@ by_name t key name queue at w z h q = (
 )
   where
     no_name : (t : Topology) (name : Text) (x : Exchange) → IsWellFormed t → Contains t.exchanges x → x.name ≡ name → name ≡ [] → ⊥
-    no_name t name x w c e z = w.default_apart (subst (λ (n : Text). IsIn n (exchange_names t.exchanges)) (e ∙ z) (in_map (λ (y : Exchange). y.name) t.exchanges x (in_contains t.exchanges x c)))
+    no_name t name x w c e z = w.none_is_default (subst (λ (n : Text). IsIn n (exchange_names t.exchanges)) (e ∙ z) (in_map (λ (y : Exchange). y.name) t.exchanges x (in_contains t.exchanges x c)))
 
     named_by_key : {t : Topology} {key name queue : Text} {to : Place} → IsWellFormed t → Edge t (of_key key) name to → to ≡ place.Queue queue → name ≡ [] → queue ≡ key
     named_by_key {t} w (bound {name} x b c e s p) q z = absurd (no_name t name x w c e z)

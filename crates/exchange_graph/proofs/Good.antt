@@ -5,7 +5,7 @@ use Rattle.std.proofs.lemmas.List.Elements.{All-contains}
 use Rattle.model.specs.declared.topologies.Place.TheVariants as place
 use Rattle.topology_drafts.specs.declared.bad.BadTopology.{BadTopology}
 use Rattle.topology_drafts.specs.declared.bad.BadTopology.TheVariants.{Repeated, Absent, Argument, Worded, TooMany, NoExchange, Memory}
-use Rattle.topology_drafts.specs.Causes.{IsBuildable, StandsAgainst, IsTopologyRefused, IsNamed, IsWorded, IsPlace, Joins, AlternateIsThere, DeadLettersLead}
+use Rattle.topology_drafts.specs.Causes.{IsBuildable, IsFirstFailure, IsTopologyRefused, IsNamed, IsWorded, IsPlace, Joins, AlternateIsThere, DeadLettersLead}
 
 none_unnamed : (t : Topology) → IsBuildable t → IsIn [] (exchange_names t.exchanges) → ⊥
 none_unnamed t b h =
@@ -30,9 +30,9 @@ well_formed t b =
     let worded : (q : DeclaredQueue) → Contains t.queues q → IsWorded q = λ q c. All-contains IsWorded t.queues q b.worded.queues c in
     let leads : (q : DeclaredQueue) → Contains t.queues q → DeadLettersLead (exchange_names t.exchanges) q = λ q c. All-contains (DeadLettersLead (exchange_names t.exchanges)) t.queues q b.lead.dead c in
     record {
-      queues_apart = b.apart.queues;
-      exchanges_apart = b.apart.exchanges;
-      default_apart = none_unnamed t b;
+      queues_distinct = b.distinct.queues;
+      exchanges_distinct = b.distinct.exchanges;
+      none_is_default = none_unnamed t b;
       sources = λ x c. (joined x c).source.there;
       ends = λ x c. place_there t x.to (joined x c).end;
       dead_letters = λ q exchange c e. leads q c exchange e;
@@ -43,7 +43,7 @@ well_formed t b =
     }
 
 -- what stands against a topology is why it is refused
-pub refused : (e : BadTopology) (t : Topology) → StandsAgainst e t → IsTopologyRefused e t
+pub refused : (e : BadTopology) (t : Topology) → IsFirstFailure e t → IsTopologyRefused e t
 refused Repeated t h = h
 refused Absent t h = h
 refused Argument t h = h

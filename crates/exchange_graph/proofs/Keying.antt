@@ -90,7 +90,7 @@ pub puts_old : (key : Text) (e : End) (old new : KeyedEnds) (i : ℕ) → IsEven
     → new.lists.items ≡ set old.lists.items i (get_or old.lists.items i [] ++ e ∷ []) → PutsUnder key e old new
 puts_old key e old new i l h p q r = record {
   even = ap (λ (ks : List Text). length ks) q ∙ l ∙ sym (ap (λ (ls : List (List End)). length ls) r ∙ length-set old.lists.items i (get_or old.lists.items i [] ++ e ∷ []));
-  told = λ other. ap (λ (ks : List Text). ends_beside other ks new.lists.items) q ∙ put_some key other e old.keys old.lists.items new.lists.items i l h p r;
+  reported = λ other. ap (λ (ks : List Text). ends_beside other ks new.lists.items) q ∙ put_some key other e old.keys old.lists.items new.lists.items i l h p r;
 }
 
 -- ---- one key more
@@ -152,7 +152,7 @@ puts_new key e old new l p q r = record {
   even =
       ap (λ (ks : List Text). length ks) q ∙ length-append old.keys (key ∷ []) ∙ ap (λ (n : ℕ). n + 1) l
       ∙ sym (ap (λ (ls : List (List End)). length ls) r ∙ length-append old.lists.items ((e ∷ []) ∷ []));
-  told = λ other. put_none key other e old.keys new.keys old.lists.items new.lists.items l p q r;
+  reported = λ other. put_none key other e old.keys new.keys old.lists.items new.lists.items l p q r;
 }
 
 -- ---- the ways that are left

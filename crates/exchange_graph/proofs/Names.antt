@@ -7,7 +7,7 @@ pub use Rattle.exchange_graph.specs.declared.ends.Branch.{Branch}
 pub use Rattle.exchange_graph.specs.declared.ends.End.{End}
 pub use Rattle.exchange_graph.specs.declared.ends.End.TheVariants.{Into, Onward}
 pub use Rattle.model.specs.Routing.{Binds, Dies, Edge, Leads, Passes, Picks, Reading, Routes, alternate, bound, default, here, none, of_key, on, pass}
-pub use Rattle.model.specs.Topology.{AreApart, IsIn, IsThere, IsWellFormed, Topology, exchange_names, queue_names}
+pub use Rattle.model.specs.Topology.{AreDistinct, IsIn, IsThere, IsWellFormed, Topology, exchange_names, queue_names}
 pub use Rattle.model.specs.Words.{Matches, Text, tokens, words}
 pub use Rattle.model.specs.declared.topologies.Binding.{Binding}
 pub use Rattle.model.specs.declared.topologies.DeclaredQueue.{DeclaredQueue}

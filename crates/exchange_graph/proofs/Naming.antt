@@ -1,11 +1,11 @@
 -- Names, and where they stand.
-use Rattle.exchange_graph.proofs.Names.{◌≡◌, ℕ, zero, suc, ◌+◌, ◌<◌, List, [], ◌∷◌, Bool, true, false, cond, refl, sym, ap, ◌∙◌, subst, length, map, get_or, inl, inr, arith, Contains, IfNone, bytes_eq, position_or_len, bytes_eq-Decides, length-map, Text, Topology, IsIn, AreApart, IsThere, IsWellFormed, exchange_names, queue_names, Exchange, DeclaredQueue, Place, queue_name, exchange_index, queue_place, end_of, place_of, EndsWithin, in_get, in_contains, contains_in}
+use Rattle.exchange_graph.proofs.Names.{◌≡◌, ℕ, zero, suc, ◌+◌, ◌<◌, List, [], ◌∷◌, Bool, true, false, cond, refl, sym, ap, ◌∙◌, subst, length, map, get_or, inl, inr, arith, Contains, IfNone, bytes_eq, position_or_len, bytes_eq-Decides, length-map, Text, Topology, IsIn, AreDistinct, IsThere, IsWellFormed, exchange_names, queue_names, Exchange, DeclaredQueue, Place, queue_name, exchange_index, queue_place, end_of, place_of, EndsWithin, in_get, in_contains, contains_in}
 use Rattle.std.specs.Prelude.{not, Option, Some, None, position, IfSome}
 use Rattle.exchange_graph.proofs.Indices.{place_if_some, place_if_none}
 use Rattle.model.specs.declared.topologies.Place.TheVariants as place
 
 -- names that are apart stand in different places
-pub apart_same : (names : List Text) (i j : ℕ) → AreApart names → i < length names → j < length names → get_or names i [] ≡ get_or names j [] → i ≡ j
+pub apart_same : (names : List Text) (i j : ℕ) → AreDistinct names → i < length names → j < length names → get_or names i [] ≡ get_or names j [] → i ≡ j
 apart_same [] i j a h k e = absurd (omega (arith, h))
 apart_same (x ∷ xs) zero zero a h k e = refl
 apart_same (x ∷ xs) zero (suc j) a h k e = absurd (a.0 (subst (λ (y : Text). IsIn y xs) (sym e) (in_get xs j [] (omega (arith, k)))))
@@ -59,7 +59,7 @@ same_exchange t x y w c d e =
     let n : length (exchange_names t.exchanges) ≡ length t.exchanges = length-map t.exchanges (λ (z : Exchange). z.name) in
     let a : get_or (exchange_names t.exchanges) c.0 [] ≡ x.name = get_map (λ (z : Exchange). z.name) t.exchanges c.0 x [] c.1 ∙ ap (λ (z : Exchange). z.name) c.2 in
     let b : get_or (exchange_names t.exchanges) d.0 [] ≡ y.name = get_map (λ (z : Exchange). z.name) t.exchanges d.0 y [] d.1 ∙ ap (λ (z : Exchange). z.name) d.2 in
-    let s : c.0 ≡ d.0 = apart_same (exchange_names t.exchanges) c.0 d.0 w.exchanges_apart (omega (arith, n, c.1)) (omega (arith, n, d.1)) (a ∙ e ∙ sym b) in
+    let s : c.0 ≡ d.0 = apart_same (exchange_names t.exchanges) c.0 d.0 w.exchanges_distinct (omega (arith, n, c.1)) (omega (arith, n, d.1)) (a ∙ e ∙ sym b) in
     same_at t.exchanges c.0 x y c.1 c.2 (subst (λ (i : ℕ). get_or t.exchanges i y ≡ y) (sym s) d.2)
   where
     same_at : (xs : List Exchange) (i : ℕ) (x y : Exchange) → i < length xs → get_or xs i x ≡ x → get_or xs i y ≡ y → x ≡ y
@@ -114,7 +114,7 @@ pub same_queue : (t : Topology) (q : DeclaredQueue) (at : ℕ) → IsWellFormed 
 same_queue t q at w c h e =
     let n : length (queue_names t.queues) ≡ length t.queues = length-map t.queues (λ (z : DeclaredQueue). z.name) in
     let a : get_or (queue_names t.queues) c.0 [] ≡ q.name = get_map (λ (z : DeclaredQueue). z.name) t.queues c.0 q [] c.1 ∙ ap (λ (z : DeclaredQueue). z.name) c.2 in
-    let s : c.0 ≡ at = apart_same (queue_names t.queues) c.0 at w.queues_apart (omega (arith, n, c.1)) (omega (arith, n, h)) (a ∙ sym e) in
+    let s : c.0 ≡ at = apart_same (queue_names t.queues) c.0 at w.queues_distinct (omega (arith, n, c.1)) (omega (arith, n, h)) (a ∙ sym e) in
     subst (λ (i : ℕ). get_or t.queues i q ≡ q) s c.2
 
 pub get_any : {A : Type 0} (xs : List A) (i : ℕ) (d e : A) → i < length xs → get_or xs i d ≡ get_or xs i e

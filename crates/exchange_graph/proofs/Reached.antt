@@ -60,7 +60,7 @@ found_all t start key seen found done w r p i h s =
     let q = queue_end t seen found (queue_name t i) c.0 c.1 c.2 in
     let n : length (queue_names t.queues) ≡ length t.queues = length-map t.queues (λ (z : DeclaredQueue). z.name) in
     let k : q.0 < length found = set_within found q.0 q.1 in
-    let same : q.0 ≡ i = apart_same (queue_names t.queues) q.0 i w.queues_apart (omega (arith, n, k, r.room.queues)) (omega (arith, n, h)) q.2 in
+    let same : q.0 ≡ i = apart_same (queue_names t.queues) q.0 i w.queues_distinct (omega (arith, n, k, r.room.queues)) (omega (arith, n, h)) q.2 in
     subst (λ (j : ℕ). IsSet found j) same q.1
 
 seen_all : (t : Topology) (start key : Text) (seen found done : List Bool) → IsWellFormed t → Reaching t start key seen found done → IsPending seen done None
@@ -69,7 +69,7 @@ seen_all t start key seen found done w r p i h l =
     let m = met_exchange t start key seen found done r p l r.begun in
     let n : length (exchange_names t.exchanges) ≡ length t.exchanges = length-map t.exchanges (λ (z : Exchange). z.name) in
     let k : m.0 < length seen = set_within seen m.0 m.1 in
-    let same : m.0 ≡ i = apart_same (exchange_names t.exchanges) m.0 i w.exchanges_apart (omega (arith, n, k, r.room.exchanges)) (omega (arith, n, h)) m.2 in
+    let same : m.0 ≡ i = apart_same (exchange_names t.exchanges) m.0 i w.exchanges_distinct (omega (arith, n, k, r.room.exchanges)) (omega (arith, n, h)) m.2 in
     subst (λ (j : ℕ). IsSet seen j) same m.1
 
 -- nothing is left to be done

@@ -75,7 +75,7 @@ record IsNamed (t : Topology) (key : Text) (to : Place) : Type 0 where
   same : queue ≡ key
 
 no_name : (t : Topology) (name : Text) (x : Exchange) → IsWellFormed t → Contains t.exchanges x → x.name ≡ name → name ≡ [] → ⊥
-no_name t name x w c e z = w.default_apart (subst (λ (n : Text). IsIn n (exchange_names t.exchanges)) (e ∙ z) (in_map (λ (y : Exchange). y.name) t.exchanges x (in_contains t.exchanges x c)))
+no_name t name x w c e z = w.none_is_default (subst (λ (n : Text). IsIn n (exchange_names t.exchanges)) (e ∙ z) (in_map (λ (y : Exchange). y.name) t.exchanges x (in_contains t.exchanges x c)))
 
 default_edge : {t : Topology} {key name : Text} {to : Place} → IsWellFormed t → Edge t (of_key key) name to → name ≡ [] → IsNamed t key to
 default_edge {t} w (bound {name} x b c e s p) z = absurd (no_name t name x w c e z)
@@ -120,7 +120,7 @@ default_one t key m at b w h q = record {
   ]);
   all = λ i k s. (
       let n : length (queue_names t.queues) ≡ length t.queues = length-map t.queues (λ (y : DeclaredQueue). y.name) in
-      let same : at ≡ i = apart_same (queue_names t.queues) at i w.queues_apart (omega (arith, n, h)) (omega (arith, n, k)) (q ∙ sym (default_named t key (queue_name t i) w s).0) in
+      let same : at ≡ i = apart_same (queue_names t.queues) at i w.queues_distinct (omega (arith, n, h)) (omega (arith, n, k)) (q ∙ sym (default_named t key (queue_name t i) w s).0) in
       subst (λ (j : ℕ). IsSet (set (replicate m false) at true) j) same (set_here (replicate m false) at (rw (length-replicate m false) (omega (arith, b, h)))));
 }
 

@@ -134,7 +134,7 @@ every_step t key x passing w c a to (alternate {other = other} y d e o shut) q =
     let none' : passing ≡ [] = none_passes t key x passing w a (subst (λ (z : Exchange). (to' : Place) (b : Binding) → Binds t z to' b → Passes z.kind b.key key → ⊥) same shut) in
     subst (λ (es : List End). HasEnd t (or_alternate (fan_of t x).alternate es) (place.Exchange other)) (sym none') (alternate_end t x w c other o')
 every_step t key x passing w c a to (default z d e n) q =
-    absurd (w.default_apart (subst (λ (n' : Text). IsIn n' (exchange_names t.exchanges)) (sym q) (in_map (λ (y : Exchange). y.name) t.exchanges x (in_contains t.exchanges x c))))
+    absurd (w.none_is_default (subst (λ (n' : Text). IsIn n' (exchange_names t.exchanges)) (sym q) (in_map (λ (y : Exchange). y.name) t.exchanges x (in_contains t.exchanges x c))))
 
 pub steps_of : (t : Topology) (key : Text) (x : Exchange) (ends : List End) → IsWellFormed t → Contains t.exchanges x → LeadOn key (fan_of t x) ends → AreSteps t key x.name ends
 steps_of t key x ends w c l =

@@ -11,12 +11,12 @@ none_picked P (x ∷ xs) shut = pass (shut x (inl refl)) (none_picked P xs (λ y
 pub default_visited : (t : Topology) (key : Text) → IsWellFormed t → AreVisited t [] key ([] ∷ [])
 default_visited t key w =
     take here (none_picked (Leads t (of_key key) []) (exchange_names t.exchanges)
-    (λ x h l. w.default_apart (subst (λ (n : Text). IsIn n (exchange_names t.exchanges)) (default_leads w l refl) h)))
+    (λ x h l. w.none_is_default (subst (λ (n : Text). IsIn n (exchange_names t.exchanges)) (default_leads w l refl) h)))
 
 never_default : {t : Topology} {key x y : Text} → IsWellFormed t → Leads t (of_key key) x y → (x ≡ [] → ⊥) → y ≡ [] → ⊥
 never_default w here some z = some z
 never_default {t} w (on {y = m} s l) some z =
-    never_default w l (λ e. w.default_apart (subst (λ (n : Text). IsIn n (exchange_names t.exchanges)) e (end_there w s))) z
+    never_default w l (λ e. w.none_is_default (subst (λ (n : Text). IsIn n (exchange_names t.exchanges)) e (end_there w s))) z
 
 pub others_visited : (t : Topology) (exchange key : Text) (names : List Text) → IsWellFormed t → (exchange ≡ [] → ⊥) → Picks (Leads t (of_key key) exchange) (exchange_names t.exchanges) names → AreVisited t exchange key names
 others_visited t exchange key names w some p = pass (λ l. never_default w l some refl) p

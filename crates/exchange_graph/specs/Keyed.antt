@@ -24,9 +24,9 @@ IsEven keyed = length keyed.keys ≡ length keyed.lists.items
 -- `keyed` has, under each key, the destinations of the bindings in `ways` with this binding key.
 pub record AreKeyed (ways : List Branch) (keyed : KeyedEnds) : Type 0 where
   pub even : IsEven keyed
-  pub told : (key : Text) → ends_under key keyed ≡ ends_by_key key ways
+  pub reported : (key : Text) → ends_under key keyed ≡ ends_by_key key ways
 
 -- `end` was appended under `key`; the other lists are as before.
 pub record PutsUnder (key : Text) (end : End) (old new : KeyedEnds) : Type 0 where
   pub even : IsEven new
-  pub told : (other : Text) → ends_under other new ≡ ends_under other old ++ (if bytes_eq key other then end ∷ [] else [])
+  pub reported : (other : Text) → ends_under other new ≡ ends_under other old ++ (if bytes_eq key other then end ∷ [] else [])

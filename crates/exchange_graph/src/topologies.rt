@@ -120,8 +120,8 @@ impl Topology {
         requires { IsBuildable (record { exchanges = exchanges.items; queues = queues.items; bindings = bindings.items }) }
         ensures { IfOk result (λ t. t ≡ record { exchanges = exchanges.items; queues = queues.items; bindings = bindings.items }) }
     {
-        let exchange_names = Names::apart(alloc, exchanges.as_slice())?;
-        let queue_names = Names::apart(alloc, queues.as_slice())?;
+        let exchange_names = Names::distinct(alloc, exchanges.as_slice())?;
+        let queue_names = Names::distinct(alloc, queues.as_slice())?;
         let fans = all_fans(
             alloc,
             &NamedLists::of(

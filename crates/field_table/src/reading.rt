@@ -19,7 +19,7 @@ use std::alloc::Global;
 /// Returns [`BadTable::SyntaxError`] if bytes are left over, a length isn't filled exactly, a type letter or a truth octet
 /// is unknown, or tables and arrays are nested more than 16 levels deep; [`BadTable::Memory`] if an allocation fails.
 pub fn read_table(alloc: Global, bytes: &[u8]) -> Result<FieldTable, BadTable>
-    ensures tells { AnswersOr result (λ t. SpellsTable bytes.now (table_view t)) ((ps : Pairs) → SpellsTable bytes.now ps → ⊥) }
+    ensures read { AnswersOr result (λ t. SpellsTable bytes.now (table_view t)) ((ps : Pairs) → SpellsTable bytes.now ps → ⊥) }
     // Promise: a table that `bytes` encode is returned, unless an allocation fails.
     ensures only { (ps : Pairs) → SpellsTable bytes.now ps → IsOr result (λ t. table_view t ≡ ps) }
 {

@@ -34,10 +34,10 @@ pub record IsFrontFrame (max : ℕ) (bytes : List ℕ) (f : Frame) (size : ℕ) 
   pub whole : size ≡ length (frame_bytes (seen f))
 
 -- the result of `read_frame` is right: the frame at the front and its length, `More` if it is unfinished, 501 if no further bytes can complete it
-abbrev pub TellsFrame : ℕ → List ℕ → ReadFrame → Type 0
-TellsFrame max bytes (Whole f len) = IsFrontFrame max bytes f len
-TellsFrame max bytes More = IsUnfinished max bytes
-TellsFrame max bytes (Fault code) = (code ≡ 501) × IsBroken max bytes
+abbrev pub ReturnsFrame : ℕ → List ℕ → ReadFrame → Type 0
+ReturnsFrame max bytes (Whole f len) = IsFrontFrame max bytes f len
+ReturnsFrame max bytes More = IsUnfinished max bytes
+ReturnsFrame max bytes (Fault code) = (code ≡ 501) × IsBroken max bytes
 
 -- the result is the frame `g`, and `rest` are the bytes after it
 abbrev pub IsWholeFrame : List ℕ → ReadFrame → Frames.Frame → List ℕ → Type 0

@@ -168,7 +168,7 @@ fn drop_front(bytes: &mut Vec<u8>, n: usize)
 /// Copies the last `left` bytes, which follow the first `n`, to the front.
 fn move_to_front(bytes: &mut [u8], n: usize, left: usize)
     requires within { n + left ≡ length bytes.old }
-    requires apart { left ≤ n }
+    requires disjoint { left ≤ n }
     ensures len { length bytes.new ≡ length bytes.old }
     ensures moved { take left bytes.new ≡ drop n bytes.old }
 {

@@ -4,7 +4,7 @@ ghost use Rattle.std.specs.Prelude.{◌≡◌, ◌≤◌, ◌⊎◌, ℕ, List, 
 ghost use Rattle.std.specs.Int.{w16, w32, from_be_bytes};
 ghost use Rattle.model.specs.Frames;
 ghost use Rattle.model.specs.Frames.{Begins};
-ghost use Rattle.frame.specs.Reading.{TellsFrame, IsWholeFrame, IsKind};
+ghost use Rattle.frame.specs.Reading.{ReturnsFrame, IsWholeFrame, IsKind};
 
 use crate::frames::{Frame, ReadFrame};
 use byteorder::{BigEndian, ByteOrder};
@@ -15,7 +15,7 @@ use byteorder::{BigEndian, ByteOrder};
 /// payload borrows `input`. Never allocates.
 pub fn read_frame(input: &[u8], max: u32) -> ReadFrame<'_>
     requires { 4096 ≤ max }
-    ensures tells { TellsFrame max input.now result }
+    ensures read { ReturnsFrame max input.now result }
     // Promise: a frame that is at the front is returned.
     ensures only { (f : Frames.Frame) (rest : List ℕ) → Begins max input.now f rest → IsWholeFrame input.now result f rest }
 {
@@ -24,7 +24,7 @@ pub fn read_frame(input: &[u8], max: u32) -> ReadFrame<'_>
 
 fn front_of(input: &[u8], max: u32) -> ReadFrame<'_>
     requires { 4096 ≤ max }
-    ensures { TellsFrame max input.now result }
+    ensures { ReturnsFrame max input.now result }
 {
     if input.len() < 7 {
         return ReadFrame::More;

@@ -10,10 +10,10 @@ pub use Rattle.guarantee_search.specs.Spellings.{IsFilled, IsNoDot, SpellsLetter
 pub use Rattle.guarantee_search.specs.Walked.{AreSorted, AreTried, IsWalkOf, first_form, places_from, slice_form}
 pub use Rattle.model.specs.Certificates.{Accepts, AreChosen, ArePlaces, Ascend, Certificate, Excepting, Form, IsDropped, IsGoodState, IsShort, IsZeroFirst, LeadsIn, Sliced, Suits, Whole, at_places, mode_name}
 pub use Rattle.model.specs.Guarantee.{CoversKey, Guarantee, Keeps}
-pub use Rattle.model.specs.Positions.{FitsEach, IsStartState, IsStateOf, IsStepOf, Letter, Named, Other, StandsFor, TellsEach, has_bit, letters, named_words, word_of}
+pub use Rattle.model.specs.Positions.{FitsEach, IsStartState, IsStateOf, IsStepOf, Letter, Named, Other, RepresentsWord, RecordsMatches, has_bit, letters, named_words, word_of}
 pub use Rattle.model.specs.Refutations.{Breaks, Refutation, Refutes}
 pub use Rattle.model.specs.Searches.{BreaksLong, HasManyStates, IsBrokenFor, IsOfKey, IsPlainByte, IsTooLarge, IsWord}
-pub use Rattle.model.specs.Topology.{AreApart, IsIn, Topology}
+pub use Rattle.model.specs.Topology.{AreDistinct, IsIn, Topology}
 pub use Rattle.model.specs.Tracking.{IsTrackedList, Tracked, literal, tokens_by, tokens_of}
 pub use Rattle.model.specs.Words.{Text, onto_first, pieces, token, tokens, words}
 pub use Rattle.state_routes.proofs.Fitting.{all_short, chosen_fit}

@@ -3,7 +3,7 @@ use Rattle.guarantees.proofs.Names.{◌≡◌, ℕ, ◌++◌, zero, suc, List, [
 
 -- these are kept, and those are left, so many; all are patterns
 pub record KeptSoFar (kept left all : List Guarantee) (count : ℕ) : Type 0 where
-  pub told : kept ++ left ≡ all
+  pub reported : kept ++ left ≡ all
   pub counted : count ≡ length left
   pub patterns : All ArePatterns left
 

@@ -1,5 +1,5 @@
 -- The names that several files of these proofs use.
-pub use Rattle.guarantees.specs.Causes.{AreClear, AreFewEnough, ArePatterns, AreTold, IsExchangeOrDefault, IsGuaranteeWorded, NamesAreThere}
+pub use Rattle.guarantees.specs.Causes.{AreClear, AreFewEnough, ArePatterns, AreReported, IsExchangeOrDefault, IsGuaranteeWorded, NamesAreThere}
 pub use Rattle.guarantees.specs.Covering.{KeepsIn}
 pub use Rattle.guarantees.specs.Reads.{AreAccepted, AreClearFor, AreRefused, IsGuaranteesFile}
 pub use Rattle.json_file.proofs.Refused.{free_of, refused_unread, unread}

@@ -6,7 +6,7 @@ use Rattle.model.specs.Guarantee.{Guarantee}
 use Rattle.topic_match.specs.Patterns.{IsPattern}
 use Rattle.json_file.specs.declared.causes.FileCause.{FileCause}
 use Rattle.json_file.specs.declared.causes.FileCause.TheVariants.{Absent, Worded, TooMany}
-use Rattle.json_file.specs.Files.{IsCauseTold}
+use Rattle.json_file.specs.Files.{IsCauseReported}
 
 -- the exchange is the default one, or one of the topology
 abbrev pub IsExchangeOrDefault : Topology → Text → Type 0
@@ -47,8 +47,8 @@ AreClear TooMany t gs = AreFewEnough gs
 AreClear _ t gs = Unit {0}
 
 -- the reported cause is the lowest-numbered one that applies; a report of an allocation failure promises nothing
-abbrev pub AreTold : FileCause → Topology → List Guarantee → Type 0
-AreTold bad t gs = IsCauseTold (λ (lower : FileCause). AreClear lower t gs) bad
+abbrev pub AreReported : FileCause → Topology → List Guarantee → Type 0
+AreReported bad t gs = IsCauseReported (λ (lower : FileCause). AreClear lower t gs) bad
 
 -- the result is the guarantee `given` if its texts are topic patterns, otherwise `None`
 abbrev pub Makes : Option Guarantee → Guarantee → Type 0
@@ -58,4 +58,4 @@ Makes None given = ArePatterns given → ⊥
 -- no cause applies, or the reported one is the lowest-numbered one that does
 abbrev pub JudgesGuarantees : Result ⊤ FileCause → Topology → List Guarantee → Type 0
 JudgesGuarantees (Ok done) t gs = (bad : FileCause) → AreClear bad t gs
-JudgesGuarantees (Err bad) t gs = AreTold bad t gs
+JudgesGuarantees (Err bad) t gs = AreReported bad t gs

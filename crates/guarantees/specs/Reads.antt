@@ -4,7 +4,7 @@ use Rattle.std.specs.declared.alloc.Global.{Global}
 use Rattle.model.specs.Topology.{Topology}
 use Rattle.model.specs.Guarantee.{Guarantee}
 use Rattle.json_file.specs.declared.causes.FileCause.{FileCause}
-use Rattle.json_file.specs.Files.{IsCauseTold, IsFileOf, IsFreeOf, IsLeastCause, IsUnreadFile}
+use Rattle.json_file.specs.Files.{IsCauseReported, IsFileOf, IsFreeOf, IsLeastCause, IsUnreadFile}
 use Rattle.guarantees.specs.Stated.{guarantees_at}
 use Rattle.guarantees.specs.Causes.{AreClear}
 
@@ -26,7 +26,7 @@ IsFirstAgainst bad t bytes = IsLeastCause (IsFreeOf guarantees_at (AreClearFor t
 
 -- a file is refused by its lowest-numbered cause; a refusal for an allocation failure promises nothing
 abbrev pub AreRefused : FileCause → Topology → List ℕ → Type 0
-AreRefused bad t bytes = IsCauseTold (IsFreeOf guarantees_at (AreClearFor t) bytes) bad
+AreRefused bad t bytes = IsCauseReported (IsFreeOf guarantees_at (AreClearFor t) bytes) bad
 
 -- the guarantees that a file states, or the cause for which it is refused before its guarantees are known
 abbrev pub OpensGuarantees : Result (Vec Guarantee Global) FileCause → List ℕ → Type 0

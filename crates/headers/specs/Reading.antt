@@ -21,11 +21,11 @@ pub record Fields (payload : List ℕ) (size flags : ℕ) (rest : List ℕ) : Ty
   pub rest_is : drop 14 payload ≡ rest
 
 -- the result is the declared size, or the only refusal there is, 501
-abbrev pub TellsSize : List ℕ → Result ℕ BadHeader → Type 0
-TellsSize payload (Ok n) = SaysSize payload (Ok n)
-TellsSize payload (Err FrameError) = SaysSize payload (Err 501)
-TellsSize payload (Err SyntaxError) = ⊥
-TellsSize payload (Err Memory) = ⊥
+abbrev pub ReturnsSize : List ℕ → Result ℕ BadHeader → Type 0
+ReturnsSize payload (Ok n) = SaysSize payload (Ok n)
+ReturnsSize payload (Err FrameError) = SaysSize payload (Err 501)
+ReturnsSize payload (Err SyntaxError) = ⊥
+ReturnsSize payload (Err Memory) = ⊥
 
 -- the payload is refused by the reply code of this error; an allocation failure needs no reason
 abbrev pub HeaderIsRefused : List ℕ → BadHeader → Type 0
@@ -34,9 +34,9 @@ HeaderIsRefused payload SyntaxError = SaysHeader payload (Err 502)
 HeaderIsRefused payload Memory = ⊤
 
 -- the result is correct for this payload
-abbrev pub TellsHeader : List ℕ → Result Header BadHeader → Type 0
-TellsHeader payload (Ok h) = SaysHeader payload (Ok (header_seen h))
-TellsHeader payload (Err e) = HeaderIsRefused payload e
+abbrev pub ReturnsHeader : List ℕ → Result Header BadHeader → Type 0
+ReturnsHeader payload (Ok h) = SaysHeader payload (Ok (header_seen h))
+ReturnsHeader payload (Err e) = HeaderIsRefused payload e
 
 -- the result is the header `h`, or an allocation failed
 abbrev pub IsHeaderOr : Headers.Header → Result Header BadHeader → Type 0

@@ -3,7 +3,7 @@
 ghost use Rattle.std.specs.Prelude.{◌≡◌, ◌<◌, ◌^◌};
 ghost use Rattle.model.specs.Headers;
 ghost use Rattle.model.specs.Headers.{header_bytes, AreProperties};
-ghost use Rattle.headers.specs.Reading.{TellsSize, TellsHeader, IsHeaderOr};
+ghost use Rattle.headers.specs.Reading.{ReturnsSize, ReturnsHeader, IsHeaderOr};
 
 use crate::contents::{BadHeader, Header};
 use crate::fields::fields_at;
@@ -13,7 +13,7 @@ use std::alloc::Global;
 /// Returns the body size in bytes that `payload` declares. Fails with [`BadHeader::FrameError`] if it is no content header of the basic class.
 /// Flags and properties are not looked at. Never allocates.
 pub fn read_size(payload: &[u8]) -> Result<u64, BadHeader>
-    ensures { TellsSize payload.now result }
+    ensures { ReturnsSize payload.now result }
 {
     match fields_at(payload) {
         None => Err(BadHeader::FrameError),
@@ -25,7 +25,7 @@ pub fn read_size(payload: &[u8]) -> Result<u64, BadHeader>
 ///
 /// Each refusal is a variant of [`BadHeader`] with its reply code. [`BadHeader::Memory`] means that an allocation failed.
 pub fn read_header(alloc: Global, payload: &[u8]) -> Result<Header, BadHeader>
-    ensures tells { TellsHeader payload.now result }
+    ensures read { ReturnsHeader payload.now result }
     // Promise: a header that `payload` encodes is returned, unless an allocation fails.
     ensures only { (h : Headers.Header) → h.size < 2 ^ 64 → AreProperties h.properties → payload.now ≡ header_bytes h.size h.properties → IsHeaderOr h result }
 {

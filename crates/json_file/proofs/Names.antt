@@ -1,6 +1,6 @@
 -- The names that several files of these proofs use.
 pub use Rattle.json_file.specs.Causes.{cause_number}
-pub use Rattle.json_file.specs.Files.{AllClearBelow, IsCauseTold, IsFileOf, IsFreeOf, IsLeastCause, IsUnreadFile}
+pub use Rattle.json_file.specs.Files.{AllClearBelow, IsCauseReported, IsFileOf, IsFreeOf, IsLeastCause, IsUnreadFile}
 pub use Rattle.json_file.specs.Members.{IsJson, fills, has_only, named_among}
 pub use Rattle.json_file.specs.Outcomes.{FailsJson}
 pub use Rattle.json_file.specs.declared.causes.FileCause.{FileCause}

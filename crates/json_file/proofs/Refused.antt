@@ -1,5 +1,5 @@
 -- From what a file states to the whole of it, over what a value states and what each cause asks of that.
-use Rattle.json_file.proofs.Names.{◌≡◌, ℕ, ◌<◌, List, Option, Some, None, length, sym, ap, ◌∙◌, subst, arith, Data, IsJson, FailsJson, FileCause, NotJson, Malformed, TooMany, Memory, cause_number, IsFreeOf, IsLeastCause, IsFileOf, IsCauseTold, IsUnreadFile}
+use Rattle.json_file.proofs.Names.{◌≡◌, ℕ, ◌<◌, List, Option, Some, None, length, sym, ap, ◌∙◌, subst, arith, Data, IsJson, FailsJson, FileCause, NotJson, Malformed, TooMany, Memory, cause_number, IsFreeOf, IsLeastCause, IsFileOf, IsCauseReported, IsUnreadFile}
 
 -- a file is one value, and states one thing
 one_value : (bytes : List ℕ) (d e : Data) → IsJson bytes d → IsJson bytes e → d ≡ e
@@ -36,7 +36,7 @@ too_long at Clear bytes l Malformed h = λ d j. (let s = j.short in absurd (omeg
 too_long at Clear bytes l TooMany h = absurd (omega (arith, h))
 too_long at Clear bytes l _ h = λ x w. (let s = w.json.short in absurd (omega (arith, l, s)))
 
-pub refused_unread : {X : Type 0} (at : Data → Option X) (Clear : FileCause → X → Type 0) (bytes : List ℕ) (bad : FileCause) → IsUnreadFile at bad bytes → IsCauseTold (IsFreeOf at Clear bytes) bad
+pub refused_unread : {X : Type 0} (at : Data → Option X) (Clear : FileCause → X → Type 0) (bytes : List ℕ) (bad : FileCause) → IsUnreadFile at bad bytes → IsCauseReported (IsFreeOf at Clear bytes) bad
 refused_unread at Clear bytes NotJson h = record {
   below = none_before at Clear bytes;
   stands = λ f. (let p = f h.0 in h.1 p.0 p.1);
@@ -80,6 +80,6 @@ first_of at Clear bytes x bad n w l = record {
 }
 
 pub refused : {X : Type 0} (at : Data → Option X) (Clear : FileCause → X → Type 0) (bytes : List ℕ) (x : X) (bad : FileCause) → AskNothing Clear x
-    → IsFileOf at bytes x → IsCauseTold (λ (b : FileCause). Clear b x) bad → IsCauseTold (IsFreeOf at Clear bytes) bad
+    → IsFileOf at bytes x → IsCauseReported (λ (b : FileCause). Clear b x) bad → IsCauseReported (IsFreeOf at Clear bytes) bad
 refused at Clear bytes x Memory n w h = tt
 refused at Clear bytes x bad n w h = first_of at Clear bytes x bad n w h

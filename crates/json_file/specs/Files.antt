@@ -19,9 +19,9 @@ pub record IsLeastCause (Clear : FileCause → Type 0) (bad : FileCause) : Type 
   pub stands : Clear bad → ⊥
 
 -- the reported cause is the lowest-numbered one that applies; a report of an allocation failure promises nothing
-abbrev pub IsCauseTold : (FileCause → Type 0) → FileCause → Type 0
-IsCauseTold Clear Memory = Unit {0}
-IsCauseTold Clear bad = IsLeastCause Clear bad
+abbrev pub IsCauseReported : (FileCause → Type 0) → FileCause → Type 0
+IsCauseReported Clear Memory = Unit {0}
+IsCauseReported Clear bad = IsLeastCause Clear bad
 
 -- ---- what a file states
 

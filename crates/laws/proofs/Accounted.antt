@@ -50,7 +50,7 @@ module _ (t : Topology) (old new : Broker) (sends : List Send) (notes : List Not
       go (own e f is) =
           let here : IsOutstandingOn old c h o = subst (λ (n : ℕ). IsOutstandingOn old c n o) f (subst (λ (n : ℕ). IsOutstandingOn old n k o) e was) in
           subst (λ (n : ℕ). Accounted n k o) (sym e) (subst (λ (n : ℕ). Accounted c n o) (sym f) (of_fate c h now channels o here fate))
-      go (other apart is) = still d k o (channels d k ∙ is) was
+      go (other distinct is) = still d k o (channels d k ∙ is) was
   account c (all_channels row channels queues there others) d k o was = go (d == c) refl
     where
       go : (v : Bool) → (d == c) ≡ v → Accounted d k o

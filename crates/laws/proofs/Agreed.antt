@@ -6,7 +6,7 @@ use Rattle.model.specs.Settling.{kept, takes}
 use Rattle.model.specs.Step.{comes_to}
 use Rattle.laws.proofs.Deeds.{Deed, changes, enters, gives, settles, purges, nothing, alters, ends, clears, renews, AreSame, Puts, acted, channel_at}
 use Rattle.laws.proofs.Counts.{count-append, count-cons, in-append, in_front, all_in, all-append, all_each, filter_all}
-use Rattle.laws.proofs.Agreement.{Passes, number, HeldIn, Shrinks, shrinks_same, shrinks_freed, shrinks_without, shrinks_filter, left_shrinks, returned_shrinks, left_clear, returned_clear, in_freed, held_here, counted_in, find_counted, ready_not_held, same_holder, shrinks_on, AreApart, IsClear, clear_on, apart_on, count_own, at_own}
+use Rattle.laws.proofs.Agreement.{Passes, number, HeldIn, Shrinks, shrinks_same, shrinks_freed, shrinks_without, shrinks_filter, left_shrinks, returned_shrinks, left_clear, returned_clear, in_freed, held_here, counted_in, find_counted, ready_not_held, same_holder, shrinks_on, AreDistinct, IsClear, clear_on, apart_on, count_own, at_own}
 use Rattle.laws.proofs.Given.{Keeps, Any, IsOther, keeps_same, keeps_on, keeps_arrivals, keeps_freed, keeps_purged, keeps_given, left_keeps, rejected_keeps, returned_keeps, first_is_held, in_passing}
 use Rattle.laws.proofs.Dying.{Goes, not_found, left_only, died, goes_by}
 use Rattle.laws.proofs.Leaving.{at_queue, in_filter}
@@ -64,7 +64,7 @@ agreed_by old new a s keep given good = record {
       let was = s.held q e holder i is in
       keep q holder (record { entry = e; there = i; mark = is }) (a.held q was.entry holder was.there was.mark);
   given = λ c h ch o e i. let it = given c h ch o e i in record { entry = it.entry; there = it.there; mark = it.mark };
-  apart = λ q holder. let x = s.fewer q holder in let y = a.apart q holder in omega (arith, x, y);
+  distinct = λ q holder. let x = s.fewer q holder in let y = a.distinct q holder in omega (arith, x, y);
   rising = λ c h ch e. (good c h ch e).0;
   before = λ c h ch e. (good c h ch e).1;
   closed = λ c h ch e. (good c h ch e).2;
@@ -93,13 +93,13 @@ pub data At (A : Type 0) (f : ℕ → ℕ → A) (c h : ℕ) (x : A) (d k : ℕ)
 pub pair_at : {A : Type 0} (f : ℕ → ℕ → A) (c h : ℕ) (x : A) (d k : ℕ) → At A f c h x d k
 pair_at {A = A} f c h x d k = go (d == c) refl (k == h) refl
   where
-    apart : ((d == c) && (k == h)) ≡ false → At A f c h x d k
-    apart e = other e (ap (λ (b : Bool). if b then x else f d k) e)
+    distinct : ((d == c) && (k == h)) ≡ false → At A f c h x d k
+    distinct e = other e (ap (λ (b : Bool). if b then x else f d k) e)
 
     go : (v : Bool) → (d == c) ≡ v → (w : Bool) → (k == h) ≡ w → At A f c h x d k
     go true e true g = own (eqb-true d c e) (eqb-true k h g) (ap (λ (b : Bool). if b && (k == h) then x else f d k) e ∙ ap (λ (b : Bool). if true && b then x else f d k) g)
-    go true e false g = apart (ap (λ (b : Bool). b && (k == h)) e ∙ ap (λ (b : Bool). true && b) g)
-    go false e w g = apart (ap (λ (b : Bool). b && (k == h)) e)
+    go true e false g = distinct (ap (λ (b : Bool). b && (k == h)) e ∙ ap (λ (b : Bool). true && b) g)
+    go false e w g = distinct (ap (λ (b : Bool). b && (k == h)) e)
 
 outstanding_with : (old new : Broker) (c h : ℕ) (x : Option Channel) → ((d k : ℕ) → new.channel d k ≡ with_pair old.channel c h x d k) → (q : Text) (holder : Holder) → IsOutstanding old q holder
     → (holder.connection ≡ c → holder.channel ≡ h → new.channel holder.connection holder.channel ≡ x → IsOutstanding new q holder) → IsOutstanding new q holder
@@ -107,14 +107,14 @@ outstanding_with old new c h x are q holder o here = go (pair_at old.channel c h
   where
     go : At (Option Channel) old.channel c h x holder.connection holder.channel → IsOutstanding new q holder
     go (own e f is) = here e f (are holder.connection holder.channel ∙ is)
-    go (other apart is) = record { channel = o.channel; there = are holder.connection holder.channel ∙ is ∙ o.there; delivery = o.delivery; outstanding = o.outstanding; tag = o.tag; queue = o.queue; by = o.by }
+    go (other distinct is) = record { channel = o.channel; there = are holder.connection holder.channel ∙ is ∙ o.there; delivery = o.delivery; outstanding = o.outstanding; tag = o.tag; queue = o.queue; by = o.by }
 
 good_with : (old new : Broker) (c h : ℕ) (x : Option Channel) → IsAgreed old → ((d k : ℕ) → new.channel d k ≡ with_pair old.channel c h x d k) → ((ch : Channel) → x ≡ Some ch → IsGood ch) → (d k : ℕ) (ch : Channel) → new.channel d k ≡ Some ch → IsGood ch
 good_with old new c h x a are good d k ch e = go (pair_at old.channel c h x d k)
   where
     go : At (Option Channel) old.channel c h x d k → IsGood ch
     go (own f g is) = good ch (sym is ∙ sym (are d k) ∙ e)
-    go (other apart is) = let was = sym is ∙ sym (are d k) ∙ e in (a.rising d k ch was, a.before d k ch was, a.closed d k ch was)
+    go (other distinct is) = let was = sym is ∙ sym (are d k) ∙ e in (a.rising d k ch was, a.before d k ch was, a.closed d k ch was)
 
 -- what other channels hold stays held, and what is outstanding on this one is held
 held_with : (P : Holder → Type 0) (old new : Broker) (c h : ℕ) (x : Option Channel) → IsAgreed old → Keeps P old.queue new.queue → ((holder : Holder) → by_channel c h holder ≡ false → P holder) → ((d k : ℕ) → new.channel d k ≡ with_pair old.channel c h x d k)
@@ -125,7 +125,7 @@ held_with P old new c h x a stays others are here d k ch o e i = go (pair_at old
     go (own f g is) =
         let it = here ch o (sym is ∙ sym (are d k) ∙ e) i in
         subst (λ (m : ℕ). HeldIn (new.queue o.queue) (holder_of m k o)) (sym f) (subst (λ (m : ℕ). HeldIn (new.queue o.queue) (holder_of c m o)) (sym g) it)
-    go (other apart is) = stays o.queue (holder_of d k o) (others (holder_of d k o) apart) (held_of old a d k ch o (sym is ∙ sym (are d k) ∙ e) i)
+    go (other distinct is) = stays o.queue (holder_of d k o) (others (holder_of d k o) distinct) (held_of old a d k ch o (sym is ∙ sym (are d k) ∙ e) i)
 
 -- one channel is another, on which what is outstanding is what is still held
 agreed_with : (old new : Broker) (c h : ℕ) (ch : Channel) → IsAgreed old → Shrinks old.queue new.queue → ((d k : ℕ) → new.channel d k ≡ with_pair old.channel c h (Some ch) d k) → IsGood ch → AreHeld new
@@ -172,8 +172,8 @@ agreed_freed old new c row a is are none = agreed_by old new a (shrinks_freed (b
 
     keep : (q : Text) (holder : Holder) → HeldIn (new.queue q) holder → IsOutstanding old q holder → IsOutstanding new q holder
     keep q holder i o =
-        let apart = (in_freed (by_connection c) i.entry (old.queue q) holder (subst (IsIn i.entry) (is q) i.there) i.mark).1 in
-        record { channel = o.channel; there = other holder.connection holder.channel apart ∙ o.there; delivery = o.delivery; outstanding = o.outstanding; tag = o.tag; queue = o.queue; by = o.by }
+        let distinct = (in_freed (by_connection c) i.entry (old.queue q) holder (subst (IsIn i.entry) (is q) i.there) i.mark).1 in
+        record { channel = o.channel; there = other holder.connection holder.channel distinct ∙ o.there; delivery = o.delivery; outstanding = o.outstanding; tag = o.tag; queue = o.queue; by = o.by }
 
     given : AreHeld new
     given d k ch o e i = go (d == c) refl
@@ -241,15 +241,15 @@ rejected_shrinks t c h [] old notes new a = shrinks_same old new a.1
 rejected_shrinks t c h (o ∷ os) old notes new (mid, first, rest, dies, all, more) =
     shrinks_on old mid new (shrinks_on old (without_given c h old o) mid (shrinks_without (is_held_as (holder_of c h o)) old o.queue) (first_shrinks t c h o old first mid dies)) (rejected_shrinks t c h os mid rest new more)
 
-rejected_clear : (t : Topology) (c h : ℕ) (os : List Outstanding) (old : Text → List Entry) (notes : List Note) (new : Text → List Entry) → AreRejected t c h os old notes new → AreApart old → (o : Outstanding) → IsIn o os → IsClear c h new o
-rejected_clear t c h [] old notes new a apart o i = absurd i
-rejected_clear t c h (p ∷ os) old notes new (mid, first, rest, dies, all, more) apart o (inl e) =
+rejected_clear : (t : Topology) (c h : ℕ) (os : List Outstanding) (old : Text → List Entry) (notes : List Note) (new : Text → List Entry) → AreRejected t c h os old notes new → AreDistinct old → (o : Outstanding) → IsIn o os → IsClear c h new o
+rejected_clear t c h [] old notes new a distinct o i = absurd i
+rejected_clear t c h (p ∷ os) old notes new (mid, first, rest, dies, all, more) distinct o (inl e) =
     clear_on c h o mid new (rejected_shrinks t c h os mid rest new more)
     (subst (IsClear c h mid) (sym e) (clear_on c h p (without_given c h old p) mid (first_shrinks t c h p old first mid dies)
-    (ap (count_by (is_held_as (holder_of c h p))) (at_own old p.queue _) ∙ count_own (is_held_as (holder_of c h p)) (old p.queue) (apart p.queue (holder_of c h p)))))
-rejected_clear t c h (p ∷ os) old notes new (mid, first, rest, dies, all, more) apart o (inr i) =
+    (ap (count_by (is_held_as (holder_of c h p))) (at_own old p.queue _) ∙ count_own (is_held_as (holder_of c h p)) (old p.queue) (distinct p.queue (holder_of c h p)))))
+rejected_clear t c h (p ∷ os) old notes new (mid, first, rest, dies, all, more) distinct o (inr i) =
     let step : Shrinks old mid = shrinks_on old (without_given c h old p) mid (shrinks_without (is_held_as (holder_of c h p)) old p.queue) (first_shrinks t c h p old first mid dies) in
-    rejected_clear t c h os mid rest new more (apart_on old mid step apart) o i
+    rejected_clear t c h os mid rest new more (apart_on old mid step distinct) o i
 
 -- ---- what is settled
 
@@ -378,8 +378,8 @@ settles_agree t how old new c h tag multiple wanted sends notes a p = agreed_wit
     shrinks Returns q = returned_shrinks c h p.gone old.queue new.queue q.1
 
     clear : (s : Settlement) → AreSettled t s c h p.gone old.queue notes new.queue → (o : Outstanding) → IsIn o p.gone → count_by (is_held_as (holder_of c h o)) (new.queue o.queue) ≡ zero
-    clear (Leaves cause) q o i = left_clear cause c h p.gone old.queue notes new.queue q a.apart o i
-    clear Rejects q o i = rejected_clear t c h p.gone old.queue notes new.queue q a.apart o i
+    clear (Leaves cause) q o i = left_clear cause c h p.gone old.queue notes new.queue q a.distinct o i
+    clear Rejects q o i = rejected_clear t c h p.gone old.queue notes new.queue q a.distinct o i
     clear Returns q o i = returned_clear c h p.gone old.queue new.queue q.1 o i
 
 -- ---- what is given out
@@ -504,7 +504,7 @@ delivery_agrees old new c h true queue by first found open_still a is = agreed_w
 delivery_agrees old new c h false queue by first found open_still a is = record {
   held = λ q e holder i mark. at_queue (λ (r : Text) (es : List Entry). new.queue r ≡ es → IsIn e es → IsOutstanding new r holder) old.queue queue _ (λ same j. here e holder j mark) (λ r other same j. old_one r holder (a.held r e holder j mark)) q (is.queues q) (subst (IsIn e) (is.queues q) i);
   given = λ d k ch o e i. let it = delivered_are_held old new c h false queue by first found a is d k ch o e i in record { entry = it.entry; there = it.there; mark = it.mark };
-  apart = λ q holder. subst (λ (es : List Entry). count_by (is_held_as holder) es ≤ 1) (sym (is.queues q)) (at_queue (λ (r : Text) (es : List Entry). count_by (is_held_as holder) es ≤ 1) old.queue queue _ (few holder (is_under holder (record { connection = c; channel = h; tag = (channel_or_new (old.channel c h)).next_tag; by = by })) refl) (λ r other. a.apart r holder) q);
+  distinct = λ q holder. subst (λ (es : List Entry). count_by (is_held_as holder) es ≤ 1) (sym (is.queues q)) (at_queue (λ (r : Text) (es : List Entry). count_by (is_held_as holder) es ≤ 1) old.queue queue _ (few holder (is_under holder (record { connection = c; channel = h; tag = (channel_or_new (old.channel c h)).next_tag; by = by })) refl) (λ r other. a.distinct r holder) q);
   rising = λ d k x e. (goods d k x e).0;
   before = λ d k x e. (goods d k x e).1;
   closed = λ d k x e. (goods d k x e).2;
@@ -549,7 +549,7 @@ delivery_agrees old new c h false queue by first found open_still a is = record 
     few holder false e =
         let le = count_change is_ready (record { connection = c; channel = h; tag = (channel_or_new (old.channel c h)).next_tag; by = by }) holder (old.queue queue) in
         let zero_of : number (is_under holder (record { connection = c; channel = h; tag = (channel_or_new (old.channel c h)).next_tag; by = by })) ≡ 0 = ap number e in
-        let was = a.apart queue holder in
+        let was = a.distinct queue holder in
         omega (arith, le, zero_of, was)
 
 -- ---- all cases
@@ -614,7 +614,7 @@ none_held : IsAgreed empty_broker
 none_held = record {
   held = λ q e holder i is. absurd i;
   given = λ c h ch o e i. absurd (false≢true (ap is_some e));
-  apart = λ q holder. omega arith;
+  distinct = λ q holder. omega arith;
   rising = λ c h ch e. absurd (false≢true (ap is_some e));
   before = λ c h ch e. absurd (false≢true (ap is_some e));
   closed = λ c h ch e. absurd (false≢true (ap is_some e));

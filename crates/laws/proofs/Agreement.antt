@@ -210,10 +210,10 @@ returned_shrinks c h (o ∷ os) old new (mid, is, more) =
     (returned_shrinks c h os mid new more)
 
 -- no two are held under one tag
-abbrev pub AreApart : (Text → List Entry) → Type 0
-AreApart queues = (q : Text) (holder : Holder) → count_by (is_held_as holder) (queues q) ≤ 1
+abbrev pub AreDistinct : (Text → List Entry) → Type 0
+AreDistinct queues = (q : Text) (holder : Holder) → count_by (is_held_as holder) (queues q) ≤ 1
 
-pub apart_on : (old new : Text → List Entry) → Shrinks old new → AreApart old → AreApart new
+pub apart_on : (old new : Text → List Entry) → Shrinks old new → AreDistinct old → AreDistinct new
 apart_on old new s a q holder = let x = s.fewer q holder in let y = a q holder in omega (arith, x, y)
 
 -- under the tag of a delivery nothing is held in its queue
@@ -229,14 +229,14 @@ here_eq q = (bytes_eq-Decides q q).1 refl
 pub at_own : (queues : Text → List Entry) (name : Text) (entries : List Entry) → with_queue queues name entries name ≡ entries
 at_own queues name entries = ap (λ (b : Bool). cond b entries (queues name)) (here_eq name)
 
-pub left_clear : (cause : Cause) (c h : ℕ) (os : List Outstanding) (old : Text → List Entry) (notes : List Note) (new : Text → List Entry) → AreLeft cause c h os old notes new → AreApart old → (o : Outstanding) → IsIn o os → IsClear c h new o
-left_clear cause c h [] old notes new a apart o i = absurd i
-left_clear cause c h (p ∷ os) old notes new (mid, rest, is, all, more) apart o (inl e) =
+pub left_clear : (cause : Cause) (c h : ℕ) (os : List Outstanding) (old : Text → List Entry) (notes : List Note) (new : Text → List Entry) → AreLeft cause c h os old notes new → AreDistinct old → (o : Outstanding) → IsIn o os → IsClear c h new o
+left_clear cause c h [] old notes new a distinct o i = absurd i
+left_clear cause c h (p ∷ os) old notes new (mid, rest, is, all, more) distinct o (inl e) =
     clear_on c h o mid new (left_shrinks cause c h os mid rest new more)
-    (subst (IsClear c h mid) (sym e) (ap (count_by (is_held_as (holder_of c h p))) (is p.queue ∙ at_own old p.queue _) ∙ count_own (is_held_as (holder_of c h p)) (old p.queue) (apart p.queue (holder_of c h p))))
-left_clear cause c h (p ∷ os) old notes new (mid, rest, is, all, more) apart o (inr i) =
+    (subst (IsClear c h mid) (sym e) (ap (count_by (is_held_as (holder_of c h p))) (is p.queue ∙ at_own old p.queue _) ∙ count_own (is_held_as (holder_of c h p)) (old p.queue) (distinct p.queue (holder_of c h p))))
+left_clear cause c h (p ∷ os) old notes new (mid, rest, is, all, more) distinct o (inr i) =
     let step : Shrinks old mid = shrinks_on old (without_given c h old p) mid (shrinks_without (is_held_as (holder_of c h p)) old p.queue) (shrinks_same (without_given c h old p) mid is) in
-    left_clear cause c h os mid rest new more (apart_on old mid step apart) o i
+    left_clear cause c h os mid rest new more (apart_on old mid step distinct) o i
 
 -- freeing all that is held under a tag leaves none under it
 freed_clear : (holder : Holder) (xs : List Entry) → count_by (is_held_as holder) (map (freed (is_under holder)) xs) ≡ zero

@@ -16,7 +16,7 @@ use Rattle.laws.proofs.Marking.{added_tells}
 
 -- two texts that differ
 differ : (a b : Text) → bytes_eq a b ≡ false → a ≡ b → ⊥
-differ a b apart e = false≢true (sym apart ∙ (bytes_eq-Decides a b).1 e)
+differ a b distinct e = false≢true (sym distinct ∙ (bytes_eq-Decides a b).1 e)
 
 -- ---- the edges of a topology without alternate exchanges
 

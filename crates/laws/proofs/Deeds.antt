@@ -320,7 +320,7 @@ module _ (t : Topology) (old new : Broker) (sends : List Send) (notes : List Not
   -- ---- connections that go and come
 
   others : (c : ℕ) (o : Option Connection) → IsAlone old c o new → (d : ℕ) → (d == c) ≡ false → new.connection d ≡ old.connection d
-  others c o is d apart = is d ∙ ap (λ (b : Bool). if b then o else old.connection d) apart
+  others c o is d distinct = is d ∙ ap (λ (b : Bool). if b then o else old.connection d) distinct
 
   goes : (e : Event) (c : ℕ) → Is (with_gone old c) new → Change t old new e c
   goes e c is = renews (λ k. None) is.queues (record { channels = is.channels; empty = λ k ch e. absurd (no_channel ch e); there = λ k ch e. absurd (no_channel ch e); others = others c None is.connections })

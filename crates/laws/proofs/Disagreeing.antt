@@ -68,7 +68,7 @@ both_agree : IsAgreed agreeing
 both_agree = record {
   held = outstanding_there;
   given = held_there;
-  apart = apart_there;
+  distinct = apart_there;
   rising = λ c h ch e. subst (λ (x : Channel). Rises tag_of x.outstanding) (the_one c h ch e).channel (λ i j x lt within. absurd (omega (arith, lt, within)));
   before = λ c h ch e. subst (λ (x : Channel). AllByRecursion (λ (o : Outstanding). o.tag < x.next_tag) x.outstanding) (the_one c h ch e).channel (omega arith, tt);
   closed = λ c h ch e closing. absurd (false≢true (ap (λ (x : Channel). x.is_closing) (the_one c h ch e).channel ∙ closing));
@@ -98,7 +98,7 @@ other_tag_held : IsAgreed (broker_of_taken (first_held (record { connection = 1;
 other_tag_held a = let e : ◌≡◌ {A = ℕ} 2 1 = ap (λ (g : Holder). g.tag) (same_holder _ own_holder (only_entry _ a)) in omega (arith, e)
 
 held_twice : IsAgreed (broker_of_taken (own_entry ∷ own_entry ∷ [])) → ⊥
-held_twice a = let le : 2 ≤ 1 = a.apart (codes "audit") own_holder in omega (arith, le)
+held_twice a = let le : 2 ≤ 1 = a.distinct (codes "audit") own_holder in omega (arith, le)
 
 pub agreement_refuses : AgreementRefuses
 agreement_refuses = record {

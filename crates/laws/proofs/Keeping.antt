@@ -1,5 +1,5 @@
 -- Each message stands in a queue of the topology in force, and no guarantee forbids it a queue to which it may come from there by deaths.
-use Rattle.laws.proofs.Names.{◌≡◌, ◌≤◌, List, [], ◌∷◌, Bool, true, false, length, refl, sym, ap, subst, ◌∙◌, ◌⊎◌, inl, inr, bytes_eq, bytes_eq-Decides, false≢true, Text, Topology, IsIn, IsWellFormed, queue_names, IsSaid, Broker, Routes, Dies, Later, key_after, routed, dead, Covers, IsSound, Message, NothingStands, by_entry, stood_now, Occurrence, Of_event, Of_reload, History, NoneDone, in_force_after, AreCounted, empty_state, Config, State, Step, by_publish, MayStand, AreKept, AreSafe, NoneStood, DeclaredQueue, Entry, Send, Event, Note, KeptAreSafe, MessagesStayKept, NoEventMarks, ReloadsKeep}
+use Rattle.laws.proofs.Names.{◌≡◌, ◌≤◌, List, [], ◌∷◌, Bool, true, false, length, refl, sym, ap, subst, ◌∙◌, ◌⊎◌, inl, inr, bytes_eq, bytes_eq-Decides, false≢true, Text, Topology, IsIn, IsWellFormed, queue_names, IsSaid, Broker, Routes, Dies, Later, key_after, routed, dead, Covers, IsSound, Message, HasNoObstacle, by_entry, survived_now, Occurrence, Of_event, Of_reload, History, NoneDone, in_force_after, AreCounted, empty_state, Config, State, Step, by_publish, MayBeIn, AreKept, AreSafe, NoneSurvived, DeclaredQueue, Entry, Send, Event, Note, KeptAreSafe, MessagesStayKept, NoEventMarks, ReloadsKeep}
 use Rattle.std.proofs.Common.{map}
 use Rattle.laws.proofs.Dying.{IsLetter}
 use Rattle.laws.proofs.Entering.{picked}
@@ -24,20 +24,20 @@ later_on t p exchange r key s last dies routes l = record {
 
 -- ---- each message
 
-kept_same : (f : Config) (q : Text) (m o : Message) → AreSame m o → MayStand f q o → MayStand f q m
+kept_same : (f : Config) (q : Text) (m o : Message) → AreSame m o → MayBeIn f q o → MayBeIn f q m
 kept_same f q m o s at = record {
   housed = at.housed;
   short = subst (λ (z : Text). length z ≤ 255) (sym s.first_key) at.short;
   safe = λ g i v covers.
       let was = at.safe g i v (subst (λ (z : Text). Covers g z o.first_key) s.first_exchange (subst (λ (z : Text). Covers g m.first_exchange z) s.first_key covers)) in
-      (λ l. was.0 (subst (λ (z : Text). Later f.topology q z g.queue) s.key l), λ n. was.1 (sym s.stood ∙ n));
+      (λ l. was.0 (subst (λ (z : Text). Later f.topology q z g.queue) s.key l), λ n. was.1 (sym s.survived ∙ n));
 }
 
 -- a dead letter may stand where it comes
-kept_letter : (f : Config) (old : Text → List Entry) (q : Text) (x : Entry) → IsWellFormed f.topology → (l : IsLetter f.topology old q x) → MayStand f l.from l.entry.message → MayStand f q x.message
+kept_letter : (f : Config) (old : Text → List Entry) (q : Text) (x : Entry) → IsWellFormed f.topology → (l : IsLetter f.topology old q x) → MayBeIn f l.from l.entry.message → MayBeIn f q x.message
 kept_letter f old q x wf l at =
     let key = l.entry.message.key in
-    subst (λ (z : Entry). MayStand f q z.message) (sym l.is) (record {
+    subst (λ (z : Entry). MayBeIn f q z.message) (sym l.is) (record {
       housed = routed_is_there f.topology l.exchange (key_after l.last.dead_letter_key key) q wf l.routes;
       short = at.short;
       safe = λ g i v covers.
@@ -48,13 +48,13 @@ kept_letter f old q x wf l at =
     })
 
 module _ (f : Config) (old new : Broker) (e : Event) (sends : List Send) (notes : List Note) where
-  each_kept : IsSound f → IsSaid e → AreKept f old → (q : Text) (x : Entry) → Came f.topology old new e sends notes q x → MayStand f q x.message
+  each_kept : IsSound f → IsSaid e → AreKept f old → (q : Text) (x : Entry) → Came f.topology old new e sends notes q x → MayBeIn f q x.message
   each_kept sound said kept q x (stood o) = kept_same f q x.message o.entry.message o.same (kept.each q o.entry o.there)
   each_kept sound said kept q x (by_letter l) = kept_letter f old.queue q x sound.wf l (kept.each l.from l.entry l.there)
   each_kept sound said kept q x (published p i is) =
       let routes = picked q p.is.routed i in
       let short = key_is_short p said in
-      subst (λ (z : Entry). MayStand f q z.message) (sym is) (record {
+      subst (λ (z : Entry). MayBeIn f q z.message) (sym is) (record {
         housed = routed_is_there f.topology p.publish.exchange p.publish.routing_key q sound.wf routes;
         short = short;
         safe = λ g j v covers. (
@@ -82,10 +82,10 @@ step_kept f old new e sends notes sound said counted kept s = kept_on f old.brok
 
 -- ---- no event marks a message
 
-unmarked : (t : Topology) (old new : Broker) (e : Event) (sends : List Send) (notes : List Note) (q : Text) (x : Entry) → NoneStood old → Came t old new e sends notes q x → x.message.stood ≡ false
-unmarked t old new e sends notes q x none (stood o) = o.same.stood ∙ none q o.entry o.there
-unmarked t old new e sends notes q x none (by_letter l) = ap (λ (z : Entry). z.message.stood) l.is
-unmarked t old new e sends notes q x none (published p i is) = ap (λ (z : Entry). z.message.stood) is
+unmarked : (t : Topology) (old new : Broker) (e : Event) (sends : List Send) (notes : List Note) (q : Text) (x : Entry) → NoneSurvived old → Came t old new e sends notes q x → x.message.survived ≡ false
+unmarked t old new e sends notes q x none (stood o) = o.same.survived ∙ none q o.entry o.there
+unmarked t old new e sends notes q x none (by_letter l) = ap (λ (z : Entry). z.message.survived) l.is
+unmarked t old new e sends notes q x none (published p i is) = ap (λ (z : Entry). z.message.survived) is
 
 pub no_event_marks : NoEventMarks
 no_event_marks = record {
@@ -94,22 +94,22 @@ no_event_marks = record {
 }
 
 -- so no step does
-step_unmarked : (f : Config) (old new : State) (e : Event) (sends : List Send) (notes : List Note) → NoneStood old.broker → Step f old e sends notes new → NoneStood new.broker
+step_unmarked : (f : Config) (old new : State) (e : Event) (sends : List Send) (notes : List Note) → NoneSurvived old.broker → Step f old e sends notes new → NoneSurvived new.broker
 step_unmarked f old new e sends notes none s q x i = unmarked f.topology old.broker new.broker e sends notes q x none (step_came f old new e sends notes s q x i)
 
 -- and nothing that happens while no reload is done, under what was in force at first
 record Unmarked (f last : Config) (new : State) : Type 0 where
-  none : NoneStood new.broker
+  none : NoneSurvived new.broker
   same : last ≡ f
 
-unmarked_over : (f last : Config) (os : List Occurrence) (old new : State) → NoneDone os → NoneStood old.broker → History f old os last new → Unmarked f last new
-unmarked_over f last [] old new without none (is, s) = record { none = subst (λ (z : State). NoneStood z.broker) (sym s) none; same = is }
+unmarked_over : (f last : Config) (os : List Occurrence) (old new : State) → NoneDone os → NoneSurvived old.broker → History f old os last new → Unmarked f last new
+unmarked_over f last [] old new without none (is, s) = record { none = subst (λ (z : State). NoneSurvived z.broker) (sym s) none; same = is }
 unmarked_over f last (Of_event h ∷ os) old new without none (is, s, step, rest) =
-    let before : NoneStood h.before.broker = subst (λ (z : State). NoneStood z.broker) (sym s) none in
+    let before : NoneSurvived h.before.broker = subst (λ (z : State). NoneSurvived z.broker) (sym s) none in
     let u = unmarked_over h.config last os h.after new without (step_unmarked h.config h.before h.after h.event h.sends h.notes before step) rest in
     record { none = u.none; same = u.same ∙ is }
 unmarked_over f last (Of_reload r ∷ os) old new (refused, without) none (is, s, decided, rest) =
-    let after : NoneStood r.after.broker = subst (λ (z : State). NoneStood z.broker) (sym (refused.after ∙ s)) none in
+    let after : NoneSurvived r.after.broker = subst (λ (z : State). NoneSurvived z.broker) (sym (refused.after ∙ s)) none in
     let u = unmarked_over r.in_force last os r.after new without after rest in
     record { none = u.none; same = u.same ∙ refused.in_force ∙ is }
 
@@ -141,7 +141,7 @@ in_or_not x (y ∷ ys) = go (bytes_eq x y) refl (in_or_not x ys)
     go false e (inr n) = inr (λ i. elim i [ inl s ↦ false≢true (sym e ∙ (bytes_eq-Decides x y).1 s) | inr j ↦ n j ])
 
 -- the queue of an entry is not gone
-still_housed : (f g : Config) (b : Broker) → NothingStands f.topology g b → (q : Text) (e : Entry) → IsIn e (b.queue q) → MayStand f q e.message → IsIn q (queue_names g.topology.queues)
+still_housed : (f g : Config) (b : Broker) → HasNoObstacle f.topology g b → (q : Text) (e : Entry) → IsIn e (b.queue q) → MayBeIn f q e.message → IsIn q (queue_names g.topology.queues)
 still_housed f g b nothing q e i at = elim (in_or_not q (queue_names g.topology.queues)) [
   | inl there ↦ there
   | inr gone ↦ absurd (nothing.none_stranded q (record { was = at.housed; gone = gone; in_use = by_entry e i }))
@@ -151,9 +151,9 @@ still_housed f g b nothing q e i at = elim (in_or_not q (queue_names g.topology.
 pub record Stood (es : List Entry) (x : Entry) : Type 0 where
   pub entry : Entry
   pub there : IsIn entry es
-  pub is : x ≡ stood_now entry
+  pub is : x ≡ survived_now entry
 
-pub all_stood : (es : List Entry) (x : Entry) → IsIn x (map stood_now es) → Stood es x
+pub all_stood : (es : List Entry) (x : Entry) → IsIn x (map survived_now es) → Stood es x
 all_stood [] x i = absurd i
 all_stood (e ∷ es) x (inl is) = record { entry = e; there = inl refl; is = is }
 all_stood (e ∷ es) x (inr i) = let r = all_stood es x i in record { entry = r.entry; there = inr r.there; is = r.is }
@@ -163,7 +163,7 @@ reload_kept f g b kept nothing = record {
   each = λ q x i.
       let s = all_stood (b.queue q) x i in
       let was = kept.each q s.entry s.there in
-      subst (λ (z : Entry). MayStand g q z.message) (sym s.is) (record {
+      subst (λ (z : Entry). MayBeIn g q z.message) (sym s.is) (record {
         housed = still_housed f g b nothing q s.entry s.there was;
         short = was.short;
         safe = λ u j never covers. (

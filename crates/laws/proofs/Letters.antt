@@ -1,5 +1,5 @@
 -- What becomes of each message that is rejected: it leaves, and its dead letter comes to each queue to which it goes on, once, or that queue is full.
-use Rattle.laws.proofs.Names.{◌≡◌, ℕ, ◌≤◌, List, [], ◌∷◌, ◌++◌, Bool, true, false, cond, eqb, length, refl, sym, ap, subst, ◌∙◌, arith, ◌⊎◌, None, inl, inr, count_by, find, is_some, ◌&&◌, bytes_eq, AllByRecursion, sum_by, and-false, false≢true, filter-append, length-filter, sum_by-append, sum_by-cons, same_Some, bytes_eq-Decides, Text, Topology, IsIn, AreApart, queue_names, Routes, Picks, pass, Dies, key_after, Message, Outstanding, is_ready, is_full, body_bytes, ready_bytes, refuses, queue_named, is_held_as, without_first, IsDeath, DiesBy, DiesIn, MayDie, dead_letter, with_headers, holder_of, given_in, without_given, ready_in, AreRejected, Said, with_size, with_sizes, is_said_into, bytes_into, is_full_after, note_at, DiesInto, Rejection, AreRejections, next, rejection_notes, IsOfNoRejection, is_dead_into, is_rejected, DeclaredQueue, Ready, Entry, Auto, Rejected, Purged, Note, Entered, Refused, Left, Way}
+use Rattle.laws.proofs.Names.{◌≡◌, ℕ, ◌≤◌, List, [], ◌∷◌, ◌++◌, Bool, true, false, cond, eqb, length, refl, sym, ap, subst, ◌∙◌, arith, ◌⊎◌, None, inl, inr, count_by, find, is_some, ◌&&◌, bytes_eq, AllByRecursion, sum_by, and-false, false≢true, filter-append, length-filter, sum_by-append, sum_by-cons, same_Some, bytes_eq-Decides, Text, Topology, IsIn, AreDistinct, queue_names, Routes, Picks, pass, Dies, key_after, Message, Outstanding, is_ready, is_full, body_bytes, ready_bytes, refuses, queue_named, is_held_as, without_first, IsDeath, DiesBy, DiesIn, MayDie, dead_letter, with_headers, holder_of, given_in, without_given, ready_in, AreRejected, Said, with_size, with_sizes, is_said_into, bytes_into, is_full_after, note_at, DiesInto, Rejection, AreRejections, next, rejection_notes, IsOfNoRejection, is_dead_into, is_rejected, DeclaredQueue, Ready, Entry, Auto, Rejected, Purged, Note, Entered, Refused, Left, Way}
 use Rattle.std.proofs.Common.{◌+◌, map, Option, Some}
 use Rattle.std.specs.Prelude.{filter, not, if◌then◌else◌}
 use Rattle.model.specs.Routing.{none, take}
@@ -43,20 +43,20 @@ named_in p [] i = i
 named_in p (q ∷ qs) (inl e) = inl (ap (λ (z : DeclaredQueue). z.name) e)
 named_in p (q ∷ qs) (inr i) = inr (named_in p qs i)
 
--- names are apart, and so it is the one that is found
-found_of : (p : DeclaredQueue) (name : Text) (qs : List DeclaredQueue) → AreApart (queue_names qs) → IsIn p qs → p.name ≡ name → queue_named qs name ≡ Some p
-found_of p name [] apart i named = absurd i
-found_of p name (q ∷ qs) apart i named = go (λ j. found_of p name qs apart.1 j named) (bytes_eq q.name name) refl i
+-- names are distinct, and so the one that is found is it
+found_of : (p : DeclaredQueue) (name : Text) (qs : List DeclaredQueue) → AreDistinct (queue_names qs) → IsIn p qs → p.name ≡ name → queue_named qs name ≡ Some p
+found_of p name [] distinct i named = absurd i
+found_of p name (q ∷ qs) distinct i named = go (λ j. found_of p name qs distinct.1 j named) (bytes_eq q.name name) refl i
   where
     go : (IsIn p qs → queue_named qs name ≡ Some p) → (same : Bool) → bytes_eq q.name name ≡ same → IsIn p (q ∷ qs) → cond same (Some q) (queue_named qs name) ≡ Some p
     go more true s (inl e) = ap Some (sym e)
-    go more true s (inr j) = absurd (apart.0 (subst (λ (z : Text). IsIn z (queue_names qs)) (named ∙ sym ((bytes_eq-Decides q.name name).0 s)) (named_in p qs j)))
+    go more true s (inr j) = absurd (distinct.0 (subst (λ (z : Text). IsIn z (queue_names qs)) (named ∙ sym ((bytes_eq-Decides q.name name).0 s)) (named_in p qs j)))
     go more false s (inl e) = absurd (false≢true (sym s ∙ (bytes_eq-Decides q.name name).1 (ap (λ (z : DeclaredQueue). z.name) (sym e) ∙ named)))
     go more false s (inr j) = more j
 
-module _ (t : Topology) (apart : AreApart (queue_names t.queues)) (name : Text) where
+module _ (t : Topology) (distinct : AreDistinct (queue_names t.queues)) (name : Text) where
   found_dies : (exchange : Text) (p : DeclaredQueue) → Dies t name exchange p → queue_named t.queues name ≡ Some p
-  found_dies exchange p d = found_of p name t.queues apart (in_from_contains t.queues p d.is_queue.0 d.is_queue.1 d.is_queue.2) d.is_named
+  found_dies exchange p d = found_of p name t.queues distinct (in_from_contains t.queues p d.is_queue.0 d.is_queue.1 d.is_queue.2) d.is_named
 
   -- a message that dies in a queue that is not there, or that dead-letters nowhere, goes on to none
   none_without_queue : (key : Text) → queue_named t.queues name ≡ None → Picks (DiesInto t name key) (queue_names t.queues) []
@@ -210,7 +210,7 @@ record IsRejection (t : Topology) (first : Text → List Entry) (said : List Sai
   noted_so : notes ≡ rejection_notes t first said of
   follows : Follows first (said ++ with_sizes (body_bytes of.entry) notes) new
 
-module _ (t : Topology) (apart : AreApart (queue_names t.queues)) (c h : ℕ) (first old : Text → List Entry) (said : List Said) (o : Outstanding) (e : Entry) (there : IsIn e (first o.queue)) (f : Follows first said (without_given c h old o)) where
+module _ (t : Topology) (distinct : AreDistinct (queue_names t.queues)) (c h : ℕ) (first old : Text → List Entry) (said : List Said) (o : Outstanding) (e : Entry) (there : IsIn e (first o.queue)) (f : Follows first said (without_given c h old o)) where
   abbrev gone : Text → List Entry
   gone = without_given c h old o
 
@@ -256,7 +256,7 @@ module _ (t : Topology) (apart : AreApart (queue_names t.queues)) (c h : ℕ) (f
   dies : (notes rest : List Note) (new : Text → List Entry) (p : DeclaredQueue) (exchange : Text) → notes ≡ Left e.message.number o.queue Rejected ∷ rest → queue_named t.queues o.queue ≡ Some p → p.dead_letter_exchange ≡ Some exchange
       → IsDeath t p exchange gone e.message rest new → IsRejection t first said notes new
   dies notes rest new p exchange is found dead d = record {
-    of = record { queue = o.queue; entry = e; stood = there; targets = d.targets; routed = picks_on t apart o.queue e.message.key p exchange d.targets found dead d.routed };
+    of = record { queue = o.queue; entry = e; stood = there; targets = d.targets; routed = picks_on t distinct o.queue e.message.key p exchange d.targets found dead d.routed };
     noted_so = is ∙ ap (λ (ns : List Note). Left e.message.number o.queue Rejected ∷ ns) (d.noted ∙ same_notes t first gone said (length e.message.content.body) e.message.number way.Dead f d.targets);
     follows = record {
       held = λ q x i idle. elim (in-append x (gone q) _ (subst (IsIn x) (d.left q) i)) [
@@ -284,19 +284,19 @@ module _ (t : Topology) (apart : AreApart (queue_names t.queues)) (c h : ℕ) (f
   one_rejection notes rest new is = by (queue_named t.queues o.queue) refl
     where
       through : (p : DeclaredQueue) (x : Option Text) → queue_named t.queues o.queue ≡ Some p → p.dead_letter_exchange ≡ x → DiesBy t p gone e.message rest new x → IsRejection t first said notes new
-      through p None found plain d = leaves notes rest new is d (none_without_exchange t apart o.queue e.message.key p found plain)
+      through p None found plain d = leaves notes rest new is d (none_without_exchange t distinct o.queue e.message.key p found plain)
       through p (Some exchange) found dead d = dies notes rest new p exchange is found dead d
 
       by : (q : Option DeclaredQueue) → queue_named t.queues o.queue ≡ q → DiesIn t gone e.message rest new q → IsRejection t first said notes new
-      by None found d = leaves notes rest new is d (none_without_queue t apart o.queue e.message.key found)
+      by None found d = leaves notes rest new is d (none_without_queue t distinct o.queue e.message.key found)
       by (Some p) found d = through p p.dead_letter_exchange found refl d
 
 -- ---- all of them
 
-rejections_from : (t : Topology) → AreApart (queue_names t.queues) → (c h : ℕ) (first : Text → List Entry) (os : List Outstanding) (old : Text → List Entry) (said : List Said) (notes : List Note) (new : Text → List Entry) → Follows first said old
+rejections_from : (t : Topology) → AreDistinct (queue_names t.queues) → (c h : ℕ) (first : Text → List Entry) (os : List Outstanding) (old : Text → List Entry) (said : List Said) (notes : List Note) (new : Text → List Entry) → Follows first said old
     → AreRejected t c h os old notes new → AreRejections t first said notes
-rejections_from t apart c h first [] old said notes new f (none_noted, same) = subst (AreRejections t first said) (sym none_noted) no_rejection
-rejections_from t apart c h first (o ∷ os) old said notes new f (mid, one, rest, may, all, more) = go (λ known g. rejections_from t apart c h first os mid known rest new g more) (given_in c h old o) refl may
+rejections_from t distinct c h first [] old said notes new f (none_noted, same) = subst (AreRejections t first said) (sym none_noted) no_rejection
+rejections_from t distinct c h first (o ∷ os) old said notes new f (mid, one, rest, may, all, more) = go (λ known g. rejections_from t distinct c h first os mid known rest new g more) (given_in c h old o) refl may
   where
     go : ((known : List Said) → Follows first known mid → AreRejections t first known rest) → (found : Option Entry) → given_in c h old o ≡ found → MayDie t o.queue (without_given c h old o) one mid found → AreRejections t first said notes
     go others None is (none_noted, same) =
@@ -305,14 +305,14 @@ rejections_from t apart c h first (o ∷ os) old said notes new f (mid, one, res
     go others (Some e) is (left, noted_left, dies_so) =
         let at = find_in (is_held_as (holder_of c h o)) e (old o.queue) is in
         let there : IsIn e (first o.queue) = f.held o.queue e at.0 (idle_if_held (holder_of c h o) e at.1) in
-        let r = one_rejection t apart c h first old said o e there (gone_follows c h first old said o f) one left mid noted_left dies_so in
+        let r = one_rejection t distinct c h first old said o e there (gone_follows c h first old said o f) one left mid noted_left dies_so in
         let after : AreRejections t first (said ++ with_sizes (body_bytes r.of.entry) (rejection_notes t first said r.of)) rest =
         subst (λ (ns : List Note). AreRejections t first (said ++ with_sizes (body_bytes r.of.entry) ns) rest) r.noted_so (others (said ++ with_sizes (body_bytes r.of.entry) one) r.follows) in
         subst (AreRejections t first said) (sym (all ∙ ap (λ (ns : List Note). ns ++ rest) r.noted_so)) (next r.of after)
 
 -- What is noted of messages that are rejected tells of each where its dead letter came.
-pub are_rejections : (t : Topology) → AreApart (queue_names t.queues) → (c h : ℕ) (os : List Outstanding) (old : Text → List Entry) (notes : List Note) (new : Text → List Entry) → AreRejected t c h os old notes new → AreRejections t old [] notes
-are_rejections t apart c h os old notes new a = rejections_from t apart c h old os old [] notes new (follows_itself old) a
+pub are_rejections : (t : Topology) → AreDistinct (queue_names t.queues) → (c h : ℕ) (os : List Outstanding) (old : Text → List Entry) (notes : List Note) (new : Text → List Entry) → AreRejected t c h os old notes new → AreRejections t old [] notes
+are_rejections t distinct c h os old notes new a = rejections_from t distinct c h old os old [] notes new (follows_itself old) a
 
 -- ---- none comes twice
 
@@ -361,9 +361,9 @@ others_none t first said size k n q (r ∷ rs) ne = go (is_full_after t first sa
     go false more = count-cons_no (is_dead_into n q) (Entered k r way.Dead) notes (ap (λ (b : Bool). b && bytes_eq r q) ne) ∙ more
 
 -- a rejection makes one letter at most for a queue
-rejection_once : (t : Topology) (first : Text → List Entry) (said : List Said) (r : Rejection t first) → AreApart (queue_names t.queues) → (n : ℕ) (q : Text)
+rejection_once : (t : Topology) (first : Text → List Entry) (said : List Said) (r : Rejection t first) → AreDistinct (queue_names t.queues) → (n : ℕ) (q : Text)
     → count_by (is_dead_into n q) (rejection_notes t first said r) ≤ count_by (is_rejected n) (rejection_notes t first said r)
-rejection_once t first said r apart n q = go (eqb r.entry.message.number n) refl
+rejection_once t first said r distinct n q = go (eqb r.entry.message.number n) refl
   where
     note : Note
     note = Left r.entry.message.number r.queue Rejected
@@ -377,24 +377,24 @@ rejection_once t first said r apart n q = go (eqb r.entry.message.number n) refl
     go : (own : Bool) → eqb r.entry.message.number n ≡ own → count_by (is_dead_into n q) (note ∷ rest) ≤ count_by (is_rejected n) (note ∷ rest)
     go true own =
         let most = letters_most t first said (body_bytes r.entry) r.entry.message.number n q r.targets in
-        let once = count_most q r.routed apart in
+        let once = count_most q r.routed distinct in
         let left = count-cons_yes (is_rejected n) note rest own in
         omega (arith, letters, most, once, left)
     go false own =
         let no = others_none t first said (body_bytes r.entry) r.entry.message.number n q r.targets own in
         omega (arith, letters, no)
 
-rejections_once : (t : Topology) (first : Text → List Entry) (said : List Said) (notes : List Note) → AreApart (queue_names t.queues) → AreRejections t first said notes → (n : ℕ) (q : Text) → count_by (is_dead_into n q) notes ≤ count_by (is_rejected n) notes
-rejections_once t first said notes apart no_rejection n q = omega arith
-rejections_once t first said notes apart (next {rest = rest} r more) n q =
-    let one = rejection_once t first said r apart n q in
-    let after = rejections_once t first _ rest apart more n q in
+rejections_once : (t : Topology) (first : Text → List Entry) (said : List Said) (notes : List Note) → AreDistinct (queue_names t.queues) → AreRejections t first said notes → (n : ℕ) (q : Text) → count_by (is_dead_into n q) notes ≤ count_by (is_rejected n) notes
+rejections_once t first said notes distinct no_rejection n q = omega arith
+rejections_once t first said notes distinct (next {rest = rest} r more) n q =
+    let one = rejection_once t first said r distinct n q in
+    let after = rejections_once t first _ rest distinct more n q in
     let letters = count-append (is_dead_into n q) (rejection_notes t first said r) rest in
     let left = count-append (is_rejected n) (rejection_notes t first said r) rest in
     omega (arith, one, after, letters, left)
 
 -- Where what is noted is of rejections alone, or of none, no rejection made two letters in one queue.
-pub letters_once : (t : Topology) (first : Text → List Entry) (notes : List Note) → AreApart (queue_names t.queues) → AreRejections t first [] notes ⊎ AllByRecursion IsOfNoRejection notes
+pub letters_once : (t : Topology) (first : Text → List Entry) (notes : List Note) → AreDistinct (queue_names t.queues) → AreRejections t first [] notes ⊎ AllByRecursion IsOfNoRejection notes
     → (n : ℕ) (q : Text) → count_by (is_dead_into n q) notes ≤ count_by (is_rejected n) notes
-letters_once t first notes apart (inl r) n q = rejections_once t first [] notes apart r n q
-letters_once t first notes apart (inr others) n q = let no = count_none (is_dead_into n q) notes (all_each _ _ (other_note n q) notes others) in omega (arith, no)
+letters_once t first notes distinct (inl r) n q = rejections_once t first [] notes distinct r n q
+letters_once t first notes distinct (inr others) n q = let no = count_none (is_dead_into n q) notes (all_each _ _ (other_note n q) notes others) in omega (arith, no)

@@ -96,7 +96,7 @@ named_new : (t : Topology) (ch : Channel) → ch.consumers ≡ [] → ch.outstan
 named_new t ch e none = record {
   queues = subst (λ (ks : List Consumer). AllByRecursion (λ (k : Consumer). is_some (queue_named t.queues k.queue) ≡ true) ks) (sym e) tt;
   spelled = subst (λ (ks : List Consumer). AllByRecursion (λ (k : Consumer). length k.tag < 256) ks) (sym e) tt;
-  apart = subst (λ (ks : List Consumer). AllPairs (λ (a b : Consumer). bytes_eq a.tag b.tag ≡ false) ks) (sym e) (λ i j x lt le. absurd (omega arith));
+  distinct = subst (λ (ks : List Consumer). AllPairs (λ (a b : Consumer). bytes_eq a.tag b.tag ≡ false) ks) (sym e) (λ i j x lt le. absurd (omega arith));
   rising = subst (λ (ks : List Consumer). AllPairs (λ (a b : Consumer). a.number < b.number) ks) (sym e) (λ i j x lt le. absurd (omega arith));
   before = subst (λ (ks : List Consumer). AllByRecursion (λ (k : Consumer). k.number < ch.next_number) ks) (sym e) tt;
   given = subst (λ (os : List Outstanding). AllByRecursion (λ (o : Outstanding). IsGivenBelow ch.next_number o.by) os) (sym none) tt;
@@ -108,7 +108,7 @@ named_as : (t : Topology) (ch other : Channel) → other.consumers ≡ ch.consum
 named_as t ch other e next given n = record {
   queues = subst (λ (ks : List Consumer). AllByRecursion (λ (k : Consumer). is_some (queue_named t.queues k.queue) ≡ true) ks) (sym e) n.queues;
   spelled = subst (λ (ks : List Consumer). AllByRecursion (λ (k : Consumer). length k.tag < 256) ks) (sym e) n.spelled;
-  apart = subst (λ (ks : List Consumer). AllPairs (λ (a b : Consumer). bytes_eq a.tag b.tag ≡ false) ks) (sym e) n.apart;
+  distinct = subst (λ (ks : List Consumer). AllPairs (λ (a b : Consumer). bytes_eq a.tag b.tag ≡ false) ks) (sym e) n.distinct;
   rising = subst (λ (ks : List Consumer). AllPairs (λ (a b : Consumer). a.number < b.number) ks) (sym e) n.rising;
   before = subst (λ (m : ℕ). AllByRecursion (λ (k : Consumer). k.number < m) other.consumers) (sym next) (subst (λ (ks : List Consumer). AllByRecursion (λ (k : Consumer). k.number < ch.next_number) ks) (sym e) n.before);
   given = subst (λ (m : ℕ). AllByRecursion (λ (o : Outstanding). IsGivenBelow m o.by) other.outstanding) (sym next) given;
@@ -134,7 +134,7 @@ named_more : (t : Topology) (ch : Channel) (m : Consume) → Accepted t ch m →
 named_more t ch m is short n = record {
   queues = all-append _ ch.consumers (k ∷ []) n.queues (is.queue, tt);
   spelled = all-append _ ch.consumers (k ∷ []) n.spelled (tag.short, tt);
-  apart = all_pairs_push (λ (a b : Consumer). bytes_eq a.tag b.tag ≡ false) ch.consumers k n.apart (λ i d lt. all_in (λ (a : Consumer). bytes_eq a.tag k.tag ≡ false) (get_or ch.consumers i d) ch.consumers (each_fails (is_tagged k.tag) ch.consumers tag.free) (in_at ch.consumers i d lt));
+  distinct = all_pairs_push (λ (a b : Consumer). bytes_eq a.tag b.tag ≡ false) ch.consumers k n.distinct (λ i d lt. all_in (λ (a : Consumer). bytes_eq a.tag k.tag ≡ false) (get_or ch.consumers i d) ch.consumers (each_fails (is_tagged k.tag) ch.consumers tag.free) (in_at ch.consumers i d lt));
   rising = all_pairs_push (λ (a b : Consumer). a.number < b.number) ch.consumers k n.rising (λ i d lt. all_in (λ (a : Consumer). a.number < ch.next_number) (get_or ch.consumers i d) ch.consumers n.before (in_at ch.consumers i d lt));
   before = all-append (λ (a : Consumer). a.number < ch.next_number + 1) ch.consumers (k ∷ []) (all_each _ _ (λ a lt. omega (arith, lt)) ch.consumers n.before) (omega arith, tt);
   given = all_each _ _ (λ o i. given_later ch.next_number o.by i) ch.outstanding n.given;
@@ -160,7 +160,7 @@ named_fewer : (t : Topology) (ch : Channel) (tag : Text) → AreNamedOn t ch →
 named_fewer t ch tag n = record {
   queues = filter_all _ (λ (k : Consumer). not (is_tagged tag k)) ch.consumers n.queues;
   spelled = filter_all _ (λ (k : Consumer). not (is_tagged tag k)) ch.consumers n.spelled;
-  apart = AllPairs-filter (λ (a b : Consumer). bytes_eq a.tag b.tag ≡ false) (λ (k : Consumer). not (is_tagged tag k)) ch.consumers n.apart;
+  distinct = AllPairs-filter (λ (a b : Consumer). bytes_eq a.tag b.tag ≡ false) (λ (k : Consumer). not (is_tagged tag k)) ch.consumers n.distinct;
   rising = AllPairs-filter (λ (a b : Consumer). a.number < b.number) (λ (k : Consumer). not (is_tagged tag k)) ch.consumers n.rising;
   before = filter_all _ (λ (k : Consumer). not (is_tagged tag k)) ch.consumers n.before;
   given = n.given;

@@ -40,7 +40,7 @@ pub use Rattle.model.specs.Noted.{IsConfirmedIf, IsConfirmedUnder, PublishesAreT
 pub use Rattle.model.specs.Opening.{IsAnswered, LogsIn, MovesInOpening, answers_with, at_open, at_start, at_tune, closes_with, first_move, is_taken, new_session, on_zero, open_ok, opening_move, or_closed, start, tune, tuned}
 pub use Rattle.model.specs.Order.{FirstGiven, Gives, GivesInOrder, GivesOut, IsHeldSince, IsNext, IsPart, before, by_it, empty, ended, entered, entered_by, given, is_fresh, passed, skips, to_consumer, to_get, waiting}
 pub use Rattle.model.specs.Phases.{Move, Session, after_method, after_sends, faulted, is_running, no_session, running_session, stays_in, to_phase, while_closing}
-pub use Rattle.model.specs.Reloading.{IsObstacle, NothingStands, by_consumer, by_entry, stood_now, with_all_stood}
+pub use Rattle.model.specs.Reloading.{IsObstacle, HasNoObstacle, by_consumer, by_entry, survived_now, with_all_survived}
 pub use Rattle.model.specs.Routed.{CountUp, EnterAsRouted, EntersAsRouted, Said, bytes_into, is_entry_into, is_full_after, is_said_into, note_at, number_in, with_size, with_sizes}
 pub use Rattle.model.specs.Routing.{Comes, Dies, Edge, Later, Leads, Picks, Reading, Routes, RoutesBy, alternate, bound, dead, default, fixed_after, here, key_after, of_key, on, pass, reading_after, routed}
 pub use Rattle.model.specs.Run.{AreCounted, Balances, Happening, Run, Stays, empty_broker, empty_state, has_number, is_entered, is_left, notes_of, put_out, sends_of}
@@ -51,8 +51,8 @@ pub use Rattle.model.specs.Spelling.{IsSpelled, body_frame, content_frames, eigh
 pub use Rattle.model.specs.State.{AnswersBy, Config, Moves, OfCommand, OfFault, OfFirst, OfLarge, State, Step}
 pub use Rattle.model.specs.Step.{Acts, Does, Gets, Ignored, Is, IsDelivery, IsPublish, Of_channel, Of_connection, OnConnection, OnLarge, Performs, Refusal, Refuses, Settles, answer_of, channel_or_new, channels_up_to, confirm_method, confirm_notes, confirm_sends, consume_sends, content_or_none, empty_publish, entry_note, greatest, is_awaiting, is_none, is_some_full, message, next_of, opened, or_else, paused, purge_sends, refusal, refusal_in, refusal_of_asking, refusal_of_consume, refusal_of_large, refusal_of_many, refusal_of_tag, reply, return_of, returned_notes, returned_sends, tag_of, with_channel, with_freed, with_gone}
 pub use Rattle.model.specs.Tables.{ArePairs, HavePairsSpelling, IsTable, Long_string, Pairs, content, letter, no_pairs, pair, pairs_bytes}
-pub use Rattle.model.specs.Topology.{AreApart, IsIn, IsThere, IsWellFormed, Topology, queue_names}
-pub use Rattle.model.specs.Tracing.{AreKept, AreSafe, AreSentAlike, AreTraced, HasCome, HasComeTo, MayStand, NoneStood, by_death, by_publish}
+pub use Rattle.model.specs.Topology.{AreDistinct, IsIn, IsThere, IsWellFormed, Topology, queue_names}
+pub use Rattle.model.specs.Tracing.{AreKept, AreSafe, AreSentAlike, AreTraced, HasCome, HasComeTo, MayBeIn, NoneSurvived, by_death, by_publish}
 pub use Rattle.model.specs.Unrefused.{GetsAreAnswered, GivesOrTells, IsUnrefused, PurgesLeaveNone}
 pub use Rattle.model.specs.Words.{Matches, Text, any_more, any_none, one, onto_first, pieces, word, words}
 pub use Rattle.model.specs.declared.contents.Content.{Content}

@@ -215,7 +215,7 @@ run_origins (h ∷ hs) old new (e, s, r) = (step_origins h (seen_at h s), run_or
 
 -- what a publish enters is no dead letter
 step_letters : (h : Happening) → IsSound h.config → Seen h.config.topology h.before.broker h.after.broker h.event h.sends h.notes → DieAsRouted h
-step_letters h sound (inl q) = q.rejections sound.wf.queues_apart
+step_letters h sound (inl q) = q.rejections sound.wf.queues_distinct
 step_letters h sound (inr p) = inr (subst (AllByRecursion IsOfNoRejection) (sym (noted p)) (tt, others_all p IsOfNoRejection (λ s. tt) (λ s i. tt) tt (λ a. tt)))
 
 -- In every run each message that was rejected came, as its dead letter, to each queue to which it goes on, or that was full.
@@ -226,7 +226,7 @@ run_letters (h ∷ hs) old new sound (e, s, r) = (step_letters h sound.0 (seen_a
 -- And so none came to a queue as two dead letters.
 pub letters_come_once : (hs : List Happening) → AreSound hs → AllByRecursion DieAsRouted hs → AllByRecursion DieOnce hs
 letters_come_once [] sound each = tt
-letters_come_once (h ∷ hs) sound each = (letters_once h.config.topology h.before.broker.queue h.notes sound.0.wf.queues_apart each.0, letters_come_once hs sound.1 each.1)
+letters_come_once (h ∷ hs) sound each = (letters_once h.config.topology h.before.broker.queue h.notes sound.0.wf.queues_distinct each.0, letters_come_once hs sound.1 each.1)
 
 pub run_letters_once : (hs : List Happening) (old new : State) → AreSound hs → Run old hs new → AllByRecursion DieOnce hs
 run_letters_once hs old new sound r = letters_come_once hs sound (run_letters hs old new sound r)

@@ -144,7 +144,7 @@ publish_once {t} {old} p q wf routes ack =
     let n = number p in
     let room : some_full p ≡ false = acked_not_full n (confirm p) (some_full p) (sym (acked_by_answer p) ∙ ack) in
     let there = routed_is_there t p.publish.exchange p.publish.routing_key q wf routes in
-    let entered = entered_as_targets t old.queue (length (content p).body) n q p.is.targets room ∙ count_target q p.is.routed wf.queues_apart there routes in
+    let entered = entered_as_targets t old.queue (length (content p).body) n q p.is.targets room ∙ count_target q p.is.routed wf.queues_distinct there routes in
     let answered = count_none (is_publish_into n q) (answer_part p) (answers_all p _ refl (λ a. refl)) in
     let split = count-append (is_publish_into n q) (entry_part p) (answer_part p) in
     ap (count_by (is_publish_into n q)) (noted p)

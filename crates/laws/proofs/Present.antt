@@ -16,7 +16,7 @@ served_after t old new sends notes c (one_channel h now channels connections the
   where
     go : At (Option Channel) old.channel c h now d k → is_some (old.connection d) ≡ true
     go (own f g is) = ap (λ (n : ℕ). is_some (old.connection n)) f ∙ there
-    go (other apart is) = served d k ch (sym is ∙ sym (channels d k) ∙ e)
+    go (other distinct is) = served d k ch (sym is ∙ sym (channels d k) ∙ e)
 served_after t old new sends notes c (all_channels row channels queues there others) served d k ch e = go (d == c) refl
   where
     go : (v : Bool) → (d == c) ≡ v → is_some (new.connection d) ≡ true

@@ -30,8 +30,8 @@ and_false false = refl
 pub under_another : (c h : ℕ) (p : Outstanding) (os : List Outstanding) → Rise (p ∷ os) → (o : Outstanding) → IsIn o os → is_under (holder_of c h p) (holder_of c h o) ≡ false
 under_another c h p os rise o i =
     let lt = first_below p os rise o i in
-    let apart : (o.tag == p.tag) ≡ false = ne_eqb o.tag p.tag (λ e. omega (arith, lt, e)) in
-    ap (λ (b : Bool). ((c == c) && (h == h)) && b) apart ∙ and_false ((c == c) && (h == h))
+    let distinct : (o.tag == p.tag) ≡ false = ne_eqb o.tag p.tag (λ e. omega (arith, lt, e)) in
+    ap (λ (b : Bool). ((c == c) && (h == h)) && b) distinct ∙ and_false ((c == c) && (h == h))
 
 -- ---- places
 

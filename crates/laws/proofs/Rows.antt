@@ -1,5 +1,5 @@
 -- The worked examples.
-use Rattle.laws.proofs.Names.{◌≡◌, ◌≤◌, ℕ, suc, ◌-◌, Bool, true, false, List, [], ◌∷◌, ◌++◌, refl, sym, ap, subst, ◌∙◌, arith, get_or, lit≤, inl, inr, length, None, codes, decimal, filter_map, bytes_eq, false≢true, decimal_digit, Text, word, AreKept, AreSafe, IsIn, Frame, frame_bytes, IsFrame, Begins, CoversKey, method_frame, spelling, consume_sends, content_or_none, return_of, returned_notes, Routes, Picks, default, here, routed, Later, Topology, is_in_use, server_tag, Consumer, Broker, Config, State, Stays, IsObstacle, by_entry, stood_now, Of_reload, IsDecided, IsRefused, StaysOver, acks_in, HasAcksOf, IsReading, EnteredOnce, ack_for, AreAllowed, HaveOrigins, DiesAt, EnterAsRouted, note_at, number_in, CountUp, DieOnce, HasSource, given_out, sent_back, HaveSources, Note, Entered, Left, Reloaded, ReloadRefused, Entry, Dead, Rejected, ConfirmSelectOk, BasicAck, first_published, first_sent, no_content, WordsOfKeys, FirstConsumer, RefusedConsumes, FullQueues, FirstInput, FirstOutput, BadEnd, TooLargeContent, HeadlineRefuses, select_ok, first_ack, multiple_ack, first_entry, with_entries, forbids, event_of_notes, one_event, reload_of_none, refused_reload, with_audit, under, audit_to_bin, bin, into_bin, reload_into_bin, somebody, vanishing, bad_end, wanted, first_acked, notes_without_entry, consumer_under, consuming_under}
+use Rattle.laws.proofs.Names.{◌≡◌, ◌≤◌, ℕ, suc, ◌-◌, Bool, true, false, List, [], ◌∷◌, ◌++◌, refl, sym, ap, subst, ◌∙◌, arith, get_or, lit≤, inl, inr, length, None, codes, decimal, filter_map, bytes_eq, false≢true, decimal_digit, Text, word, AreKept, AreSafe, IsIn, Frame, frame_bytes, IsFrame, Begins, CoversKey, method_frame, spelling, consume_sends, content_or_none, return_of, returned_notes, Routes, Picks, default, here, routed, Later, Topology, is_in_use, server_tag, Consumer, Broker, Config, State, Stays, IsObstacle, by_entry, survived_now, Of_reload, IsDecided, IsRefused, StaysOver, acks_in, HasAcksOf, IsReading, EnteredOnce, ack_for, AreAllowed, HaveOrigins, DiesAt, EnterAsRouted, note_at, number_in, CountUp, DieOnce, HasSource, given_out, sent_back, HaveSources, Note, Entered, Left, Reloaded, ReloadRefused, Entry, Dead, Rejected, ConfirmSelectOk, BasicAck, first_published, first_sent, no_content, WordsOfKeys, FirstConsumer, RefusedConsumes, FullQueues, FirstInput, FirstOutput, BadEnd, TooLargeContent, HeadlineRefuses, select_ok, first_ack, multiple_ack, first_entry, with_entries, forbids, event_of_notes, one_event, reload_of_none, refused_reload, with_audit, under, audit_to_bin, bin, into_bin, reload_into_bin, somebody, vanishing, bad_end, wanted, first_acked, notes_without_entry, consumer_under, consuming_under}
 use Rattle.std.proofs.Common.{◌+◌, drop, map}
 use Rattle.std.specs.Prelude.{if◌then◌else◌}
 use Rattle.model.specs.Words.{none}
@@ -163,7 +163,7 @@ lost_by_reload stays = elim stays.1 [
 ]
 
 -- the queue is in use, and gone
-stranded_by_reload : IsDecided (reload_of_none (with_entries (first_entry ∷ [])) (with_entries (stood_now first_entry ∷ []))) → ⊥
+stranded_by_reload : IsDecided (reload_of_none (with_entries (first_entry ∷ [])) (with_entries (survived_now first_entry ∷ []))) → ⊥
 stranded_by_reload (inl done) = done.nothing.none_stranded (codes "audit") (record { was = inl refl; gone = λ i. i; in_use = by_entry first_entry (inl refl) })
 stranded_by_reload (inr refused) = let other : Reloaded ∷ [] ≡ ReloadRefused refused.obstacle ∷ [] = refused.noted in cc
 
@@ -216,8 +216,8 @@ dies_forbidden : AreSafe into_bin.topology into_bin.guarantees (with_entries (fi
 dies_forbidden safe = (safe (codes "audit") first_entry (inl refl) forbids (0, lit≤ tt, refl) refl (refl, covers_first)).1 comes_to_bin
 
 -- also from where it stood at a reload
-dies_forbidden_later : AreKept into_bin (with_entries (stood_now first_entry ∷ [])).broker → ⊥
-dies_forbidden_later kept = ((kept.each (codes "audit") (stood_now first_entry) (inl refl)).safe forbids (0, lit≤ tt, refl) refl (refl, covers_first)).0 comes_to_bin
+dies_forbidden_later : AreKept into_bin (with_entries (survived_now first_entry ∷ [])).broker → ⊥
+dies_forbidden_later kept = ((kept.each (codes "audit") (survived_now first_entry) (inl refl)).safe forbids (0, lit≤ tt, refl) refl (refl, covers_first)).0 comes_to_bin
 
 done_beside_a_danger : IsDecided reload_into_bin → ⊥
 done_beside_a_danger (inl done) =

@@ -1,5 +1,5 @@
 -- Names that are picked: of names that are apart, each once.
-use Rattle.laws.proofs.Names.{◌≡◌, ◌≤◌, List, ◌∷◌, Bool, true, false, refl, sym, ap, subst, ◌∙◌, inl, inr, arith, count_by, bytes_eq, bytes_eq-Decides, Text, IsIn, AreApart, Picks, pass}
+use Rattle.laws.proofs.Names.{◌≡◌, ◌≤◌, List, ◌∷◌, Bool, true, false, refl, sym, ap, subst, ◌∙◌, inl, inr, arith, count_by, bytes_eq, bytes_eq-Decides, Text, IsIn, AreDistinct, Picks, pass}
 use Rattle.std.proofs.Common.{◌+◌}
 use Rattle.model.specs.Routing.{none, take}
 use Rattle.laws.proofs.Counts.{count-cons_no, count-cons_yes}
@@ -24,25 +24,25 @@ count_absent q (take {x = x} {ys = ys} p r) out = count-cons_no (same_as q) x ys
 count_absent q (pass np r) out = count_absent q r (λ i. out (inr i))
 
 -- names are apart, and so a picked one is picked once
-pub count_target : {P : Text → Type 0} {xs ys : List Text} (q : Text) → Picks P xs ys → AreApart xs → IsIn q xs → P q → count_by (same_as q) ys ≡ 1
-count_target q none apart i p = absurd i
-count_target q (take {x = x} {xs = xs} {ys = ys} px r) apart (inl e) p =
-    count-cons_yes (same_as q) x ys (same_yes q x e) ∙ ap (λ n. 1 + n) (count_absent q r (λ i. apart.0 (subst (λ (z : Text). IsIn z xs) e i)))
-count_target q (take {x = x} {xs = xs} {ys = ys} px r) apart (inr i) p =
-    count-cons_no (same_as q) x ys (same_no q x (λ e. apart.0 (subst (λ (z : Text). IsIn z xs) e i))) ∙ count_target q r apart.1 i p
-count_target {P} q (pass np r) apart (inl e) p = absurd (np (subst P e p))
-count_target q (pass np r) apart (inr i) p = count_target q r apart.1 i p
+pub count_target : {P : Text → Type 0} {xs ys : List Text} (q : Text) → Picks P xs ys → AreDistinct xs → IsIn q xs → P q → count_by (same_as q) ys ≡ 1
+count_target q none distinct i p = absurd i
+count_target q (take {x = x} {xs = xs} {ys = ys} px r) distinct (inl e) p =
+    count-cons_yes (same_as q) x ys (same_yes q x e) ∙ ap (λ n. 1 + n) (count_absent q r (λ i. distinct.0 (subst (λ (z : Text). IsIn z xs) e i)))
+count_target q (take {x = x} {xs = xs} {ys = ys} px r) distinct (inr i) p =
+    count-cons_no (same_as q) x ys (same_no q x (λ e. distinct.0 (subst (λ (z : Text). IsIn z xs) e i))) ∙ count_target q r distinct.1 i p
+count_target {P} q (pass np r) distinct (inl e) p = absurd (np (subst P e p))
+count_target q (pass np r) distinct (inr i) p = count_target q r distinct.1 i p
 
 -- and whatever is picked, no name is picked twice
-pub count_most : {P : Text → Type 0} {xs ys : List Text} (q : Text) → Picks P xs ys → AreApart xs → count_by (same_as q) ys ≤ 1
-count_most q none apart = omega arith
-count_most q (take {x = x} {xs = xs} {ys = ys} px r) apart = go (count_most q r apart.1) (same_as q x) refl
+pub count_most : {P : Text → Type 0} {xs ys : List Text} (q : Text) → Picks P xs ys → AreDistinct xs → count_by (same_as q) ys ≤ 1
+count_most q none distinct = omega arith
+count_most q (take {x = x} {xs = xs} {ys = ys} px r) distinct = go (count_most q r distinct.1) (same_as q x) refl
   where
     go : count_by (same_as q) ys ≤ 1 → (b : Bool) → same_as q x ≡ b → count_by (same_as q) (x ∷ ys) ≤ 1
     go more true e =
         let is : x ≡ q = (bytes_eq-Decides x q).0 e in
         let first = count-cons_yes (same_as q) x ys e in
-        let rest = count_absent q r (λ i. apart.0 (subst (λ (z : Text). IsIn z xs) (sym is) i)) in
+        let rest = count_absent q r (λ i. distinct.0 (subst (λ (z : Text). IsIn z xs) (sym is) i)) in
         omega (arith, first, rest)
     go more false e = let first = count-cons_no (same_as q) x ys e in omega (arith, first, more)
-count_most q (pass np r) apart = count_most q r apart.1
+count_most q (pass np r) distinct = count_most q r distinct.1

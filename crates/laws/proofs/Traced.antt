@@ -23,7 +23,7 @@ pub record AreSame (m o : Message) : Type 0 where
   pub exchange : m.exchange ≡ o.exchange
   pub key : m.key ≡ o.key
   pub content : m.content ≡ o.content
-  pub stood : m.stood ≡ o.stood
+  pub survived : m.survived ≡ o.survived
 
 -- the entry is one of these, but for its mark and whether it was redelivered, which it is only where that one was given out
 pub record IsOneOf (es : List Entry) (x : Entry) : Type 0 where
@@ -51,7 +51,7 @@ kept_is_one : (es : List Entry) (x : Entry) → IsKeptOf es x → IsOneOf es x
 kept_is_one es x k = record { entry = k.entry; there = k.there; same = k.same; marked = λ is. k.given (marked_given x is) }
 
 abbrev same_self : (m : Message) → AreSame m m
-same_self m = record { number = refl; first_exchange = refl; first_key = refl; exchange = refl; key = refl; content = refl; stood = refl }
+same_self m = record { number = refl; first_exchange = refl; first_key = refl; exchange = refl; key = refl; content = refl; survived = refl }
 
 itself_kept : (es : List Entry) (x : Entry) → IsIn x es → IsKeptOf es x
 itself_kept es x i = record { entry = x; there = i; same = same_self x.message; given = λ g. g }
@@ -70,7 +70,7 @@ freed_same mine e = go e.message e.mark
         made v = if v then record { message = record m { redelivered = true }; mark = Ready } else record { message = m; mark = Held g }
 
         by : (v : Bool) → AreSame (made v).message m
-        by true = record { number = refl; first_exchange = refl; first_key = refl; exchange = refl; key = refl; content = refl; stood = refl }
+        by true = record { number = refl; first_exchange = refl; first_key = refl; exchange = refl; key = refl; content = refl; survived = refl }
         by false = same_self m
 
 -- what is freed was held
@@ -116,7 +116,7 @@ kept_of_kept old mid x before r =
         exchange = r.same.exchange ∙ b.same.exchange;
         key = r.same.key ∙ b.same.key;
         content = r.same.content ∙ b.same.content;
-        stood = r.same.stood ∙ b.same.stood;
+        survived = r.same.survived ∙ b.same.survived;
       };
       given = λ g. b.given (r.given g);
     }
@@ -156,7 +156,7 @@ module _ (t : Topology) (old new : Broker) (sends : List Send) (notes : List Not
 
   -- one queue is another
   other : (e : Event) (name : Text) (entries : List Entry) → ((q : Text) → new.queue q ≡ with_queue old.queue name entries q) → ((x : Entry) → IsIn x entries → IsOneOf (old.queue name) x) → AllCame e
-  other e name entries is here q x i = stood (at_queue (λ (r : Text) (es : List Entry). IsIn x es → IsOneOf (old.queue r) x) old.queue name entries (here x) (λ r apart. itself_one (old.queue r) x) q (subst (IsIn x) (is q) i))
+  other e name entries is here q x i = stood (at_queue (λ (r : Text) (es : List Entry). IsIn x es → IsOneOf (old.queue r) x) old.queue name entries (here x) (λ r distinct. itself_one (old.queue r) x) q (subst (IsIn x) (is q) i))
 
   settled_came : (e : Event) (how : Settlement) (c h : ℕ) (os : List Outstanding) → AreSettled t how c h os old.queue notes new.queue → AllCame e
   settled_came e (Leaves cause) c h os s = stays e (left_stays cause c h os old.queue notes new.queue s)
@@ -231,15 +231,15 @@ module _ (t : Topology) (old new : Broker) (e : Event) (sends : List Send) (note
       now p (ap (λ (z : Entry). z.message.number) is) (ap (λ (z : Entry). z.message.first_exchange) is ∙ sym (ap exchange_of p.event)) (ap (λ (z : Entry). z.message.first_key) is ∙ sym (ap key_of p.event))
 
   -- no message has the number of a publish before it
-  apart : AreCounted old → (q : Text) (y : Entry) → IsIn y (old.queue q) → (n : ℕ) → n ≡ y.message.number → n ≡ old.published + 1 → ⊥
-  apart counted q y i n is one = let le = stands_counted old q y counted i in omega (arith, le, is, one)
+  distinct : AreCounted old → (q : Text) (y : Entry) → IsIn y (old.queue q) → (n : ℕ) → n ≡ y.message.number → n ≡ old.published + 1 → ⊥
+  distinct counted q y i n is one = let le = stands_counted old q y counted i in omega (arith, le, is, one)
 
   pub both_alike : AreCounted old → Alike old → (m o : Message) → m.number ≡ o.number → Rooted m → Rooted o → AreSentAlike m o
   both_alike counted alike m o e (before q y i n a) (before r z j k b) =
       let s = alike q r y z i j (sym n ∙ e ∙ k) in
       record { exchange = a.exchange ∙ s.exchange ∙ sym b.exchange; key = a.key ∙ s.key ∙ sym b.key }
-  both_alike counted alike m o e (before q y i n a) (now p one x k) = absurd (apart counted q y i m.number n (e ∙ one))
-  both_alike counted alike m o e (now p one x k) (before r z j n b) = absurd (apart counted r z j o.number n (sym e ∙ one))
+  both_alike counted alike m o e (before q y i n a) (now p one x k) = absurd (distinct counted q y i m.number n (e ∙ one))
+  both_alike counted alike m o e (now p one x k) (before r z j n b) = absurd (distinct counted r z j o.number n (sym e ∙ one))
   both_alike counted alike m o e (now p one x k) (now p' one' x' k') = record { exchange = x ∙ sym x'; key = k ∙ sym k' }
 
   pub traced_on : IsSaid e → AreCounted old → AreTraced t old → AllCame t old new sends notes e → AreTraced t new

@@ -1,5 +1,5 @@
 -- The ways in which a step can go, and the deed that it does. Here alone all cases of `Step` are walked over, and all answers of the phases.
-use Rattle.laws.proofs.Names.{◌≡◌, ℕ, append-nil, arith, ◌⊎◌, List, [], ◌∷◌, ◌++◌, Bool, true, false, refl, sym, ap, subst, ◌∙◌, None, inl, inr, codes, count_by, filter_map, ◌==◌, bytes_eq, AllByRecursion, false≢true, Text, Topology, IsIn, AreApart, queue_names, Outstanding, Channel, Broker, is_ready, with_one, tag_of, Acts, empty_publish, reply, returned_sends, confirm_sends, next_of, channel_or_new, freed, is_held_as, Session, Move, running_session, no_session, is_running, after_sends, stays_in, to_phase, while_closing, faulted, IsAnswered, MovesInOpening, new_session, first_move, start, opening_move, on_zero, or_closed, at_start, at_tune, at_open, answers_with, closes_with, is_taken, tuned, tune, open_ok, Config, State, Moves, OfFirst, OfCommand, OfLarge, OfFault, Step, User, Happening, Balances, has_number, is_entered, is_left, IsCauseAt, AreRejections, IsOfNoRejection, content_in, event_connection, Gives, Settlement, Leaves, Rejects, Returns, AreSettled, with_queue, after_giving, holder_of, delivery_notes, purge_notes, Holder, Entry, Content, Send, Phase, Event, Open, First, Running, Fault, Lose, Pause, Resume, Deliver, Method, ConnectionStartOk, ConnectionTuneOk, ConnectionOpen, ConnectionClose, ConnectionCloseOk, Cause, Auto, Rejected, Note, Entered, Refused, Left, Answer, eight_bytes, is_ended, is_header, is_first}
+use Rattle.laws.proofs.Names.{◌≡◌, ℕ, append-nil, arith, ◌⊎◌, List, [], ◌∷◌, ◌++◌, Bool, true, false, refl, sym, ap, subst, ◌∙◌, None, inl, inr, codes, count_by, filter_map, ◌==◌, bytes_eq, AllByRecursion, false≢true, Text, Topology, IsIn, AreDistinct, queue_names, Outstanding, Channel, Broker, is_ready, with_one, tag_of, Acts, empty_publish, reply, returned_sends, confirm_sends, next_of, channel_or_new, freed, is_held_as, Session, Move, running_session, no_session, is_running, after_sends, stays_in, to_phase, while_closing, faulted, IsAnswered, MovesInOpening, new_session, first_move, start, opening_move, on_zero, or_closed, at_start, at_tune, at_open, answers_with, closes_with, is_taken, tuned, tune, open_ok, Config, State, Moves, OfFirst, OfCommand, OfLarge, OfFault, Step, User, Happening, Balances, has_number, is_entered, is_left, IsCauseAt, AreRejections, IsOfNoRejection, content_in, event_connection, Gives, Settlement, Leaves, Rejects, Returns, AreSettled, with_queue, after_giving, holder_of, delivery_notes, purge_notes, Holder, Entry, Content, Send, Phase, Event, Open, First, Running, Fault, Lose, Pause, Resume, Deliver, Method, ConnectionStartOk, ConnectionTuneOk, ConnectionOpen, ConnectionClose, ConnectionCloseOk, Cause, Auto, Rejected, Note, Entered, Refused, Left, Answer, eight_bytes, is_ended, is_header, is_first}
 use Rattle.std.proofs.Common.{◌+◌, filter, map, Option, Some}
 use Rattle.std.specs.Prelude.{if◌then◌else◌}
 use Rattle.model.specs.declared.events.Send.TheVariants as send
@@ -36,7 +36,7 @@ pub record CountsNone (t : Topology) (old new : Broker) (e : Event) (sends : Lis
   pub noted : AllByRecursion (IsQuiet t old.queue notes) notes
   pub balances : Balances old notes new
   pub caused : AllByRecursion (OfLeft (IsCauseAt old e)) notes
-  pub rejections : AreApart (queue_names t.queues) → AreRejections t old.queue [] notes ⊎ AllByRecursion IsOfNoRejection notes
+  pub rejections : AreDistinct (queue_names t.queues) → AreRejections t old.queue [] notes ⊎ AllByRecursion IsOfNoRejection notes
   pub few : IsAnswerAtMost sends
   pub contents : AreGiven old e sends notes new sends
 
@@ -76,7 +76,7 @@ module _ (t : Topology) (old new : Broker) (e : Event) (c : ℕ) (sends : List S
     noted = all_each _ _ (leaving_quiet t old.queue notes) notes all_leaving;
     balances = leaving_balances old new notes all_leaving (λ n q. kept n q ∙ sym (ap (λ (ns : List Note). count_by (is_left n q) ns + count_by (has_number n) (new.queue q)) noted));
     caused = subst (AllByRecursion (OfLeft (IsCauseAt old e))) (sym noted) caused;
-    rejections = λ apart. inr (no_rejections notes all_leaving);
+    rejections = λ distinct. inr (no_rejections notes all_leaving);
     few = few;
     contents = contents;
   }
@@ -123,7 +123,7 @@ module _ (t : Topology) (old new : Broker) (e : Event) (c : ℕ) (sends : List S
     noted = quiet_ones s.how s.plain s.is.queues;
     balances = balances s.how s.plain s.is.queues;
     caused = caused s.how (λ why is. is) s.is.queues;
-    rejections = λ apart. rejections s.how s.plain apart s.is.queues;
+    rejections = λ distinct. rejections s.how s.plain distinct s.is.queues;
     few = few;
     contents = none_given s.bare;
   }
@@ -145,10 +145,10 @@ module _ (t : Topology) (old new : Broker) (e : Event) (c : ℕ) (sends : List S
           let same = returned_counts c s.h gone old.queue new.queue a.1 n q in
           omega (arith, left, entered, same)
 
-      rejections : (how : Settlement) → IsPlain how → AreApart (queue_names t.queues) → AreSettled t how c s.h gone old.queue notes new.queue → AreRejections t old.queue [] notes ⊎ AllByRecursion IsOfNoRejection notes
-      rejections (Leaves why) plain apart a = inr (no_rejections notes (are_leaving why plain c s.h gone old.queue notes new.queue a))
-      rejections Rejects plain apart a = inl (are_rejections t apart c s.h gone old.queue notes new.queue a)
-      rejections Returns plain apart a = inr (subst (AllByRecursion IsOfNoRejection) (sym a.0) tt)
+      rejections : (how : Settlement) → IsPlain how → AreDistinct (queue_names t.queues) → AreSettled t how c s.h gone old.queue notes new.queue → AreRejections t old.queue [] notes ⊎ AllByRecursion IsOfNoRejection notes
+      rejections (Leaves why) plain distinct a = inr (no_rejections notes (are_leaving why plain c s.h gone old.queue notes new.queue a))
+      rejections Rejects plain distinct a = inl (are_rejections t distinct c s.h gone old.queue notes new.queue a)
+      rejections Returns plain distinct a = inr (subst (AllByRecursion IsOfNoRejection) (sym a.0) tt)
 
       each : (why : Cause) → IsBy s.how why → (o : Outstanding) (entry : Entry) → IsIn o gone → IsIn entry (old.queue o.queue) → is_held_as (holder_of c s.h o) entry ≡ true → IsCauseAt old e entry.message.number o.queue why
       each why is o entry i stands held =

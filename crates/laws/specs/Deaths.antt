@@ -86,7 +86,7 @@ first_publish published exchange key headers =
       key = key;
       content = content_with headers;
       redelivered = false;
-      stood = false;
+      survived = false;
     }
 
 -- The delivery of a get from `queue`, on channel 1 of connection 1 under tag 1.

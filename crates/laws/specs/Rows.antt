@@ -28,7 +28,7 @@ use Rattle.model.specs.Step.{
 use Rattle.model.specs.Phases.{no_session}
 use Rattle.model.specs.State.{Config, State}
 use Rattle.model.specs.History.{Reload, Of_reload, IsDecided, StaysOver}
-use Rattle.model.specs.Reloading.{stood_now}
+use Rattle.model.specs.Reloading.{survived_now}
 use Rattle.model.specs.Run.{Happening, Stays, empty_broker}
 use Rattle.model.specs.Acks.{Acked as AckedPublish, HasAcksOf, EnteredOnce}
 use Rattle.model.specs.Allowed.{AreAllowed}
@@ -155,7 +155,7 @@ first_entry =
         key = codes "new";
         content = no_content;
         redelivered = false;
-        stood = false;
+        survived = false;
       };
       mark = Ready;
     }
@@ -249,7 +249,7 @@ reload_into_bin = record {
   offered = into_bin;
   before = with_entries (first_entry ∷ []);
   notes = Reloaded ∷ [];
-  after = with_entries (stood_now first_entry ∷ []);
+  after = with_entries (survived_now first_entry ∷ []);
   in_force = into_bin;
 }
 
@@ -302,7 +302,7 @@ pub record HeadlineRefuses : Type 0 where
   pub reload_loses_one : StaysOver (with_entries (first_entry ∷ [])).broker
       (Of_reload (reload_of_none (with_entries (first_entry ∷ [])) (with_entries [])) ∷ []) (with_entries []).broker → ⊥
   -- A reload that is done although the new topology lacks a queue in use.
-  pub reload_strands_one : IsDecided (reload_of_none (with_entries (first_entry ∷ [])) (with_entries (stood_now first_entry ∷ []))) → ⊥
+  pub reload_strands_one : IsDecided (reload_of_none (with_entries (first_entry ∷ [])) (with_entries (survived_now first_entry ∷ []))) → ⊥
   -- A reload that is refused although there is no obstacle.
   pub reload_refused_for_nothing : IsDecided (refused_reload with_audit (with_entries []) (InUse (codes "audit")) with_audit) → ⊥
   -- A reload that is refused for a message that could come where it is forbidden, although the missing queue in use is the earlier obstacle.
@@ -318,7 +318,7 @@ pub record HeadlineRefuses : Type 0 where
   -- A message that can reach, by dead-lettering, a queue that a guarantee forbids to it.
   pub forbidden_death : AreSafe into_bin.topology into_bin.guarantees (with_entries (first_entry ∷ [])).broker → ⊥
   -- A message that may come by its death to a queue forbidden it, though it was in a queue when the last reload was done.
-  pub forbidden_death_after_a_reload : AreKept into_bin (with_entries (stood_now first_entry ∷ [])).broker → ⊥
+  pub forbidden_death_after_a_reload : AreKept into_bin (with_entries (survived_now first_entry ∷ [])).broker → ⊥
   -- Two dead letters of one message, in one queue.
   pub two_letters_of_one : DieOnce (event_of_notes [] (with_entries (first_entry ∷ []))
       (Left 1 (codes "audit") Rejected ∷ Entered 1 (codes "bin") Dead ∷ Entered 1 (codes "bin") Dead ∷ []) (with_entries [])) → ⊥

@@ -7,8 +7,8 @@ use Rattle.model.specs.Step.{Acts}
 use Rattle.model.specs.State.{Config}
 use Rattle.model.specs.Run.{AreCounted, empty_broker}
 use Rattle.model.specs.Arrivals.{IsSaid}
-use Rattle.model.specs.Tracing.{AreTraced, AreSafe, AreKept, NoneStood}
-use Rattle.model.specs.Reloading.{NothingStands, with_all_stood}
+use Rattle.model.specs.Tracing.{AreTraced, AreSafe, AreKept, NoneSurvived}
+use Rattle.model.specs.Reloading.{HasNoObstacle, with_all_survived}
 use Rattle.model.specs.Headline.{IsSound}
 use Rattle.model.specs.declared.events.Send.{Send}
 use Rattle.model.specs.declared.events.Event.{Event}
@@ -32,14 +32,14 @@ pub record MessagesStayKept : Type 0 where
 
 -- After a reload without an obstacle, each message may be in its queue under the configuration that the reload put in force.
 abbrev pub ReloadsKeep : Type 0
-ReloadsKeep = (f g : Config) (b : Broker) → AreKept f b → NothingStands f.topology g b → AreKept g (with_all_stood b)
+ReloadsKeep = (f g : Config) (b : Broker) → AreKept f b → HasNoObstacle f.topology g b → AreKept g (with_all_survived b)
 
 -- No message of the empty broker is marked as one that was in a queue when a reload was done, and no event marks one.
 pub record NoEventMarks : Type 0 where
-  pub empty : NoneStood empty_broker
-  pub acts : (t : Topology) (old new : Broker) (e : Event) (sends : List Send) (notes : List Note) → NoneStood old → Acts t old e sends notes new
-      → NoneStood new
+  pub empty : NoneSurvived empty_broker
+  pub acts : (t : Topology) (old new : Broker) (e : Event) (sends : List Send) (notes : List Note) → NoneSurvived old → Acts t old e sends notes new
+      → NoneSurvived new
 
 -- If each message may be in its queue and none is marked, none is in a queue that a guarantee forbids it, nor can dead letters bring it to one.
 abbrev pub KeptAreSafe : Type 0
-KeptAreSafe = (f : Config) (b : Broker) → AreKept f b → NoneStood b → AreSafe f.topology f.guarantees b
+KeptAreSafe = (f : Config) (b : Broker) → AreKept f b → NoneSurvived b → AreSafe f.topology f.guarantees b

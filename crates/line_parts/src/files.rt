@@ -19,7 +19,7 @@ fn put_numbered(file: &mut LineAnswer, text: &str, number: u32) {
     }
 }
 
-/// Appends what `FROM TO TEXT` stands for.
+/// Appends the expansion of `FROM TO TEXT`.
 fn put_repeated(file: &mut LineAnswer, repeat: &str) {
     let (from, rest) = cut(file, repeat);
     let (to, text) = cut(file, rest);

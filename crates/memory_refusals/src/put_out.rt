@@ -7,12 +7,12 @@ use std::alloc::{AllocError, Global};
 #[derive(Drop)]
 pub struct Outputs {
     bytes: Vec<u8>,
-    connections: Vec<Standing>,
+    connections: Vec<OutputEnd>,
 }
 
 /// A connection: the end index of its bytes, and whether it is over.
 #[derive(Clone, Copy, Drop)]
-struct Standing {
+struct OutputEnd {
     end: usize,
     is_over: bool,
 }
@@ -33,7 +33,7 @@ impl Outputs {
         for before in 0..opened {
             let c = before.saturating_add(1);
             self.bytes.extend_from_slice(engine.output(c))?;
-            self.connections.push(Standing {
+            self.connections.push(OutputEnd {
                 end: self.bytes.len(),
                 is_over: engine.is_over(c),
             })?;
@@ -50,16 +50,16 @@ impl Outputs {
     }
 
     /// Returns whether the engine's outputs are still the same, byte for byte.
-    pub fn still_stand(&self, engine: &Engine) -> bool {
+    pub fn are_unchanged(&self, engine: &Engine) -> bool {
         let mut start = 0;
         let mut c = 0u64;
-        for standing in &self.connections {
+        for output_end in &self.connections {
             c = c.saturating_add(1);
-            let bytes = self.bytes.get(start..standing.end).unwrap_or(&[]);
-            if engine.output(c) != bytes || engine.is_over(c) != standing.is_over {
+            let bytes = self.bytes.get(start..output_end.end).unwrap_or(&[]);
+            if engine.output(c) != bytes || engine.is_over(c) != output_end.is_over {
                 return false;
             }
-            start = standing.end;
+            start = output_end.end;
         }
         true
     }

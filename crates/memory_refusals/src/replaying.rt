@@ -71,7 +71,7 @@ impl Replay {
 
     /// Counts if the outputs differ after a failed call.
     fn compare(&self, counts: &mut Counts) {
-        if !self.outputs.still_stand(&self.engine) {
+        if !self.outputs.are_unchanged(&self.engine) {
             count(&mut counts.differing);
         }
     }
@@ -173,16 +173,16 @@ impl Replay {
     ) -> io::Result<()> {
         self.look()?;
         let (checked, users) = set_up(alloc, setting, counts)?;
-        let told = match self.engine.reload(alloc, checked, users) {
+        let outcome = match self.engine.reload(alloc, checked, users) {
             Err(ReloadFault::Memory) => {
                 count(&mut counts.reloads);
                 self.compare(counts);
                 let (checked, users) = set_up(alloc, setting, counts)?;
                 self.engine.reload(alloc, checked, users)
             }
-            told => told,
+            outcome => outcome,
         };
-        let note = match told {
+        let note = match outcome {
             Ok(()) => Note::Reloaded,
             Err(fault) => match fault.obstacle() {
                 Some(obstacle) => Note::ReloadRefused(obstacle),

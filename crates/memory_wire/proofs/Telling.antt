@@ -1,5 +1,5 @@
 -- What is told by a log, call by call, and where it is whole.
-use Rattle.memory_wire.proofs.Names.{◌≡◌, ◌+◌, ◌≤◌, ◌<◌, ℕ, zero, suc, List, [], ◌∷◌, ◌++◌, map, drop, length, Option, Some, None, Bool, true, false, slice_get, sym, ap, append_assoc, append-nil, ◌∙◌, subst, inl, inr, arith, flat_map, count_by, if◌then◌else◌, Call, Accepted, Told, Tells, Follows, is_failed, accept_call, read_call, write_call, Served, calls, written_to, call_of, told_by, told_with, Log}
+use Rattle.memory_wire.proofs.Names.{◌≡◌, ◌+◌, ◌≤◌, ◌<◌, ℕ, zero, suc, List, [], ◌∷◌, ◌++◌, map, drop, length, Option, Some, None, Bool, true, false, slice_get, sym, ap, append_assoc, append-nil, ◌∙◌, subst, inl, inr, arith, flat_map, count_by, if◌then◌else◌, Call, Accepted, Traffic, AddsCalls, Follows, is_failed, accept_call, read_call, write_call, Served, calls, written_to, call_of, logged_calls, traffic_with, Log}
 use Rattle.std.specs.Prelude.{nat_lt}
 use Rattle.std.proofs.lemmas.Bool.{ltb-true, lt-ltb}
 use Rattle.std.proofs.lemmas.Option.{none-some}
@@ -13,7 +13,7 @@ use Rattle.serving.specs.declared.wire.Read.TheVariants as read
 use Rattle.serving.specs.declared.wire.Write.{Write}
 use Rattle.serving.specs.declared.wire.Write.TheVariants as write
 use Rattle.serving.specs.Whole.{IsServed}
-use Rattle.memory_wire.specs.Served.{TellsBytes}
+use Rattle.memory_wire.specs.Served.{LogsBytes}
 use Rattle.memory_wire.specs.declared.logs.Logged.{Logged}
 
 -- a call that didn't fail adds no failure
@@ -27,7 +27,7 @@ none_failed call e =
 given_is : (s come : ℕ) → s < come → nat_lt s come ≡ true
 given_is s come lt = lt-ltb s come lt
 
-pub tells_one : (old new : Option (List Call)) (come more : ℕ) (call : Call) → Follows old (call ∷ []) new → is_failed call ≡ false → come ≤ more → ((s : ℕ) → Accepted s ≡ call → s < more) → Tells (told_with old come) (call ∷ []) (told_with new more)
+pub tells_one : (old new : Option (List Call)) (come more : ℕ) (call : Call) → Follows old (call ∷ []) new → is_failed call ≡ false → come ≤ more → ((s : ℕ) → Accepted s ≡ call → s < more) → AddsCalls (traffic_with old come) (call ∷ []) (traffic_with new more)
 tells_one old new come more call follows fine le accepted = record {
   calls = follows;
   failures = none_failed call fine;
@@ -74,18 +74,18 @@ log_is old new more none f all e =
     let first : was.0 ≡ [] = cc (none, was.1) in
     e ∙ ap (λ (z : List Call). Some z) (was.2 ∙ ap (λ (z : List Call). z ++ more) first)
 
-whole_tells : (l : Log) → l.is_whole ≡ true → (all : List Call) × (told_by l ≡ Some all)
+whole_tells : (l : Log) → l.is_whole ≡ true → (all : List Call) × (logged_calls l ≡ Some all)
 whole_tells l e = (map call_of l.calls.items, ap (λ (b : Bool). if b then Some (map call_of l.calls.items) else None) e)
 
-pub tells_bytes : (L : Lacks) (f : Config) (old new : Told) (l : Log) (v : Served) → new.calls ≡ told_by l → old.calls ≡ Some [] → v.told ≡ new → l.is_whole ≡ true → IsServed L f old v → TellsBytes L f (told_by l) v.world
+pub tells_bytes : (L : Lacks) (f : Config) (old new : Traffic) (l : Log) (v : Served) → new.calls ≡ logged_calls l → old.calls ≡ Some [] → v.traffic ≡ new → l.is_whole ≡ true → IsServed L f old v → LogsBytes L f (logged_calls l) v.world
 tells_bytes L f old new l v is none last whole s =
     let tells = whole_tells l whole in
-    let at_end : v.told.calls ≡ told_by l = ap (λ (t : Told). t.calls) last ∙ is in
-    let all : v.told.calls ≡ Some tells.0 = at_end ∙ tells.1 in
+    let at_end : v.traffic.calls ≡ logged_calls l = ap (λ (t : Traffic). t.calls) last ∙ is in
+    let all : v.traffic.calls ≡ Some tells.0 = at_end ∙ tells.1 in
     record {
       deeds = s.deeds;
       occurrences = s.occurrences;
-      log = sym at_end ∙ log_is old.calls v.told.calls (flat_map calls s.deeds) none s.asked.calls tells.0 all;
+      log = sym at_end ∙ log_is old.calls v.traffic.calls (flat_map calls s.deeds) none s.asked.calls tells.0 all;
       arrives = s.arrives;
       promises = s.promises;
       joined = s.joined;

@@ -1,7 +1,7 @@
 -- The calls that a log has (own).
 use Rattle.std.specs.Prelude.{ℕ, List, nat_lt, map, take, Option, Some, None, if◌then◌else◌}
-use Rattle.serving.specs.Wire.{Call, Told, Accepted, Not_accepted, Accept_failed, Got, Nothing_got, Read_ended}
-use Rattle.serving.specs.Wire.{Read_failed, Took, Nothing_taken, Write_failed, Closed, Welcomed, Parted, Rested}
+use Rattle.serving.specs.Wire.{Call, Traffic, Accepted, Not_accepted, Accept_failed, Got, Nothing_got, Read_ended}
+use Rattle.serving.specs.Wire.{Read_failed, Took, Nothing_taken, Write_failed, Closed, Welcomed, Farewell, Rested}
 use Rattle.memory_wire.specs.declared.logs.Log.{Log}
 use Rattle.memory_wire.specs.declared.logs.Logged.{Logged}
 use Rattle.memory_wire.specs.declared.logs.Logged.TheVariants as logged
@@ -20,13 +20,13 @@ call_of (logged.NothingTaken s offered) = Nothing_taken s offered.items
 call_of (logged.WriteFailed s offered) = Write_failed s offered.items
 call_of (logged.Closed s) = Closed s
 call_of (logged.Welcomed s) = Welcomed s
-call_of (logged.Parted s) = Parted s
+call_of (logged.Farewell s) = Farewell s
 call_of logged.Rested = Rested
 
 -- what a wire knows that logged `calls` and has accepted `come` sockets, which are named by their indices
-abbrev pub told_with : Option (List Call) → ℕ → Told
-told_with calls come = record { calls = calls; failures = 0; is_given = λ s. nat_lt s come; totals = λ s. None }
+abbrev pub traffic_with : Option (List Call) → ℕ → Traffic
+traffic_with calls come = record { calls = calls; failures = 0; is_given = λ s. nat_lt s come; totals = λ s. None }
 
 -- all calls, in order; `None` if the log isn't whole
-abbrev pub told_by : Log → Option (List Call)
-told_by l = if l.is_whole then Some (map call_of l.calls.items) else None
+abbrev pub logged_calls : Log → Option (List Call)
+logged_calls l = if l.is_whole then Some (map call_of l.calls.items) else None

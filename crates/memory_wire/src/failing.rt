@@ -6,7 +6,7 @@ use serving::{Accept, Read, Wire, Write};
 
 /// The calls of a wire that can fail.
 #[derive(Clone, Copy, PartialEq, Eq, Drop)]
-pub enum Asked {
+pub enum FailingCall {
     Accept,
     Read,
     Write,
@@ -16,16 +16,16 @@ pub enum Asked {
 #[derive(Drop)]
 pub struct Failing<W: Wire> {
     pub wire: W,
-    asked: Asked,
+    call: FailingCall,
     left: u64,
     has_failed: bool,
     /// The socket whose read or write has failed.
-    victim: Option<u64>,
+    failed_socket: Option<u64>,
 }
 
 impl<W: Wire> Failing<W> {
-    /// Makes a wire over `wire` of which the `count`th call of kind `asked` fails, and no other; none fails if `count` is 0.
-    pub fn new(wire: W, asked: Asked, count: u64) -> Failing<W>
+    /// Makes a wire over `wire` of which the `count`th call of kind `call` fails, and no other; none fails if `count` is 0.
+    pub fn new(wire: W, call: FailingCall, count: u64) -> Failing<W>
     where
         W: Drop,
         ensures wire { result.wire ≡ wire }
@@ -33,10 +33,10 @@ impl<W: Wire> Failing<W> {
     {
         Failing {
             wire,
-            asked,
+            call,
             left: count,
             has_failed: false,
-            victim: None,
+            failed_socket: None,
         }
     }
 
@@ -48,20 +48,20 @@ impl<W: Wire> Failing<W> {
     }
 
     /// Returns the socket whose read or write has failed, or `None` if no such call has failed.
-    pub fn victim(&self) -> Option<u64>
-        ensures { result ≡ self.now.victim }
+    pub fn failed_socket(&self) -> Option<u64>
+        ensures { result ≡ self.now.failed_socket }
     {
-        self.victim
+        self.failed_socket
     }
 
-    /// Counts a call of kind `asked`, and returns whether it is the one that fails.
-    fn is_due(&mut self, asked: Asked, socket: Option<u64>) -> bool
+    /// Counts a call of kind `call`, and returns whether it is the one that fails.
+    fn is_due(&mut self, call: FailingCall, socket: Option<u64>) -> bool
         ensures wire { self.new.wire ≡ self.old.wire }
         ensures due { result ≡ true → self.old.has_failed ≡ false }
         ensures now { result ≡ true → self.new.has_failed ≡ true }
         ensures not { result ≡ false → self.new.has_failed ≡ self.old.has_failed }
     {
-        if self.has_failed || self.left == 0 || asked != self.asked {
+        if self.has_failed || self.left == 0 || call != self.call {
             return false;
         }
         self.left -= 1;
@@ -69,32 +69,32 @@ impl<W: Wire> Failing<W> {
             return false;
         }
         self.has_failed = true;
-        self.victim = socket;
+        self.failed_socket = socket;
         true
     }
 }
 
 impl<W: Wire> Wire for Failing<W> {
-    ghost use Rattle.memory_wire.specs.Passed.{told_failing};
+    ghost use Rattle.memory_wire.specs.Passed.{traffic_failing};
 
-    ghost told = { λ f. told_failing (W.told f.wire) f.has_failed };
+    ghost past = { λ f. traffic_failing (W.past f.wire) f.has_failed };
 
     fn accept(&mut self) -> Accept {
-        if self.is_due(Asked::Accept, None) {
+        if self.is_due(FailingCall::Accept, None) {
             return Accept::Failed;
         }
         self.wire.accept()
     }
 
     fn read(&mut self, socket: u64, buffer: &mut [u8]) -> Read {
-        if self.is_due(Asked::Read, Some(socket)) {
+        if self.is_due(FailingCall::Read, Some(socket)) {
             return Read::Failed;
         }
         self.wire.read(socket, buffer)
     }
 
     fn write(&mut self, socket: u64, bytes: &[u8]) -> Write {
-        if self.is_due(Asked::Write, Some(socket)) {
+        if self.is_due(FailingCall::Write, Some(socket)) {
             return Write::Failed;
         }
         self.wire.write(socket, bytes)

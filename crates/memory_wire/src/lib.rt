@@ -7,6 +7,6 @@ mod logs;
 mod wires;
 
 pub use clients::Client;
-pub use failing::{Asked, Failing};
+pub use failing::{Failing, FailingCall};
 pub use logs::{Log, Logged};
 pub use wires::{MemoryWire, serve_in_memory};

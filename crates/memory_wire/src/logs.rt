@@ -5,7 +5,7 @@ ghost use Rattle.serving.specs.Answered.{accept_call, read_call, write_call};
 ghost use Rattle.serving.specs.Wire.{Call, Follows};
 ghost use Rattle.serving.specs.Joined.{written_to};
 ghost use Rattle.serving.specs.declared.wire.Read.TheVariants as read;
-ghost use Rattle.memory_wire.specs.Logs.{call_of, told_by};
+ghost use Rattle.memory_wire.specs.Logs.{call_of, logged_calls};
 
 use serving::{Accept, Read, Write};
 use std::alloc::{AllocError, Global};
@@ -27,7 +27,7 @@ pub enum Logged {
     WriteFailed(u64, Vec<u8>),
     Closed(u64),
     Welcomed(u64),
-    Parted(u64),
+    Farewell(u64),
     Rested,
 }
 
@@ -104,7 +104,7 @@ fn add_taken(bytes: &mut Vec<u8>, call: &Logged, socket: u64) -> Result<(), Allo
 impl Log {
     /// Makes an empty log. Never allocates.
     pub fn new(alloc: Global) -> Log
-        ensures { told_by result ≡ Some [] }
+        ensures { logged_calls result ≡ Some [] }
     {
         Log {
             calls: Vec::new(alloc),
@@ -114,7 +114,7 @@ impl Log {
 
     /// Appends a call. If an allocation fails the log is no longer whole.
     pub(crate) fn add(&mut self, call: Result<Logged, AllocError>)
-        ensures { (made : Call) → IfOk call (λ l. call_of l ≡ made) → Follows (told_by self.old) (made ∷ []) (told_by self.new) }
+        ensures { (made : Call) → IfOk call (λ l. call_of l ≡ made) → Follows (logged_calls self.old) (made ∷ []) (logged_calls self.new) }
     {
         match call {
             Ok(call) => {

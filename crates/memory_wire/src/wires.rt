@@ -9,8 +9,8 @@ ghost use Rattle.serving.specs.declared.wire.Write.TheVariants as write;
 ghost use Rattle.model.specs.Arrivals.{new_world};
 ghost use Rattle.model.specs.State.{Config};
 ghost use Rattle.serving.specs.Story.{served};
-ghost use Rattle.memory_wire.specs.Logs.{told_by};
-ghost use Rattle.memory_wire.specs.Served.{TellsBytes};
+ghost use Rattle.memory_wire.specs.Logs.{logged_calls};
+ghost use Rattle.memory_wire.specs.Served.{LogsBytes};
 
 use crate::clients::Client;
 use crate::logs::{Log, Logged, logged_accept, logged_read, logged_write};
@@ -30,7 +30,7 @@ pub struct MemoryWire {
 impl MemoryWire {
     /// Makes a wire with `clients`, none of which has connected yet, and an empty log.
     pub fn new(alloc: Global, clients: Vec<Client>) -> MemoryWire
-        ensures { told_by result.log ≡ Some [] }
+        ensures { logged_calls result.log ≡ Some [] }
     {
         MemoryWire {
             alloc,
@@ -86,9 +86,9 @@ impl MemoryWire {
 }
 
 impl Wire for MemoryWire {
-    ghost use Rattle.memory_wire.specs.Logs.{told_by, told_with};
+    ghost use Rattle.memory_wire.specs.Logs.{logged_calls, traffic_with};
 
-    ghost told = { λ w. told_with (told_by w.log) w.come };
+    ghost past = { λ w. traffic_with (logged_calls w.log) w.come };
 
     fn accept(&mut self) -> Accept {
         let answer = self.next();
@@ -120,7 +120,7 @@ impl Wire for MemoryWire {
     }
 
     fn farewell(&mut self, socket: u64) {
-        self.log.add(Ok(Logged::Parted(socket)));
+        self.log.add(Ok(Logged::Farewell(socket)));
     }
 
     fn rest(&mut self) {
@@ -138,10 +138,10 @@ pub fn serve_in_memory<M: Machine>(
     wire: &mut MemoryWire,
     turns: u64,
 ) -> bool
-    ensures whole { result ≡ is_some (told_by wire.new.log) }
-    ensures tells { (f : Config) → M.world server.old.machine ≡ new_world f → server.old.peers ≡ []
-        → told_by wire.old.log ≡ Some [] → result ≡ true
-        → TellsBytes M.lacks f (told_by wire.new.log) (M.world server.new.machine) }
+    ensures whole { result ≡ is_some (logged_calls wire.new.log) }
+    ensures logs { (f : Config) → M.world server.old.machine ≡ new_world f → server.old.peers ≡ []
+        → logged_calls wire.old.log ≡ Some [] → result ≡ true
+        → LogsBytes M.lacks f (logged_calls wire.new.log) (M.world server.new.machine) }
 {
     ghost_new_is_served(server, wire);
     serve(alloc, server, wire, turns);

@@ -2,4 +2,3 @@ pub mod Names
 pub mod Rebuilt
 pub mod Whole
 pub mod Rows
-pub mod Taken

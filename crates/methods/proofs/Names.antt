@@ -1,6 +1,6 @@
 -- The names that several files of these proofs use.
 pub use Rattle.field_table.specs.Arguments.{arguments_at, kind_of}
-pub use Rattle.methods.specs.Pieces.{AreOf, first_kind, given, kinds_in, onto_arguments, others_of, piece_seen}
+pub use Rattle.methods.specs.Pieces.{given, onto_arguments, piece_seen}
 pub use Rattle.methods.specs.declared.pieces.Pieces.{Pieces}
 pub use Rattle.model.specs.Grammar.{Argument, Bits, Field_table, Ids, IsArgument, IsMethod, Long, Long_long, Long_text, Octet, SaysMethod, Short, Short_text, Spells, any_rest, argument, arguments, bad_arguments, class_at, exact, ids, ids_of, is_known, is_left_out, is_unread, left_out, method_at, method_bytes, said, too_short, unknown}
 pub use Rattle.model.specs.declared.methods.Method.{Method}

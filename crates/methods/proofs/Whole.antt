@@ -9,7 +9,7 @@ use Rattle.field_table.proofs.Exactly.{IsBytes, IsBytes-drop, IsKind, arguments_
 use Rattle.methods.specs.declared.refusals.BadMethod.{BadMethod}
 use Rattle.methods.specs.declared.refusals.BadMethod.TheVariants.{FrameError, SyntaxError, CommandInvalid, NotImplemented, Memory}
 use Rattle.methods.specs.Kinds.{close_kinds, declare_exchange_kinds, tag_kinds, connection_kinds, channel_kinds, exchange_kinds, queue_class_kinds, basic_kinds, confirm_kinds, kinds_of}
-use Rattle.methods.specs.Reading.{MethodIsRefused, TellsMethod, IsMethodOr, BeginsMethod, IsRead, FailsToRead, ReadsArguments}
+use Rattle.methods.specs.Reading.{MethodIsRefused, ReturnsMethod, IsMethodOr, BeginsMethod, IsRead, FailsToRead, ReadsArguments}
 use Rattle.methods.proofs.Rebuilt.{same_method}
 
 -- ---- the table
@@ -187,7 +187,7 @@ said_read payload rest c m x true u are starts reads =
     let ends : method_bytes x ≡ head = ap (λ (z : List Argument). to_be_bytes w16 (ids_of x).class ++ to_be_bytes w16 (ids_of x).method ++ flat_map argument z) none ∙ append-nil head in
     said {m = x} fits (any_rest rest mine (its_front payload rest c m x starts reads.ids_are ∙ ap (λ (z : List ℕ). z ++ rest) (sym ends)))
 
-pub tells : (payload rest : List ℕ) (c m : ℕ) (r : Result Method BadMethod) → IsBytes payload → BeginsMethod payload c m rest → ReadsArguments c m rest r → TellsMethod payload r
+pub tells : (payload rest : List ℕ) (c m : ℕ) (r : Result Method BadMethod) → IsBytes payload → BeginsMethod payload c m rest → ReadsArguments c m rest r → ReturnsMethod payload r
 tells payload rest c m (Err e) are starts reads = refuses payload rest c m e starts reads
 tells payload rest c m (Ok x) are starts reads = said_read payload rest c m x (is_unread c m) refl are starts reads
 

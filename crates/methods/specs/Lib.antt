@@ -3,5 +3,5 @@ pub mod Reading
 pub mod Writing
 pub mod Laws
 pub mod Pieces
-pub mod Taking
 pub mod Putting
+pub mod Splitting

@@ -3,7 +3,7 @@ use Rattle.std.specs.Prelude.{◌≡◌, ◌≤◌, ℕ, List, ◌++◌, length,
 use Rattle.std.specs.Int.{w16, to_be_bytes}
 use Rattle.std.specs.List.{AllByRecursion}
 use Rattle.model.specs.Tables.{IsTable}
-use Rattle.model.specs.Grammar.{Argument, Field_table, ids, ids_of, arguments, class_at, method_at, is_known, is_left_out, is_unread, SaysMethod}
+use Rattle.model.specs.Grammar.{Argument, ids, ids_of, arguments, class_at, method_at, is_known, is_left_out, is_unread, SaysMethod}
 use Rattle.model.specs.declared.methods.Method.{Method}
 use Rattle.field_table.specs.Arguments.{IsArgumentWhole, arguments_at}
 use Rattle.methods.specs.declared.refusals.BadMethod.{BadMethod}
@@ -21,9 +21,9 @@ MethodIsRefused payload NotImplemented = SaysMethod payload (Err 540)
 MethodIsRefused payload Memory = ⊤
 
 -- the result is correct for this payload
-abbrev pub TellsMethod : List ℕ → Result Method BadMethod → Type 0
-TellsMethod payload (Ok m) = SaysMethod payload (Ok m)
-TellsMethod payload (Err e) = MethodIsRefused payload e
+abbrev pub ReturnsMethod : List ℕ → Result Method BadMethod → Type 0
+ReturnsMethod payload (Ok m) = SaysMethod payload (Ok m)
+ReturnsMethod payload (Err e) = MethodIsRefused payload e
 
 -- the result is the method `m`, or an allocation failed
 abbrev pub IsMethodOr : Method → Result Method BadMethod → Type 0
@@ -71,11 +71,6 @@ NoTable pairs Memory = ⊤
 abbrev pub MakesTable : List ℕ → Result (List ℕ) BadMethod → Type 0
 MakesTable pairs (Ok t) = (t ≡ pairs) × IsTable pairs
 MakesTable pairs (Err e) = NoTable pairs e
-
--- the result is the table of this argument, or a correct error
-abbrev pub IsTableOr : Option Argument → Result (List ℕ) BadMethod → Type 0
-IsTableOr argument (Ok t) = (argument ≡ Some (Field_table t)) × IsTable t
-IsTableOr argument (Err e) = (pairs : List ℕ) × (argument ≡ Some (Field_table pairs)) × NoTable pairs e
 
 -- the result has exactly the arguments that were read, and each table among them is well-formed, or the error is correct
 abbrev pub GivesArguments : {X : Type 0} → (X → List Argument) → Result X BadMethod → Option (List Argument) → Type 0

@@ -4,25 +4,25 @@ ghost use Rattle.std.specs.Prelude.{◌≡◌, ◌<◌, ◌≤◌, false};
 ghost use Rattle.model.specs.Grammar.{is_left_out};
 ghost use Rattle.methods.specs.Reading.{ReadsArguments};
 
+use crate::cursor::Cursor;
 use crate::fields::*;
 use crate::refusals::BadMethod;
 use model::Method;
-use std::alloc::Global;
 
-pub(crate) fn connection(alloc: Global, method: u16, arguments: &[u8]) -> Result<Method, BadMethod>
-    ensures { ReadsArguments 10 method arguments.now result }
+pub(crate) fn connection(method: u16, arguments: Cursor<'_>) -> Result<Method, BadMethod>
+    ensures { ReadsArguments 10 method arguments.entry.rest.now result }
 {
     match method {
-        10 => Ok(Method::ConnectionStart(start_in(alloc, arguments)?)),
-        11 => Ok(Method::ConnectionStartOk(start_ok_in(alloc, arguments)?)),
+        10 => Ok(Method::ConnectionStart(start_in(arguments)?)),
+        11 => Ok(Method::ConnectionStartOk(start_ok_in(arguments)?)),
         30 => Ok(Method::ConnectionTune(tuning_in(arguments)?)),
         31 => Ok(Method::ConnectionTuneOk(tuning_in(arguments)?)),
-        40 => Ok(Method::ConnectionOpen(open_in(alloc, arguments)?)),
+        40 => Ok(Method::ConnectionOpen(open_in(arguments)?)),
         41 => {
-            let reserved = short_text_in(alloc, arguments)?;
+            let reserved = short_text_in(arguments)?;
             Ok(Method::ConnectionOpenOk { reserved })
         }
-        50 => Ok(Method::ConnectionClose(close_in(alloc, arguments)?)),
+        50 => Ok(Method::ConnectionClose(close_in(arguments)?)),
         51 => {
             nothing_in(arguments)?;
             Ok(Method::ConnectionCloseOk)
@@ -31,16 +31,16 @@ pub(crate) fn connection(alloc: Global, method: u16, arguments: &[u8]) -> Result
     }
 }
 
-pub(crate) fn channel(alloc: Global, method: u16, arguments: &[u8]) -> Result<Method, BadMethod>
-    ensures { ReadsArguments 20 method arguments.now result }
+pub(crate) fn channel(method: u16, arguments: Cursor<'_>) -> Result<Method, BadMethod>
+    ensures { ReadsArguments 20 method arguments.entry.rest.now result }
 {
     match method {
         10 => {
-            let reserved = short_text_in(alloc, arguments)?;
+            let reserved = short_text_in(arguments)?;
             Ok(Method::ChannelOpen { reserved })
         }
         11 => {
-            let reserved = long_text_in(alloc, arguments)?;
+            let reserved = long_text_in(arguments)?;
             Ok(Method::ChannelOpenOk { reserved })
         }
         20 => {
@@ -51,7 +51,7 @@ pub(crate) fn channel(alloc: Global, method: u16, arguments: &[u8]) -> Result<Me
             let active = bit_in(arguments)?;
             Ok(Method::ChannelFlowOk { active })
         }
-        40 => Ok(Method::ChannelClose(close_in(alloc, arguments)?)),
+        40 => Ok(Method::ChannelClose(close_in(arguments)?)),
         41 => {
             nothing_in(arguments)?;
             Ok(Method::ChannelCloseOk)
@@ -60,11 +60,11 @@ pub(crate) fn channel(alloc: Global, method: u16, arguments: &[u8]) -> Result<Me
     }
 }
 
-pub(crate) fn exchange(alloc: Global, method: u16, arguments: &[u8]) -> Result<Method, BadMethod>
-    ensures { ReadsArguments 40 method arguments.now result }
+pub(crate) fn exchange(method: u16, arguments: Cursor<'_>) -> Result<Method, BadMethod>
+    ensures { ReadsArguments 40 method arguments.entry.rest.now result }
 {
     match method {
-        10 => Ok(Method::ExchangeDeclare(exchange_declare_in(alloc, arguments)?)),
+        10 => Ok(Method::ExchangeDeclare(exchange_declare_in(arguments)?)),
         11 => {
             nothing_in(arguments)?;
             Ok(Method::ExchangeDeclareOk)
@@ -76,14 +76,14 @@ pub(crate) fn exchange(alloc: Global, method: u16, arguments: &[u8]) -> Result<M
     }
 }
 
-pub(crate) fn queue(alloc: Global, method: u16, arguments: &[u8]) -> Result<Method, BadMethod>
-    ensures { ReadsArguments 50 method arguments.now result }
+pub(crate) fn queue(method: u16, arguments: Cursor<'_>) -> Result<Method, BadMethod>
+    ensures { ReadsArguments 50 method arguments.entry.rest.now result }
 {
     match method {
-        10 => Ok(Method::QueueDeclare(queue_declare_in(alloc, arguments)?)),
-        11 => Ok(Method::QueueDeclareOk(queue_declared_in(alloc, arguments)?)),
+        10 => Ok(Method::QueueDeclare(queue_declare_in(arguments)?)),
+        11 => Ok(Method::QueueDeclareOk(queue_declared_in(arguments)?)),
         20 => Ok(Method::QueueBind),
-        30 => Ok(Method::QueuePurge(purge_in(alloc, arguments)?)),
+        30 => Ok(Method::QueuePurge(purge_in(arguments)?)),
         31 => {
             let message_count = long_in(arguments)?;
             Ok(Method::QueuePurgeOk { message_count })
@@ -94,20 +94,20 @@ pub(crate) fn queue(alloc: Global, method: u16, arguments: &[u8]) -> Result<Meth
     }
 }
 
-pub(crate) fn basic(alloc: Global, method: u16, arguments: &[u8]) -> Result<Method, BadMethod>
+pub(crate) fn basic(method: u16, arguments: Cursor<'_>) -> Result<Method, BadMethod>
     requires { is_left_out 60 method ≡ false }
-    ensures { ReadsArguments 60 method arguments.now result }
+    ensures { ReadsArguments 60 method arguments.entry.rest.now result }
 {
     match method {
-        0..40 => basic_consuming(alloc, method, arguments),
-        40..80 => basic_contents(alloc, method, arguments),
+        0..40 => basic_consuming(method, arguments),
+        40..80 => basic_contents(method, arguments),
         _ => basic_settling(method, arguments),
     }
 }
 
-fn basic_consuming(alloc: Global, method: u16, arguments: &[u8]) -> Result<Method, BadMethod>
+fn basic_consuming(method: u16, arguments: Cursor<'_>) -> Result<Method, BadMethod>
     requires { method < 40 }
-    ensures { ReadsArguments 60 method arguments.now result }
+    ensures { ReadsArguments 60 method arguments.entry.rest.now result }
 {
     match method {
         10 => Ok(Method::BasicQos(qos_in(arguments)?)),
@@ -115,43 +115,43 @@ fn basic_consuming(alloc: Global, method: u16, arguments: &[u8]) -> Result<Metho
             nothing_in(arguments)?;
             Ok(Method::BasicQosOk)
         }
-        20 => Ok(Method::BasicConsume(consume_in(alloc, arguments)?)),
+        20 => Ok(Method::BasicConsume(consume_in(arguments)?)),
         21 => {
-            let consumer_tag = short_text_in(alloc, arguments)?;
+            let consumer_tag = short_text_in(arguments)?;
             Ok(Method::BasicConsumeOk { consumer_tag })
         }
-        30 => Ok(Method::BasicCancel(cancel_in(alloc, arguments)?)),
+        30 => Ok(Method::BasicCancel(cancel_in(arguments)?)),
         31 => {
-            let consumer_tag = short_text_in(alloc, arguments)?;
+            let consumer_tag = short_text_in(arguments)?;
             Ok(Method::BasicCancelOk { consumer_tag })
         }
         _ => Err(BadMethod::CommandInvalid),
     }
 }
 
-fn basic_contents(alloc: Global, method: u16, arguments: &[u8]) -> Result<Method, BadMethod>
+fn basic_contents(method: u16, arguments: Cursor<'_>) -> Result<Method, BadMethod>
     requires before { 40 ≤ method }
     requires behind { method < 80 }
-    ensures { ReadsArguments 60 method arguments.now result }
+    ensures { ReadsArguments 60 method arguments.entry.rest.now result }
 {
     match method {
-        40 => Ok(Method::BasicPublish(publish_in(alloc, arguments)?)),
-        50 => Ok(Method::BasicReturn(return_in(alloc, arguments)?)),
-        60 => Ok(Method::BasicDeliver(deliver_in(alloc, arguments)?)),
-        70 => Ok(Method::BasicGet(get_in(alloc, arguments)?)),
-        71 => Ok(Method::BasicGetOk(get_ok_in(alloc, arguments)?)),
+        40 => Ok(Method::BasicPublish(publish_in(arguments)?)),
+        50 => Ok(Method::BasicReturn(return_in(arguments)?)),
+        60 => Ok(Method::BasicDeliver(deliver_in(arguments)?)),
+        70 => Ok(Method::BasicGet(get_in(arguments)?)),
+        71 => Ok(Method::BasicGetOk(get_ok_in(arguments)?)),
         72 => {
-            let reserved = short_text_in(alloc, arguments)?;
+            let reserved = short_text_in(arguments)?;
             Ok(Method::BasicGetEmpty { reserved })
         }
         _ => Err(BadMethod::CommandInvalid),
     }
 }
 
-fn basic_settling(method: u16, arguments: &[u8]) -> Result<Method, BadMethod>
+fn basic_settling(method: u16, arguments: Cursor<'_>) -> Result<Method, BadMethod>
     requires high { 80 ≤ method }
     requires not_left_out { is_left_out 60 method ≡ false }
-    ensures { ReadsArguments 60 method arguments.now result }
+    ensures { ReadsArguments 60 method arguments.entry.rest.now result }
 {
     match method {
         80 => Ok(Method::BasicAck(ack_in(arguments)?)),
@@ -169,8 +169,8 @@ fn basic_settling(method: u16, arguments: &[u8]) -> Result<Method, BadMethod>
     }
 }
 
-pub(crate) fn confirm(method: u16, arguments: &[u8]) -> Result<Method, BadMethod>
-    ensures { ReadsArguments 85 method arguments.now result }
+pub(crate) fn confirm(method: u16, arguments: Cursor<'_>) -> Result<Method, BadMethod>
+    ensures { ReadsArguments 85 method arguments.entry.rest.now result }
 {
     match method {
         10 => {

@@ -1,7 +1,7 @@
 //! Reads the arguments of each method into its struct.
 
-ghost use Rattle.std.specs.Prelude.{◌≡◌, [], ◌∷◌, option_map};
-ghost use Rattle.model.specs.Grammar.{arguments, Long, Long_long, Short_text, Long_text, Bits};
+ghost use Rattle.std.specs.Prelude.{[], ◌∷◌};
+ghost use Rattle.model.specs.Grammar.{arguments as given, Long, Short_text, Long_text, Bits};
 ghost use Rattle.model.specs.declared.methods.Method.TheVariants as method;
 ghost use Rattle.field_table.specs.Arguments.{arguments_at, a_long, a_short_text, a_long_text, some_bits};
 ghost use Rattle.methods.specs.Kinds.{
@@ -25,177 +25,97 @@ ghost use Rattle.methods.specs.Kinds.{
 };
 ghost use Rattle.methods.specs.Reading.{GivesArguments};
 
-use crate::pieces::Kind;
+use crate::cursor::Cursor;
 use crate::refusals::BadMethod;
-use crate::tables::table_in;
-use crate::taking::pieces_at;
-use field_table::{long_long_at, one_bit_at};
 use model::{
-    Ack, Cancel, Close, Consume, Deliver, Get, GetOk, Nack, Open, Publish, Purge, Qos,
-    QueueDeclared, Reject, Return, Start, StartOk, Text, Tuning,
+    Ack, Cancel, Close, Consume, Deliver, ExchangeDeclare, Get, GetOk, Nack, Open, Publish, Purge,
+    Qos, QueueDeclare, QueueDeclared, Reject, Return, Start, StartOk, Text, Tuning,
 };
-use std::alloc::Global;
-
-// ---- the kinds of the arguments of each method
-
-const START: [Kind; 5] = [
-    Kind::Octet,
-    Kind::Octet,
-    Kind::Table,
-    Kind::LongText,
-    Kind::LongText,
-];
-
-const START_OK: [Kind; 4] = [
-    Kind::Table,
-    Kind::ShortText,
-    Kind::LongText,
-    Kind::ShortText,
-];
-
-const TUNING: [Kind; 3] = [Kind::Short, Kind::Long, Kind::Short];
-
-const OPEN: [Kind; 3] = [Kind::ShortText, Kind::ShortText, Kind::Bit];
-
-const CLOSE: [Kind; 4] = [Kind::Short, Kind::ShortText, Kind::Short, Kind::Short];
-
-const DECLARE_EXCHANGE: [Kind; 5] = [
-    Kind::Short,
-    Kind::ShortText,
-    Kind::ShortText,
-    Kind::FiveBits,
-    Kind::Table,
-];
-
-const DECLARE_QUEUE: [Kind; 4] = [Kind::Short, Kind::ShortText, Kind::FiveBits, Kind::Table];
-
-const DECLARED: [Kind; 3] = [Kind::ShortText, Kind::Long, Kind::Long];
-
-const QUEUE: [Kind; 3] = [Kind::Short, Kind::ShortText, Kind::Bit];
-
-const QOS: [Kind; 3] = [Kind::Long, Kind::Short, Kind::Bit];
-
-const CONSUME: [Kind; 5] = [
-    Kind::Short,
-    Kind::ShortText,
-    Kind::ShortText,
-    Kind::FourBits,
-    Kind::Table,
-];
-
-const CANCEL: [Kind; 2] = [Kind::ShortText, Kind::Bit];
-
-const PUBLISH: [Kind; 4] = [Kind::Short, Kind::ShortText, Kind::ShortText, Kind::TwoBits];
-
-const RETURN: [Kind; 4] = [
-    Kind::Short,
-    Kind::ShortText,
-    Kind::ShortText,
-    Kind::ShortText,
-];
-
-const DELIVER: [Kind; 5] = [
-    Kind::ShortText,
-    Kind::LongLong,
-    Kind::Bit,
-    Kind::ShortText,
-    Kind::ShortText,
-];
-
-const GET_OK: [Kind; 5] = [
-    Kind::LongLong,
-    Kind::Bit,
-    Kind::ShortText,
-    Kind::ShortText,
-    Kind::Long,
-];
-
-const TAG_AND_TWO_BITS: [Kind; 2] = [Kind::LongLong, Kind::TwoBits];
 
 // ---- methods with several arguments
 
-pub(crate) fn start_in(alloc: Global, bytes: &[u8]) -> Result<Start, BadMethod>
-    ensures { GivesArguments (λ x. arguments (method.ConnectionStart x)) result (arguments_at start_kinds bytes.now) }
+pub(crate) fn start_in(mut arguments: Cursor<'_>) -> Result<Start, BadMethod>
+    ensures { GivesArguments (λ x. given (method.ConnectionStart x)) result (arguments_at start_kinds arguments.entry.rest.now) }
 {
-    let pieces = pieces_at(&START, bytes).ok_or(BadMethod::SyntaxError)?;
-    let mechanisms = pieces.fourth.long_text(alloc)?;
-    let locales = pieces.fifth.long_text(alloc)?;
-    let server_properties = table_in(alloc, &pieces.third)?;
+    let version_major = arguments.octet()?;
+    let version_minor = arguments.octet()?;
+    let pairs = arguments.pairs()?;
+    let mechanisms = arguments.long_text()?;
+    let locales = arguments.long_text()?;
+    arguments.end()?;
     Ok(Start {
-        version_major: pieces.first.octet(),
-        version_minor: pieces.second.octet(),
-        server_properties,
+        version_major,
+        version_minor,
+        server_properties: arguments.table_of(pairs)?,
         mechanisms,
         locales,
     })
 }
 
-pub(crate) fn start_ok_in(alloc: Global, bytes: &[u8]) -> Result<StartOk, BadMethod>
-    ensures { GivesArguments (λ x. arguments (method.ConnectionStartOk x)) result (arguments_at start_ok_kinds bytes.now) }
+pub(crate) fn start_ok_in(mut arguments: Cursor<'_>) -> Result<StartOk, BadMethod>
+    ensures { GivesArguments (λ x. given (method.ConnectionStartOk x)) result (arguments_at start_ok_kinds arguments.entry.rest.now) }
 {
-    let pieces = pieces_at(&START_OK, bytes).ok_or(BadMethod::SyntaxError)?;
-    let mechanism = pieces.second.short_text(alloc)?;
-    let response = pieces.third.long_text(alloc)?;
-    let locale = pieces.fourth.short_text(alloc)?;
-    let client_properties = table_in(alloc, &pieces.first)?;
+    let pairs = arguments.pairs()?;
+    let mechanism = arguments.short_text()?;
+    let response = arguments.long_text()?;
+    let locale = arguments.short_text()?;
+    arguments.end()?;
     Ok(StartOk {
-        client_properties,
+        client_properties: arguments.table_of(pairs)?,
         mechanism,
         response,
         locale,
     })
 }
 
-pub(crate) fn tuning_in(bytes: &[u8]) -> Result<Tuning, BadMethod>
-    ensures { GivesArguments (λ x. arguments (method.ConnectionTune x)) result (arguments_at tuning_kinds bytes.now) }
+pub(crate) fn tuning_in(mut arguments: Cursor<'_>) -> Result<Tuning, BadMethod>
+    ensures { GivesArguments (λ x. given (method.ConnectionTune x)) result (arguments_at tuning_kinds arguments.entry.rest.now) }
 {
-    let pieces = pieces_at(&TUNING, bytes).ok_or(BadMethod::SyntaxError)?;
-    Ok(Tuning {
-        channel_max: pieces.first.short(),
-        frame_max: pieces.second.long(),
-        heartbeat: pieces.third.short(),
-    })
+    let tuning = Tuning {
+        channel_max: arguments.short()?,
+        frame_max: arguments.long()?,
+        heartbeat: arguments.short()?,
+    };
+    arguments.end()?;
+    Ok(tuning)
 }
 
-pub(crate) fn open_in(alloc: Global, bytes: &[u8]) -> Result<Open, BadMethod>
-    ensures { GivesArguments (λ x. arguments (method.ConnectionOpen x)) result (arguments_at open_kinds bytes.now) }
+pub(crate) fn open_in(mut arguments: Cursor<'_>) -> Result<Open, BadMethod>
+    ensures { GivesArguments (λ x. given (method.ConnectionOpen x)) result (arguments_at open_kinds arguments.entry.rest.now) }
 {
-    let pieces = pieces_at(&OPEN, bytes).ok_or(BadMethod::SyntaxError)?;
-    let virtual_host = pieces.first.short_text(alloc)?;
-    let reserved_text = pieces.second.short_text(alloc)?;
-    Ok(Open {
-        virtual_host,
-        reserved_text,
-        reserved_bit: pieces.third.bit(),
-    })
+    let open = Open {
+        virtual_host: arguments.short_text()?,
+        reserved_text: arguments.short_text()?,
+        reserved_bit: arguments.bit()?,
+    };
+    arguments.end()?;
+    Ok(open)
 }
 
-pub(crate) fn close_in(alloc: Global, bytes: &[u8]) -> Result<Close, BadMethod>
-    ensures { GivesArguments (λ x. arguments (method.ConnectionClose x)) result (arguments_at close_kinds bytes.now) }
+pub(crate) fn close_in(mut arguments: Cursor<'_>) -> Result<Close, BadMethod>
+    ensures { GivesArguments (λ x. given (method.ConnectionClose x)) result (arguments_at close_kinds arguments.entry.rest.now) }
 {
-    let pieces = pieces_at(&CLOSE, bytes).ok_or(BadMethod::SyntaxError)?;
-    let reply_text = pieces.second.short_text(alloc)?;
-    Ok(Close {
-        reply_code: pieces.first.short(),
-        reply_text,
-        class_id: pieces.third.short(),
-        method_id: pieces.fourth.short(),
-    })
+    let close = Close {
+        reply_code: arguments.short()?,
+        reply_text: arguments.short_text()?,
+        class_id: arguments.short()?,
+        method_id: arguments.short()?,
+    };
+    arguments.end()?;
+    Ok(close)
 }
 
-pub(crate) fn exchange_declare_in(
-    alloc: Global,
-    bytes: &[u8],
-) -> Result<model::ExchangeDeclare, BadMethod>
-    ensures { GivesArguments (λ x. arguments (method.ExchangeDeclare x)) result (arguments_at declare_exchange_kinds bytes.now) }
+pub(crate) fn exchange_declare_in(mut arguments: Cursor<'_>) -> Result<ExchangeDeclare, BadMethod>
+    ensures { GivesArguments (λ x. given (method.ExchangeDeclare x)) result (arguments_at declare_exchange_kinds arguments.entry.rest.now) }
 {
-    let pieces = pieces_at(&DECLARE_EXCHANGE, bytes).ok_or(BadMethod::SyntaxError)?;
-    let exchange = pieces.second.short_text(alloc)?;
-    let kind = pieces.third.short_text(alloc)?;
-    let (passive, durable, auto_delete, internal, no_wait) = pieces.fourth.five_bits();
-    let arguments = table_in(alloc, &pieces.fifth)?;
-    Ok(model::ExchangeDeclare {
-        reserved: pieces.first.short(),
+    let reserved = arguments.short()?;
+    let exchange = arguments.short_text()?;
+    let kind = arguments.short_text()?;
+    let (passive, durable, auto_delete, internal, no_wait) = arguments.five_bits()?;
+    let pairs = arguments.pairs()?;
+    arguments.end()?;
+    Ok(ExchangeDeclare {
+        reserved,
         exchange,
         kind,
         passive,
@@ -203,107 +123,108 @@ pub(crate) fn exchange_declare_in(
         auto_delete,
         internal,
         no_wait,
-        arguments,
+        arguments: arguments.table_of(pairs)?,
     })
 }
 
-pub(crate) fn queue_declare_in(
-    alloc: Global,
-    bytes: &[u8],
-) -> Result<model::QueueDeclare, BadMethod>
-    ensures { GivesArguments (λ x. arguments (method.QueueDeclare x)) result (arguments_at declare_queue_kinds bytes.now) }
+pub(crate) fn queue_declare_in(mut arguments: Cursor<'_>) -> Result<QueueDeclare, BadMethod>
+    ensures { GivesArguments (λ x. given (method.QueueDeclare x)) result (arguments_at declare_queue_kinds arguments.entry.rest.now) }
 {
-    let pieces = pieces_at(&DECLARE_QUEUE, bytes).ok_or(BadMethod::SyntaxError)?;
-    let (passive, durable, exclusive, auto_delete, no_wait) = pieces.third.five_bits();
-    let queue = pieces.second.short_text(alloc)?;
-    let arguments = table_in(alloc, &pieces.fourth)?;
-    Ok(model::QueueDeclare {
-        reserved: pieces.first.short(),
+    let reserved = arguments.short()?;
+    let queue = arguments.short_text()?;
+    let (passive, durable, exclusive, auto_delete, no_wait) = arguments.five_bits()?;
+    let pairs = arguments.pairs()?;
+    arguments.end()?;
+    Ok(QueueDeclare {
+        reserved,
         queue,
         passive,
         durable,
         exclusive,
         auto_delete,
         no_wait,
-        arguments,
+        arguments: arguments.table_of(pairs)?,
     })
 }
 
-pub(crate) fn queue_declared_in(alloc: Global, bytes: &[u8]) -> Result<QueueDeclared, BadMethod>
-    ensures { GivesArguments (λ x. arguments (method.QueueDeclareOk x)) result (arguments_at declared_kinds bytes.now) }
+pub(crate) fn queue_declared_in(mut arguments: Cursor<'_>) -> Result<QueueDeclared, BadMethod>
+    ensures { GivesArguments (λ x. given (method.QueueDeclareOk x)) result (arguments_at declared_kinds arguments.entry.rest.now) }
 {
-    let pieces = pieces_at(&DECLARED, bytes).ok_or(BadMethod::SyntaxError)?;
-    let queue = pieces.first.short_text(alloc)?;
-    Ok(QueueDeclared {
-        queue,
-        message_count: pieces.second.long(),
-        consumer_count: pieces.third.long(),
-    })
+    let queue_declared = QueueDeclared {
+        queue: arguments.short_text()?,
+        message_count: arguments.long()?,
+        consumer_count: arguments.long()?,
+    };
+    arguments.end()?;
+    Ok(queue_declared)
 }
 
-pub(crate) fn purge_in(alloc: Global, bytes: &[u8]) -> Result<Purge, BadMethod>
-    ensures { GivesArguments (λ x. arguments (method.QueuePurge x)) result (arguments_at queue_kinds bytes.now) }
+pub(crate) fn purge_in(mut arguments: Cursor<'_>) -> Result<Purge, BadMethod>
+    ensures { GivesArguments (λ x. given (method.QueuePurge x)) result (arguments_at queue_kinds arguments.entry.rest.now) }
 {
-    let pieces = pieces_at(&QUEUE, bytes).ok_or(BadMethod::SyntaxError)?;
-    let queue = pieces.second.short_text(alloc)?;
-    Ok(Purge {
-        reserved: pieces.first.short(),
-        queue,
-        no_wait: pieces.third.bit(),
-    })
+    let purge = Purge {
+        reserved: arguments.short()?,
+        queue: arguments.short_text()?,
+        no_wait: arguments.bit()?,
+    };
+    arguments.end()?;
+    Ok(purge)
 }
 
-pub(crate) fn qos_in(bytes: &[u8]) -> Result<Qos, BadMethod>
-    ensures { GivesArguments (λ x. arguments (method.BasicQos x)) result (arguments_at qos_kinds bytes.now) }
+pub(crate) fn qos_in(mut arguments: Cursor<'_>) -> Result<Qos, BadMethod>
+    ensures { GivesArguments (λ x. given (method.BasicQos x)) result (arguments_at qos_kinds arguments.entry.rest.now) }
 {
-    let pieces = pieces_at(&QOS, bytes).ok_or(BadMethod::SyntaxError)?;
-    Ok(Qos {
-        prefetch_size: pieces.first.long(),
-        prefetch_count: pieces.second.short(),
-        global: pieces.third.bit(),
-    })
+    let qos = Qos {
+        prefetch_size: arguments.long()?,
+        prefetch_count: arguments.short()?,
+        global: arguments.bit()?,
+    };
+    arguments.end()?;
+    Ok(qos)
 }
 
-pub(crate) fn consume_in(alloc: Global, bytes: &[u8]) -> Result<Consume, BadMethod>
-    ensures { GivesArguments (λ x. arguments (method.BasicConsume x)) result (arguments_at consume_kinds bytes.now) }
+pub(crate) fn consume_in(mut arguments: Cursor<'_>) -> Result<Consume, BadMethod>
+    ensures { GivesArguments (λ x. given (method.BasicConsume x)) result (arguments_at consume_kinds arguments.entry.rest.now) }
 {
-    let pieces = pieces_at(&CONSUME, bytes).ok_or(BadMethod::SyntaxError)?;
-    let (no_local, no_ack, exclusive, no_wait) = pieces.fourth.four_bits();
-    let queue = pieces.second.short_text(alloc)?;
-    let consumer_tag = pieces.third.short_text(alloc)?;
-    let arguments = table_in(alloc, &pieces.fifth)?;
+    let reserved = arguments.short()?;
+    let queue = arguments.short_text()?;
+    let consumer_tag = arguments.short_text()?;
+    let (no_local, no_ack, exclusive, no_wait) = arguments.four_bits()?;
+    let pairs = arguments.pairs()?;
+    arguments.end()?;
     Ok(Consume {
-        reserved: pieces.first.short(),
+        reserved,
         queue,
         consumer_tag,
         no_local,
         no_ack,
         exclusive,
         no_wait,
-        arguments,
+        arguments: arguments.table_of(pairs)?,
     })
 }
 
-pub(crate) fn cancel_in(alloc: Global, bytes: &[u8]) -> Result<Cancel, BadMethod>
-    ensures { GivesArguments (λ x. arguments (method.BasicCancel x)) result (arguments_at cancel_kinds bytes.now) }
+pub(crate) fn cancel_in(mut arguments: Cursor<'_>) -> Result<Cancel, BadMethod>
+    ensures { GivesArguments (λ x. given (method.BasicCancel x)) result (arguments_at cancel_kinds arguments.entry.rest.now) }
 {
-    let pieces = pieces_at(&CANCEL, bytes).ok_or(BadMethod::SyntaxError)?;
-    let consumer_tag = pieces.first.short_text(alloc)?;
-    Ok(Cancel {
-        consumer_tag,
-        no_wait: pieces.second.bit(),
-    })
+    let cancel = Cancel {
+        consumer_tag: arguments.short_text()?,
+        no_wait: arguments.bit()?,
+    };
+    arguments.end()?;
+    Ok(cancel)
 }
 
-pub(crate) fn publish_in(alloc: Global, bytes: &[u8]) -> Result<Publish, BadMethod>
-    ensures { GivesArguments (λ x. arguments (method.BasicPublish x)) result (arguments_at publish_kinds bytes.now) }
+pub(crate) fn publish_in(mut arguments: Cursor<'_>) -> Result<Publish, BadMethod>
+    ensures { GivesArguments (λ x. given (method.BasicPublish x)) result (arguments_at publish_kinds arguments.entry.rest.now) }
 {
-    let pieces = pieces_at(&PUBLISH, bytes).ok_or(BadMethod::SyntaxError)?;
-    let (mandatory, immediate) = pieces.fourth.two_bits();
-    let exchange = pieces.second.short_text(alloc)?;
-    let routing_key = pieces.third.short_text(alloc)?;
+    let reserved = arguments.short()?;
+    let exchange = arguments.short_text()?;
+    let routing_key = arguments.short_text()?;
+    let (mandatory, immediate) = arguments.two_bits()?;
+    arguments.end()?;
     Ok(Publish {
-        reserved: pieces.first.short(),
+        reserved,
         exchange,
         routing_key,
         mandatory,
@@ -311,104 +232,89 @@ pub(crate) fn publish_in(alloc: Global, bytes: &[u8]) -> Result<Publish, BadMeth
     })
 }
 
-pub(crate) fn return_in(alloc: Global, bytes: &[u8]) -> Result<Return, BadMethod>
-    ensures { GivesArguments (λ x. arguments (method.BasicReturn x)) result (arguments_at return_kinds bytes.now) }
+pub(crate) fn return_in(mut arguments: Cursor<'_>) -> Result<Return, BadMethod>
+    ensures { GivesArguments (λ x. given (method.BasicReturn x)) result (arguments_at return_kinds arguments.entry.rest.now) }
 {
-    let pieces = pieces_at(&RETURN, bytes).ok_or(BadMethod::SyntaxError)?;
-    let reply_text = pieces.second.short_text(alloc)?;
-    let exchange = pieces.third.short_text(alloc)?;
-    let routing_key = pieces.fourth.short_text(alloc)?;
-    Ok(Return {
-        reply_code: pieces.first.short(),
-        reply_text,
-        exchange,
-        routing_key,
-    })
+    let returned = Return {
+        reply_code: arguments.short()?,
+        reply_text: arguments.short_text()?,
+        exchange: arguments.short_text()?,
+        routing_key: arguments.short_text()?,
+    };
+    arguments.end()?;
+    Ok(returned)
 }
 
-pub(crate) fn deliver_in(alloc: Global, bytes: &[u8]) -> Result<Deliver, BadMethod>
-    ensures { GivesArguments (λ x. arguments (method.BasicDeliver x)) result (arguments_at deliver_kinds bytes.now) }
+pub(crate) fn deliver_in(mut arguments: Cursor<'_>) -> Result<Deliver, BadMethod>
+    ensures { GivesArguments (λ x. given (method.BasicDeliver x)) result (arguments_at deliver_kinds arguments.entry.rest.now) }
 {
-    let pieces = pieces_at(&DELIVER, bytes).ok_or(BadMethod::SyntaxError)?;
-    let consumer_tag = pieces.first.short_text(alloc)?;
-    let exchange = pieces.fourth.short_text(alloc)?;
-    let routing_key = pieces.fifth.short_text(alloc)?;
-    Ok(Deliver {
-        consumer_tag,
-        delivery_tag: pieces.second.long_long(),
-        redelivered: pieces.third.bit(),
-        exchange,
-        routing_key,
-    })
+    let deliver = Deliver {
+        consumer_tag: arguments.short_text()?,
+        delivery_tag: arguments.long_long()?,
+        redelivered: arguments.bit()?,
+        exchange: arguments.short_text()?,
+        routing_key: arguments.short_text()?,
+    };
+    arguments.end()?;
+    Ok(deliver)
 }
 
-pub(crate) fn get_in(alloc: Global, bytes: &[u8]) -> Result<Get, BadMethod>
-    ensures { GivesArguments (λ x. arguments (method.BasicGet x)) result (arguments_at queue_kinds bytes.now) }
+pub(crate) fn get_in(mut arguments: Cursor<'_>) -> Result<Get, BadMethod>
+    ensures { GivesArguments (λ x. given (method.BasicGet x)) result (arguments_at queue_kinds arguments.entry.rest.now) }
 {
-    let pieces = pieces_at(&QUEUE, bytes).ok_or(BadMethod::SyntaxError)?;
-    let queue = pieces.second.short_text(alloc)?;
-    Ok(Get {
-        reserved: pieces.first.short(),
-        queue,
-        no_ack: pieces.third.bit(),
-    })
+    let get = Get {
+        reserved: arguments.short()?,
+        queue: arguments.short_text()?,
+        no_ack: arguments.bit()?,
+    };
+    arguments.end()?;
+    Ok(get)
 }
 
-pub(crate) fn get_ok_in(alloc: Global, bytes: &[u8]) -> Result<GetOk, BadMethod>
-    ensures { GivesArguments (λ x. arguments (method.BasicGetOk x)) result (arguments_at get_ok_kinds bytes.now) }
+pub(crate) fn get_ok_in(mut arguments: Cursor<'_>) -> Result<GetOk, BadMethod>
+    ensures { GivesArguments (λ x. given (method.BasicGetOk x)) result (arguments_at get_ok_kinds arguments.entry.rest.now) }
 {
-    let pieces = pieces_at(&GET_OK, bytes).ok_or(BadMethod::SyntaxError)?;
-    let exchange = pieces.third.short_text(alloc)?;
-    let routing_key = pieces.fourth.short_text(alloc)?;
-    Ok(GetOk {
-        delivery_tag: pieces.first.long_long(),
-        redelivered: pieces.second.bit(),
-        exchange,
-        routing_key,
-        message_count: pieces.fifth.long(),
-    })
+    let get_ok = GetOk {
+        delivery_tag: arguments.long_long()?,
+        redelivered: arguments.bit()?,
+        exchange: arguments.short_text()?,
+        routing_key: arguments.short_text()?,
+        message_count: arguments.long()?,
+    };
+    arguments.end()?;
+    Ok(get_ok)
 }
 
-pub(crate) fn ack_in(bytes: &[u8]) -> Result<Ack, BadMethod>
-    ensures { GivesArguments (λ x. arguments (method.BasicAck x)) result (arguments_at (tag_kinds 1) bytes.now) }
+pub(crate) fn ack_in(mut arguments: Cursor<'_>) -> Result<Ack, BadMethod>
+    ensures { GivesArguments (λ x. given (method.BasicAck x)) result (arguments_at (tag_kinds 1) arguments.entry.rest.now) }
 {
-    let (delivery_tag, multiple) = tag_and_bit_in(bytes).ok_or(BadMethod::SyntaxError)?;
-    Ok(Ack {
-        delivery_tag,
-        multiple,
-    })
+    let ack = Ack {
+        delivery_tag: arguments.long_long()?,
+        multiple: arguments.bit()?,
+    };
+    arguments.end()?;
+    Ok(ack)
 }
 
-pub(crate) fn reject_in(bytes: &[u8]) -> Result<Reject, BadMethod>
-    ensures { GivesArguments (λ x. arguments (method.BasicReject x)) result (arguments_at (tag_kinds 1) bytes.now) }
+pub(crate) fn reject_in(mut arguments: Cursor<'_>) -> Result<Reject, BadMethod>
+    ensures { GivesArguments (λ x. given (method.BasicReject x)) result (arguments_at (tag_kinds 1) arguments.entry.rest.now) }
 {
-    let (delivery_tag, requeue) = tag_and_bit_in(bytes).ok_or(BadMethod::SyntaxError)?;
-    Ok(Reject {
-        delivery_tag,
-        requeue,
-    })
+    let reject = Reject {
+        delivery_tag: arguments.long_long()?,
+        requeue: arguments.bit()?,
+    };
+    arguments.end()?;
+    Ok(reject)
 }
 
-/// Reads a delivery tag and a bit that are all of `bytes`. Acks and rejects can come as often as messages, so this doesn't go through a list of kinds.
-fn tag_and_bit_in(bytes: &[u8]) -> Option<(u64, bool)>
-    ensures { option_map (λ x. Long_long x.0 ∷ Bits (x.1 ∷ []) ∷ []) result ≡ arguments_at (tag_kinds 1) bytes.now }
+pub(crate) fn nack_in(mut arguments: Cursor<'_>) -> Result<Nack, BadMethod>
+    ensures { GivesArguments (λ x. given (method.BasicNack x)) result (arguments_at (tag_kinds 2) arguments.entry.rest.now) }
 {
-    let (tag, rest) = long_long_at(bytes)?;
-    let (bit, rest) = one_bit_at(rest)?;
-    if rest.is_empty() {
-        Some((tag, bit))
-    } else {
-        None
-    }
-}
-
-pub(crate) fn nack_in(bytes: &[u8]) -> Result<Nack, BadMethod>
-    ensures { GivesArguments (λ x. arguments (method.BasicNack x)) result (arguments_at (tag_kinds 2) bytes.now) }
-{
-    let pieces = pieces_at(&TAG_AND_TWO_BITS, bytes).ok_or(BadMethod::SyntaxError)?;
-    let (multiple, requeue) = pieces.second.two_bits();
+    let delivery_tag = arguments.long_long()?;
+    let (multiple, requeue) = arguments.two_bits()?;
+    arguments.end()?;
     Ok(Nack {
-        delivery_tag: pieces.first.long_long(),
+        delivery_tag,
         multiple,
         requeue,
     })
@@ -416,40 +322,40 @@ pub(crate) fn nack_in(bytes: &[u8]) -> Result<Nack, BadMethod>
 
 // ---- methods with one argument, or none
 
-pub(crate) fn short_text_in(alloc: Global, bytes: &[u8]) -> Result<Text, BadMethod>
-    ensures { GivesArguments (λ t. Short_text t ∷ []) result (arguments_at (a_short_text ∷ []) bytes.now) }
+pub(crate) fn short_text_in(mut arguments: Cursor<'_>) -> Result<Text, BadMethod>
+    ensures { GivesArguments (λ t. Short_text t ∷ []) result (arguments_at (a_short_text ∷ []) arguments.entry.rest.now) }
 {
-    let pieces = pieces_at(&[Kind::ShortText], bytes).ok_or(BadMethod::SyntaxError)?;
-    Ok(pieces.first.short_text(alloc)?)
+    let text = arguments.short_text()?;
+    arguments.end()?;
+    Ok(text)
 }
 
-pub(crate) fn long_text_in(alloc: Global, bytes: &[u8]) -> Result<Text, BadMethod>
-    ensures { GivesArguments (λ t. Long_text t ∷ []) result (arguments_at (a_long_text ∷ []) bytes.now) }
+pub(crate) fn long_text_in(mut arguments: Cursor<'_>) -> Result<Text, BadMethod>
+    ensures { GivesArguments (λ t. Long_text t ∷ []) result (arguments_at (a_long_text ∷ []) arguments.entry.rest.now) }
 {
-    let pieces = pieces_at(&[Kind::LongText], bytes).ok_or(BadMethod::SyntaxError)?;
-    Ok(pieces.first.long_text(alloc)?)
+    let text = arguments.long_text()?;
+    arguments.end()?;
+    Ok(text)
 }
 
-pub(crate) fn long_in(bytes: &[u8]) -> Result<u32, BadMethod>
-    ensures { GivesArguments (λ n. Long n ∷ []) result (arguments_at (a_long ∷ []) bytes.now) }
+pub(crate) fn long_in(mut arguments: Cursor<'_>) -> Result<u32, BadMethod>
+    ensures { GivesArguments (λ n. Long n ∷ []) result (arguments_at (a_long ∷ []) arguments.entry.rest.now) }
 {
-    let pieces = pieces_at(&[Kind::Long], bytes).ok_or(BadMethod::SyntaxError)?;
-    Ok(pieces.first.long())
+    let number = arguments.long()?;
+    arguments.end()?;
+    Ok(number)
 }
 
-pub(crate) fn bit_in(bytes: &[u8]) -> Result<bool, BadMethod>
-    ensures { GivesArguments (λ b. Bits (b ∷ []) ∷ []) result (arguments_at (some_bits 1 ∷ []) bytes.now) }
+pub(crate) fn bit_in(mut arguments: Cursor<'_>) -> Result<bool, BadMethod>
+    ensures { GivesArguments (λ b. Bits (b ∷ []) ∷ []) result (arguments_at (some_bits 1 ∷ []) arguments.entry.rest.now) }
 {
-    let pieces = pieces_at(&[Kind::Bit], bytes).ok_or(BadMethod::SyntaxError)?;
-    Ok(pieces.first.bit())
+    let bit = arguments.bit()?;
+    arguments.end()?;
+    Ok(bit)
 }
 
-pub(crate) fn nothing_in(bytes: &[u8]) -> Result<(), BadMethod>
-    ensures { GivesArguments (λ _. []) result (arguments_at [] bytes.now) }
+pub(crate) fn nothing_in(arguments: Cursor<'_>) -> Result<(), BadMethod>
+    ensures { GivesArguments (λ _. []) result (arguments_at [] arguments.entry.rest.now) }
 {
-    if bytes.is_empty() {
-        Ok(())
-    } else {
-        Err(BadMethod::SyntaxError)
-    }
+    arguments.end()
 }

@@ -7,6 +7,7 @@
 #![tactic(auto)]
 
 mod classes;
+mod cursor;
 mod fields;
 mod laws;
 mod lines;
@@ -14,8 +15,6 @@ mod pieces;
 mod putting;
 mod reading;
 mod refusals;
-mod tables;
-mod taking;
 mod writing;
 
 pub use laws::one_method;

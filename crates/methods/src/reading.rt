@@ -3,9 +3,10 @@
 ghost use Rattle.std.specs.Prelude.{◌≡◌, ◌<◌, ℕ, List, false, length, MatchOption};
 ghost use Rattle.model.specs.Grammar;
 ghost use Rattle.model.specs.Grammar.{IsMethod, Spells};
-ghost use Rattle.methods.specs.Reading.{FailsToRead, TellsMethod, IsMethodOr, BeginsMethod, ReadsArguments};
+ghost use Rattle.methods.specs.Reading.{FailsToRead, ReturnsMethod, IsMethodOr, BeginsMethod, ReadsArguments};
 
 use crate::classes::{basic, channel, confirm, connection, exchange, queue};
+use crate::cursor::Cursor;
 use crate::refusals::BadMethod;
 use byteorder::{BigEndian, ByteOrder};
 use model::Method;
@@ -15,7 +16,7 @@ use std::alloc::Global;
 ///
 /// Each refusal is a variant of [`BadMethod`] with its reply code. [`BadMethod::Memory`] means that an allocation failed.
 pub fn read_method(alloc: Global, payload: &[u8]) -> Result<Method, BadMethod>
-    ensures tells { TellsMethod payload.now result }
+    ensures read { ReturnsMethod payload.now result }
     // Promise: a method that `payload` encodes is returned, unless an allocation fails.
     ensures only { (m : Method) → IsMethod m → Spells payload.now m → IsMethodOr m result }
 {
@@ -44,7 +45,11 @@ fn with_ids(alloc: Global, class: u16, method: u16, arguments: &[u8]) -> Result<
     if is_left_out(class, method) {
         return Err(BadMethod::NotImplemented);
     }
-    of_class(alloc, class, method, arguments)
+    let arguments = Cursor {
+        alloc,
+        rest: arguments,
+    };
+    of_class(class, method, arguments)
 }
 
 /// Returns whether the method is one that is not implemented: class tx, or basic.recover-async.
@@ -54,16 +59,16 @@ fn is_left_out(class: u16, method: u16) -> bool
     class == 90 || class == 60 && method == 100
 }
 
-fn of_class(alloc: Global, class: u16, method: u16, arguments: &[u8]) -> Result<Method, BadMethod>
+fn of_class(class: u16, method: u16, arguments: Cursor<'_>) -> Result<Method, BadMethod>
     requires { Grammar.is_left_out class method ≡ false }
-    ensures { ReadsArguments class method arguments.now result }
+    ensures { ReadsArguments class method arguments.entry.rest.now result }
 {
     match class {
-        10 => connection(alloc, method, arguments),
-        20 => channel(alloc, method, arguments),
-        40 => exchange(alloc, method, arguments),
-        50 => queue(alloc, method, arguments),
-        60 => basic(alloc, method, arguments),
+        10 => connection(method, arguments),
+        20 => channel(method, arguments),
+        40 => exchange(method, arguments),
+        50 => queue(method, arguments),
+        60 => basic(method, arguments),
         85 => confirm(method, arguments),
         _ => Err(BadMethod::CommandInvalid),
     }

@@ -35,7 +35,7 @@ pub record IsAgreed (b : Broker) : Type 0 where
   -- The message of each unacknowledged delivery of a channel is held in its queue by that channel.
   pub given : (c h : ℕ) (ch : Channel) (o : Outstanding) → b.channel c h ≡ Some ch → IsIn o ch.outstanding → IsHeld b c h o
   -- At most one message of a queue is held under one tag of a channel.
-  pub apart : (q : Text) (holder : Holder) → count_by (is_held_as holder) (b.queue q) ≤ 1
+  pub distinct : (q : Text) (holder : Holder) → count_by (is_held_as holder) (b.queue q) ≤ 1
   -- On each channel the tags of unacknowledged deliveries rise, and each is less than the next tag.
   pub rising : (c h : ℕ) (ch : Channel) → b.channel c h ≡ Some ch → Rises tag_of ch.outstanding
   pub before : (c h : ℕ) (ch : Channel) → b.channel c h ≡ Some ch → AllByRecursion (λ (o : Outstanding). o.tag < ch.next_tag) ch.outstanding

@@ -16,7 +16,7 @@ abbrev pub IsNoted : List Note → ℕ → Text → Text → Type 0
 IsNoted notes n x key = (c : ℕ) × (h : ℕ) × (o : Option ℕ) × IsIn (Published n c h x key o) notes
 
 -- A message of publish `n` is in a queue, and was first sent to the exchange `x` under `key`.
-pub record Stands (b : Broker) (n : ℕ) (x key : Text) : Type 0 where
+pub record IsEnqueued (b : Broker) (n : ℕ) (x key : Text) : Type 0 where
   pub queue : Text
   pub entry : Entry
   pub there : IsIn entry (b.queue queue)
@@ -27,7 +27,7 @@ pub record Stands (b : Broker) (n : ℕ) (x key : Text) : Type 0 where
 -- The event `h` shows that publish `n` was sent to the exchange `x` under `key`: its notes
 -- say it, or before the event a queue had a message with that number, exchange and key.
 abbrev pub WasSentTo : Happening → ℕ → Text → Text → Type 0
-WasSentTo h n x key = IsNoted h.notes n x key ⊎ Stands h.before.broker n x key
+WasSentTo h n x key = IsNoted h.notes n x key ⊎ IsEnqueued h.before.broker n x key
 
 -- If the note says that publish `n` entered the queue `q`, no `Never` guarantee of `gs` forbids `q`
 -- for an exchange and key with which, by `Sent`, publish `n` was sent.

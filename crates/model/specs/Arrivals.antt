@@ -332,14 +332,14 @@ Plays old (a ∷ as') os new = (mid : World) × (first : List Occurrence) × (re
     × Plays mid as' rest new
 
 -- The arrival; if it is a reload, its setup `s` is replaced by `f s`.
-abbrev pub told : {S T : Type 0} → (S → T) → Arrival S → Arrival T
-told f arrival.Open = arrival.Open
-told f (arrival.Ready k) = arrival.Ready k
-told f (arrival.In c bytes) = arrival.In c bytes
-told f (arrival.Sent c n) = arrival.Sent c n
-told f arrival.Pump = arrival.Pump
-told f (arrival.Lose c) = arrival.Lose c
-told f (arrival.Reload s) = arrival.Reload (f s)
+abbrev pub with_setup : {S T : Type 0} → (S → T) → Arrival S → Arrival T
+with_setup f arrival.Open = arrival.Open
+with_setup f (arrival.Ready k) = arrival.Ready k
+with_setup f (arrival.In c bytes) = arrival.In c bytes
+with_setup f (arrival.Sent c n) = arrival.Sent c n
+with_setup f arrival.Pump = arrival.Pump
+with_setup f (arrival.Lose c) = arrival.Lose c
+with_setup f (arrival.Reload s) = arrival.Reload (f s)
 
 -- ---- what a run shows
 

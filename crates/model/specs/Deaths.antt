@@ -68,7 +68,7 @@ with_headers content headers = record content { properties = record content.prop
 
 -- The message as it is sent to `exchange` under `key` with this content: it keeps its number and its first exchange and key, and counts as not delivered.
 abbrev pub dead_letter : Message → Text → Text → Content → Message
-dead_letter m exchange key content = record m { exchange = exchange; key = key; content = content; redelivered = false; stood = false }
+dead_letter m exchange key content = record m { exchange = exchange; key = key; content = content; redelivered = false; survived = false }
 
 -- The message `m` dies in the queue `p`, and its dead letter goes to `exchange`: under the queue's dead-letter key, or else its
 -- own key, into each routed queue that is not full, in file order. It is not confirmed, nor returned if it is routed nowhere.

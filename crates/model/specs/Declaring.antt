@@ -20,5 +20,5 @@ pub record HasConsumers (b : Broker) (queue : Text) (count : ℕ) : Type 0 where
   -- Every open channel is in this list, and no channel is in it twice.
   pub channels : List ChannelName
   pub all : (c h : ℕ) (ch : Channel) → b.channel c h ≡ Some ch → IsIn (record { connection = c; number = h }) channels
-  pub apart : AllPairs (λ (x y : ChannelName). x ≡ y → ⊥) channels
+  pub distinct : AllPairs (λ (x y : ChannelName). x ≡ y → ⊥) channels
   pub counted : count ≡ sum_by (λ (x : ChannelName). consumers_on queue (b.channel x.connection x.number)) channels

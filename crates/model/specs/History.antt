@@ -5,7 +5,7 @@ use Rattle.model.specs.Broker.{Broker}
 use Rattle.model.specs.Step.{Is}
 use Rattle.model.specs.State.{Config, State, Step}
 use Rattle.model.specs.Run.{Happening, Balances}
-use Rattle.model.specs.Reloading.{IsObstacle, NothingStands, with_all_stood}
+use Rattle.model.specs.Reloading.{IsObstacle, HasNoObstacle, with_all_survived}
 use Rattle.model.specs.declared.obstacles.Obstacle.{Obstacle}
 use Rattle.model.specs.declared.notes.Note.{Note}
 use Rattle.model.specs.declared.notes.Note.TheVariants.{Reloaded, ReloadRefused}
@@ -22,10 +22,10 @@ pub record Reload : Type 0 where
 -- The reload was done, because there was no obstacle: what was offered is in force,
 -- each entry is marked as one that was in a queue then, and all else is unchanged.
 pub record IsDone (r : Reload) : Type 0 where
-  pub nothing : NothingStands r.config.topology r.offered r.before.broker
+  pub nothing : HasNoObstacle r.config.topology r.offered r.before.broker
   pub noted : r.notes ≡ Reloaded ∷ []
   pub in_force : r.in_force ≡ r.offered
-  pub broker : Is (with_all_stood r.before.broker) r.after.broker
+  pub broker : Is (with_all_survived r.before.broker) r.after.broker
   pub session : (c : ℕ) → r.after.session c ≡ r.before.session c
 
 -- The reload was refused for the first obstacle, which is noted, and nothing is different.
@@ -91,7 +91,7 @@ notes_over (o ∷ os) = noted_at o ++ notes_over os
 
 -- The broker is unchanged, or changed only in that each entry is marked as one that was in a queue when a reload was done.
 abbrev pub LeavesQueues : Broker → Broker → Type 0
-LeavesQueues old new = Is (with_all_stood old) new ⊎ (new ≡ old)
+LeavesQueues old new = Is (with_all_survived old) new ⊎ (new ≡ old)
 
 -- From `old` to `new`: each occurrence begins where the one before it ended, at each event
 -- every queue balances by the event's own notes, and a reload leaves each queue its messages.

@@ -14,4 +14,4 @@ pub record Message : Type 0 where
   pub content : Content
   pub redelivered : Bool
   -- Whether the message was in a queue when a reload was done.
-  pub stood : Bool
+  pub survived : Bool

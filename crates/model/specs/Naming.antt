@@ -18,7 +18,7 @@ pub record AreNamedOn (t : Topology) (ch : Channel) : Type 0 where
   pub queues : AllByRecursion (λ (k : Consumer). is_some (queue_named t.queues k.queue) ≡ true) ch.consumers
   -- The tag of each has a spelling, and no two have the same tag.
   pub spelled : AllByRecursion (λ (k : Consumer). length k.tag < 256) ch.consumers
-  pub apart : AllPairs (λ (a b : Consumer). bytes_eq a.tag b.tag ≡ false) ch.consumers
+  pub distinct : AllPairs (λ (a b : Consumer). bytes_eq a.tag b.tag ≡ false) ch.consumers
   -- Their numbers rise, and each is less than `next_number`, the number of the next consumer.
   pub rising : AllPairs (λ (a b : Consumer). a.number < b.number) ch.consumers
   pub before : AllByRecursion (λ (k : Consumer). k.number < ch.next_number) ch.consumers

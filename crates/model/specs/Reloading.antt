@@ -1,4 +1,4 @@
--- A reload, which puts another configuration in force: its obstacles, and what it leaves (own). Start with `IsObstacle` and `with_all_stood`.
+-- A reload, which puts another configuration in force: its obstacles, and what it leaves (own). Start with `IsObstacle` and `with_all_survived`.
 use Rattle.std.specs.Prelude.{◌≡◌, ◌<◌, ◌+◌, ℕ, map, Some, ◌⊎◌, true, Contains, slice_get}
 use Rattle.model.specs.Words.{Text}
 use Rattle.model.specs.Topology.{Topology, IsIn, queue_names}
@@ -80,7 +80,7 @@ IsObstacle old new b (InUse q) = IsFirstOrphaned old new.topology b q
 IsObstacle old new b (Breaks q key number) = NoneIsOrphaned old new.topology b × IsFirstDanger old new b q key number
 
 -- There is no obstacle to a reload.
-pub record NothingStands (old : Topology) (new : Config) (b : Broker) : Type 0 where
+pub record HasNoObstacle (old : Topology) (new : Config) (b : Broker) : Type 0 where
   pub none_stranded : NoneIsOrphaned old new.topology b
   pub none_endangered : (g : Guarantee) (q : Text) (e : Entry) → Contains new.guarantees g → IsIn q (queue_names old.queues) → IsIn e (b.queue q)
       → Endangers new.topology g q e.message → ⊥
@@ -88,9 +88,9 @@ pub record NothingStands (old : Topology) (new : Config) (b : Broker) : Type 0 w
 -- ---- what a reload leaves
 
 -- The entry, marked as one that was in a queue when a reload was done.
-abbrev pub stood_now : Entry → Entry
-stood_now e = record e { message = record e.message { stood = true } }
+abbrev pub survived_now : Entry → Entry
+survived_now e = record e { message = record e.message { survived = true } }
 
 -- The broker after a reload: each entry is marked as one that was in a queue then, and all else is unchanged.
-abbrev pub with_all_stood : Broker → Broker
-with_all_stood b = record b { queue = λ q. map stood_now (b.queue q) }
+abbrev pub with_all_survived : Broker → Broker
+with_all_survived b = record b { queue = λ q. map survived_now (b.queue q) }

@@ -18,7 +18,7 @@ last_sent (Again resent) = resent.value.last
 
 -- The message of one copy: `s` is shared, and the two marks are the copy's own.
 abbrev pub message_of : Shared → Bool → Bool → Message
-message_of s redelivered stood =
+message_of s redelivered survived =
     let first : Sent = first_sent s.sending in
     let last : Sent = last_sent s.sending in
     record {
@@ -29,5 +29,5 @@ message_of s redelivered stood =
       key = last.key;
       content = s.content;
       redelivered = redelivered;
-      stood = stood;
+      survived = survived;
     }

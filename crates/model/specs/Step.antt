@@ -379,7 +379,7 @@ message n p content = record {
   key = p.routing_key;
   content = content;
   redelivered = false;
-  stood = false;
+  survived = false;
 }
 
 -- Whether there is no queue: the publish is routed nowhere.

@@ -29,9 +29,9 @@ IsIn x [] = ⊥
 IsIn x (y ∷ ys) = (x ≡ y) ⊎ IsIn x ys
 
 -- No two of the names are the same.
-abbrev pub AreApart : List Text → Type 0
-AreApart [] = Unit {0}
-AreApart (x ∷ xs) = (IsIn x xs → ⊥) × AreApart xs
+abbrev pub AreDistinct : List Text → Type 0
+AreDistinct [] = Unit {0}
+AreDistinct (x ∷ xs) = (IsIn x xs → ⊥) × AreDistinct xs
 
 -- The exchange or queue is one of the topology.
 abbrev pub IsThere : Topology → Place → Type 0
@@ -41,9 +41,9 @@ IsThere t (place.Queue name) = IsIn name (queue_names t.queues)
 -- The topology is well-formed: the names of its queues are distinct; those of its exchanges are, too, and none is `""`, the default exchange's;
 -- each exchange and queue that it refers to exists; and queue names, dead-letter exchanges and dead-letter keys have at most 255 bytes.
 pub record IsWellFormed (t : Topology) : Type 0 where
-  pub queues_apart : AreApart (queue_names t.queues)
-  pub exchanges_apart : AreApart (exchange_names t.exchanges)
-  pub default_apart : IsIn [] (exchange_names t.exchanges) → ⊥
+  pub queues_distinct : AreDistinct (queue_names t.queues)
+  pub exchanges_distinct : AreDistinct (exchange_names t.exchanges)
+  pub none_is_default : IsIn [] (exchange_names t.exchanges) → ⊥
   pub sources : (b : Binding) → Contains t.bindings b → IsIn b.source (exchange_names t.exchanges)
   pub ends : (b : Binding) → Contains t.bindings b → IsThere t b.to
   pub alternates : (x : Exchange) (other : Text) → Contains t.exchanges x → x.alternate ≡ Some other → IsIn other (exchange_names t.exchanges)

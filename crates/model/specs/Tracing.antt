@@ -45,7 +45,7 @@ AreSafe t gs b = (q : Text) (e : Entry) → IsIn e (b.queue q) → (g : Guarante
 -- ---- what is true of the broker's messages, also through reloads
 
 -- The message may be in the queue `q`, under the configuration in force.
-pub record MayStand (f : Config) (q : Text) (m : Message) : Type 0 where
+pub record MayBeIn (f : Config) (q : Text) (m : Message) : Type 0 where
   -- The queue is one of the topology.
   pub housed : IsIn q (queue_names f.topology.queues)
   -- A publish can have the message's first key: it has at most 255 bytes.
@@ -53,17 +53,17 @@ pub record MayStand (f : Config) (q : Text) (m : Message) : Type 0 where
   -- No `never` guarantee that covers the message names a queue that the message can still reach by dead-lettering. Nor does one name
   -- the queue that the message is in, unless the message has been there since before the last reload.
   pub safe : (g : Guarantee) → Contains f.guarantees g → g.mode ≡ Never → Covers g m.first_exchange m.first_key
-      → (Later f.topology q m.key g.queue → ⊥) × (m.stood ≡ false → q ≢ g.queue)
+      → (Later f.topology q m.key g.queue → ⊥) × (m.survived ≡ false → q ≢ g.queue)
 
 -- What is true of the broker's messages, also through reloads.
 pub record AreKept (f : Config) (b : Broker) : Type 0 where
-  -- Each message is allowed to be in the queue that it is in (`MayStand`).
-  pub each : (q : Text) (e : Entry) → IsIn e (b.queue q) → MayStand f q e.message
+  -- Each message is allowed to be in the queue that it is in (`MayBeIn`).
+  pub each : (q : Text) (e : Entry) → IsIn e (b.queue q) → MayBeIn f q e.message
   -- Messages with the same publish number were first sent to the same exchange under the same key.
   pub alike : (q r : Text) (e d : Entry) → IsIn e (b.queue q) → IsIn d (b.queue r) → e.message.number ≡ d.message.number → AreSentAlike e.message d.message
 
 -- ---- before any reload
 
 -- No message was in a queue when a reload was done.
-abbrev pub NoneStood : Broker → Type 0
-NoneStood b = (q : Text) (e : Entry) → IsIn e (b.queue q) → e.message.stood ≡ false
+abbrev pub NoneSurvived : Broker → Type 0
+NoneSurvived b = (q : Text) (e : Entry) → IsIn e (b.queue q) → e.message.survived ≡ false

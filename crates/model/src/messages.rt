@@ -88,7 +88,7 @@ pub struct Message {
     shared: Arc<Shared>,
     redelivered: bool,
     /// Whether the message was in a queue when a reload was done.
-    stood: bool,
+    survived: bool,
 }
 
 /// Not derived: a derived drop is expanded, and proved again, in each function that drops the value.
@@ -97,7 +97,7 @@ impl Drop for Message {
         let Message {
             shared: _,
             redelivered: _,
-            stood: _,
+            survived: _,
         } = self;
     }
 }
@@ -108,7 +108,7 @@ impl Model for Message {
 
     ghost Value = { Seen };
 
-    ghost view = { λ m. message_of m.shared.value m.redelivered m.stood };
+    ghost view = { λ m. message_of m.shared.value m.redelivered m.survived };
 }
 
 impl Message {
@@ -137,7 +137,7 @@ impl Message {
             Ok(shared) => Ok(Message {
                 shared,
                 redelivered: false,
-                stood: false,
+                survived: false,
             }),
             Err(_) => Err(AllocError),
         }
@@ -163,7 +163,7 @@ impl Message {
             Ok(shared) => Ok(Message {
                 shared,
                 redelivered: false,
-                stood: false,
+                survived: false,
             }),
             Err(_) => Err(AllocError),
         }
@@ -194,7 +194,7 @@ impl Message {
         Ok(Message {
             shared: Arc::try_clone(&self.shared)?,
             redelivered: self.redelivered,
-            stood: self.stood,
+            survived: self.survived,
         })
     }
 
@@ -255,10 +255,10 @@ impl Message {
     }
 
     /// Marks it as a message that was in a queue when a reload was done.
-    pub fn stand(&mut self)
-        ensures { self.new ≡ record self.old { stood = true } }
+    pub fn mark_survived(&mut self)
+        ensures { self.new ≡ record self.old { survived = true } }
     {
-        self.stood = true;
+        self.survived = true;
     }
 }
 

@@ -66,8 +66,10 @@ impl Notes {
     /// Reserves capacity for `additional` more notes. Fails only if the allocation fails. If nobody keeps the notes, it allocates one
     /// block of no bytes.
     pub fn reserve_exact(&mut self, additional: usize) -> Result<(), AllocError>
+        // The frame, also after a failure: the notes are unchanged.
         ensures items { self.new.items ≡ self.old.items }
         ensures len { vec_len self.new ≡ vec_len self.old }
+        // The capacity: enough on success and never less than before; the call fails only if there was too little. Whether notes are kept stays.
         ensures ok { OnOk result (vec_len self.new + additional ≤ vec_capacity self.new) }
         ensures capacity { vec_capacity self.old ≤ vec_capacity self.new }
         ensures full { OnErr result (vec_capacity self.old < vec_len self.old + additional) }
@@ -82,8 +84,10 @@ impl Notes {
     /// Reserves capacity for `additional` more notes, and for some beyond, so that many calls copy each note only a few times. Fails only if
     /// the allocation fails. If nobody keeps the notes, it allocates one block of no bytes.
     pub fn reserve(&mut self, additional: usize) -> Result<(), AllocError>
+        // The frame, also after a failure: the notes are unchanged.
         ensures items { self.new.items ≡ self.old.items }
         ensures len { vec_len self.new ≡ vec_len self.old }
+        // The capacity: enough on success and never less than before; the call fails only if there was too little. Whether notes are kept stays.
         ensures ok { OnOk result (vec_len self.new + additional ≤ vec_capacity self.new) }
         ensures capacity { vec_capacity self.old ≤ vec_capacity self.new }
         ensures full { OnErr result (vec_capacity self.old < vec_len self.old + additional) }

@@ -6,11 +6,11 @@ use Rattle.outputs.specs.declared.room.Room.TheVariants.{Reply, Content}
 
 -- ---- sizes
 
--- The most bytes that an event's sends are spelled by if none has a content: one method, of at most 4,088 bytes.
+-- The most bytes that encode an event's sends if none has a content: one method, of at most 4,088 bytes.
 abbrev pub most_reply : ℕ
 most_reply = 4096
 
--- the most bytes that sends of this kind are spelled by
+-- the most bytes that encode sends of this kind
 abbrev pub room_of : Room → ℕ
 room_of Reply = most_reply
 room_of Content = most_sent
@@ -19,7 +19,7 @@ room_of Content = most_sent
 abbrev pub most_moved : ℕ
 most_moved = 65536
 
--- the bytes of a new storage; one for contents has room for the largest sends behind all that moves to it
+-- the size in bytes of a new storage; one for contents has room for the most bytes that move to it, and behind them for the largest sends
 abbrev pub storage_of : Room → ℕ
 storage_of Reply = most_moved
 storage_of Content = most_sent + most_moved
@@ -51,7 +51,7 @@ abbrev pub without_one : Room → SpareCounts → SpareCounts
 without_one Reply spares = record spares { replies = spares.replies - 1 }
 without_one Content spares = record spares { contents = spares.contents - 1 }
 
--- what a storage has to have room for to which these bytes move: if there are any, it is a large one
+-- the kind of storage to which these bytes move: a large one if there are any, otherwise one for `wanted`
 abbrev pub kind_for : Room → List ℕ → Room
 kind_for wanted bytes = if length bytes == 0 then wanted else Content
 
@@ -60,7 +60,7 @@ pub record IsWhole (spares : SpareCounts) : Type 0 where
   pub replies : reserve_of Reply ≤ spares.replies
   pub contents : reserve_of Content ≤ spares.contents
 
--- at most so many storages are spare
+-- at most `replies` storages for replies are spare, and at most `contents` for contents
 pub record AreAtMost (replies contents : ℕ) (spares : SpareCounts) : Type 0 where
   pub replies_most : spares.replies ≤ replies
   pub contents_most : spares.contents ≤ contents
@@ -89,7 +89,7 @@ pub record Storage : Type 0 where
   pub since : ℕ
   pub bytes : ℕ
 
--- the storage has at least so many bytes
+-- the storage has at least `bytes` bytes
 abbrev pub HasBytes : ℕ → Storage → Type 0
 HasBytes bytes s = bytes ≤ s.bytes
 

@@ -15,7 +15,7 @@ const MOST_SPARE: usize = 256;
 /// The number of storages that are kept however long nobody takes them.
 const AT_HAND: usize = 16;
 
-/// Of more than those, one is freed that nobody took while this many came back.
+/// If more than [`AT_HAND`] are kept, one that nobody took while this many came back is freed.
 const LONG: u64 = 1024;
 
 /// Spare storages for one kind of sends. The one that came back last is given first.
@@ -39,7 +39,7 @@ impl Model for Pool {
     ghost invariant = { λ p. (vec_len p.spares ≤ 256) × (256 ≤ vec_capacity p.spares) × AllByRecursion (HasBytes (storage_of p.kind)) p.spares.items };
 }
 
-/// Frees the first of all, if there are more than 16 and it has not been taken for long: 1,024 came back after it, of `count`.
+/// Frees the first of `all` if there are more than 16, and at least 1,024 storages came back after it. `count` have come back in all.
 fn free_unused(all: &mut Vec<Spare>, count: u64)
     // Whether one is freed.
     ensures few { vec_len all.old ≤ 16 → all.new ≡ all.old }
@@ -58,7 +58,7 @@ fn free_unused(all: &mut Vec<Spare>, count: u64)
     drop(all.remove(0));
 }
 
-/// Allocates a storage for sends of this kind, as one that came back when `since` had.
+/// Allocates a spare storage for sends of this kind. It counts as one that came back after `since` others.
 fn new_spare(alloc: Global, kind: Room, since: u64) -> Result<Spare, AllocError>
     ensures { IfOk result (λ s. s.bytes ≡ storage_of kind) }
 {
@@ -103,10 +103,12 @@ impl Pool {
 
     /// Allocates storages until as many are spare as the reserve has. If an allocation fails, those that were allocated are spare.
     pub(crate) fn hold(&mut self, alloc: Global) -> Result<(), AllocError>
+        // On success the reserve is spare, and no more unless there was more; a pool that has the reserve is unchanged and never fails.
         ensures whole { OnOk result (reserve_of self.old.kind ≤ self.new.count) }
         ensures few { self.old.count ≤ reserve_of self.old.kind → self.new.count ≤ reserve_of self.old.kind }
         ensures many { reserve_of self.old.kind ≤ self.old.count → self.new ≡ self.old }
         ensures full { OnErr result (self.old.count < reserve_of self.old.kind) }
+        // The frame, also after a failure: no spare storage is lost, and the kind stays.
         ensures least { self.old.count ≤ self.new.count }
         ensures kind { self.new.kind ≡ self.old.kind }
     {

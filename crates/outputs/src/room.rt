@@ -33,7 +33,8 @@ impl Room {
         }
     }
 
-    /// Returns the size in bytes of a new storage. Behind the small answers of a round it has room for one more event, so that it does not move.
+    /// Returns the size in bytes of a new storage. It has room for the small answers of a round and for one more event, so that the bytes need not
+    /// move.
     pub(crate) fn storage(self) -> usize
         ensures { result ≡ storage_of self }
     {
@@ -63,7 +64,7 @@ impl Room {
         }
     }
 
-    /// Returns what a storage has to have room for to which `waiting` bytes move: if there are any, it is a large one.
+    /// Returns the kind of storage to which `waiting` bytes move: a large one if there are any, otherwise one of this kind.
     pub(crate) fn for_bytes(self, waiting: usize) -> Room
         ensures { result ≡ (if waiting == 0 then self else room.Content) }
     {

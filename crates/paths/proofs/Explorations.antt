@@ -22,13 +22,13 @@ onto_back (edge {x = x} to e) (after last d c) = comes (dead last (x, here, e) d
 onto_back (dies {exchange = exchange} last d) o = after last d (onto_comes exchange o refl)
 
 -- back to where it was sent
-onto_first : (t : Topology) (key x q : Text) (visits : List Visit) → AreVisits t key x visits → (n i : ℕ) (v : Visit) → i < n → slice_get visits i ≡ Some v → Onto t key q (fixed_of t v.stand.fixed) (spot_place t v.stand.spot) → Comes t (of_key key) None x q
+onto_first : (t : Topology) (key x q : Text) (visits : List Visit) → AreVisits t key x visits → (n i : ℕ) (v : Visit) → i < n → slice_get visits i ≡ Some v → Onto t key q (fixed_of t v.location.fixed) (spot_place t v.location.spot) → Comes t (of_key key) None x q
 onto_first t key x q visits r zero i v h g o = absurd (omega (arith, h))
 onto_first t key x q visits r (suc n) zero v h g o =
     let f = r.first in
     let same : v ≡ f.0 = some_same (slice_get visits 0) v f.0 g f.1 in
-    let a = subst (λ (z : Visit). Onto t key q (fixed_of t z.stand.fixed) (spot_place t z.stand.spot)) same o in
-    let b : Comes t (of_key key) (fixed_of t f.0.stand.fixed) x q = onto_comes x a f.2 in
+    let a = subst (λ (z : Visit). Onto t key q (fixed_of t z.location.fixed) (spot_place t z.location.spot)) same o in
+    let b : Comes t (of_key key) (fixed_of t f.0.location.fixed) x q = onto_comes x a f.2 in
     subst (λ (z : Option Text). Comes t (of_key key) z x q) f.3 b
 onto_first t key x q visits r (suc n) (suc i) v h g o =
     let l = r.linked (suc i) v (omega arith) g in
@@ -69,10 +69,10 @@ exploring_first t x key spot rows rows' new h p a =
   where
     heads : IsAdded (record { spot = spot; fixed = None }) 0 [] new → (v : Visit) → IsIn v new → KeptOrFixed t v
     heads (inl k) v i = absurd (k.1.1)
-    heads (inr e) v i = elim (subst (λ (z : List Visit). IsIn v z) e i) [ inl s ↦ inl (ap (λ (z : Visit). z.stand.fixed) s) | inr z ↦ absurd z ]
+    heads (inr e) v i = elim (subst (λ (z : List Visit). IsIn v z) e i) [ inl s ↦ inl (ap (λ (z : Visit). z.location.fixed) s) | inr z ↦ absurd z ]
 
 -- a queue fixed the key, so it is not left
-pub goes_past : (t : Topology) (x key : Text) (at : ℕ) (rows : List (List Bool)) (visits : List Visit) (v : Visit) → at < length visits → slice_get visits at ≡ Some v → is_some v.stand.fixed ≡ true → Exploring t x key rows visits at
+pub goes_past : (t : Topology) (x key : Text) (at : ℕ) (rows : List (List Bool)) (visits : List Visit) (v : Visit) → at < length visits → slice_get visits at ≡ Some v → is_some v.location.fixed ≡ true → Exploring t x key rows visits at
     → GoesOn t x key at rows visits rows visits
 goes_past t x key at rows visits v h g f s = record {
   so_far = record {
@@ -84,7 +84,7 @@ goes_past t x key at rows visits v h g f s = record {
       | inl b ↦ s.left i w b e
       | inr b ↦ λ n. absurd (
           let same : w ≡ v = some_same (slice_get visits at) w v (subst (λ (j : ℕ). slice_get visits j ≡ Some w) b e) g in
-          let no : is_some v.stand.fixed ≡ false = ap (λ (z : Visit). is_some z.stand.fixed) (sym same) ∙ ap (λ (z : Option ℕ). is_some z) n in
+          let no : is_some v.location.fixed ≡ false = ap (λ (z : Visit). is_some z.location.fixed) (sym same) ∙ ap (λ (z : Option ℕ). is_some z) n in
           false≢true (sym no ∙ f))
     ]);
   };
@@ -94,14 +94,14 @@ goes_past t x key at rows visits v h g f s = record {
 now_left : (t : Topology) (key : Text) (at : ℕ) (rows rows' : List (List Bool)) (old new : List Visit) → (e : ExpandsVisit t key at rows old rows' new) → IsLeft t key new e.visit
 now_left t key at rows rows' old new e n = now_visited t key at rows rows' old new e
 
-heads_then : (t : Topology) (key : Text) (at : ℕ) (rows rows' : List (List Bool)) (old new : List Visit) → (e : ExpandsVisit t key at rows old rows' new) → e.visit.stand.fixed ≡ None → ((v : Visit) → IsIn v old → KeptOrFixed t v)
+heads_then : (t : Topology) (key : Text) (at : ℕ) (rows rows' : List (List Bool)) (old new : List Visit) → (e : ExpandsVisit t key at rows old rows' new) → e.visit.location.fixed ≡ None → ((v : Visit) → IsIn v old → KeptOrFixed t v)
     → (v : Visit) → IsIn v new → KeptOrFixed t v
 heads_then t key at rows rows' old new e n f v i = elim (in_append old e.grows.more v (subst (λ (z : List Visit). IsIn v z) e.grows.is i)) [
   | inl k ↦ f v k
-  | inr k ↦ (elim (e.next.heads v.stand (e.grows.only v k).1) [ inl s ↦ inl (s ∙ n) | inr r ↦ inr r ])
+  | inr k ↦ (elim (e.next.heads v.location (e.grows.only v k).1) [ inl s ↦ inl (s ∙ n) | inr r ↦ inr r ])
 ]
 
-pub goes_then : (t : Topology) (x key : Text) (at : ℕ) (rows rows' : List (List Bool)) (old new : List Visit) → at < length old → Exploring t x key rows old at → (e : ExpandsVisit t key at rows old rows' new) → e.visit.stand.fixed ≡ None
+pub goes_then : (t : Topology) (x key : Text) (at : ℕ) (rows rows' : List (List Bool)) (old new : List Visit) → at < length old → Exploring t x key rows old at → (e : ExpandsVisit t key at rows old rows' new) → e.visit.location.fixed ≡ None
     → GoesOn t x key at rows old rows' new
 goes_then t x key at rows rows' old new h s e f = record {
   so_far = record {
@@ -135,6 +135,7 @@ goes_fewer t x key at rows rows' old new h g =
 pub all_explored : (t : Topology) (x key : Text) (rows : List (List Bool)) (visits : List Visit) (count : ℕ) → Exploring t x key rows visits count → length visits ≤ count → AreExplored t x key visits
 all_explored t x key rows visits count s h = record {
   there = s.traced.there;
+  steps = inr s.traced;
   begun = (let f = s.traced.first in inl (record { visit = f.0; is_in = get_is_in visits 0 f.0 f.1; place = f.2; fixed = f.3 }));
   heads = s.heads;
   left = λ v m. (let i = in_at visits v m in s.left i.0 v (let k = i.1 in omega (arith, k, h)) i.2);
@@ -145,6 +146,7 @@ all_explored t x key rows visits count s h = record {
 pub nothing_explored : (t : Topology) (x key : Text) → (x ≡ [] → ⊥) → (IsIn x (exchange_names t.exchanges) → ⊥) → AreExplored t x key []
 nothing_explored t x key some absent = record {
   there = λ v m. absurd m;
+  steps = inl refl;
   begun = inr (λ q c. comes_nowhere some absent c);
   heads = λ v m. absurd m;
   left = λ v m. absurd m;
@@ -157,7 +159,7 @@ pub data Trail (t : Topology) (q : Text) : ℕ → Text → Text → Type 0 wher
   ends : {n : ℕ} {key x : Text} → RoutesBy t (of_key key) x q → Trail t q n key x
   goes : {n : ℕ} {key x p exchange : Text} (last : DeclaredQueue) → RoutesBy t (of_key key) x p → Dies t p exchange last → Trail t q n (key_after last.dead_letter_key key) exchange → Trail t q (suc n) key x
 
-as_read : (f : Option Text) (key : Text) → reading_after f (of_key key) ≡ of_key (key_after f key)
+pub as_read : (f : Option Text) (key : Text) → reading_after f (of_key key) ≡ of_key (key_after f key)
 as_read None key = refl
 as_read (Some k) key = refl
 
@@ -182,9 +184,9 @@ trail_comes t {q = q} (goes {key = key} {exchange = exchange} last ro d w) =
 
 -- a way to the queue leads out of what was explored where the key is fixed, or ends in it
 module _ (t : Topology) (x key q : Text) (visits : List Visit) (e : AreExplored t x key visits) (G : Type 0) (limit : ℕ)
-    (hit : (v : Visit) → IsIn v visits → v.stand.fixed ≡ None → spot_place t v.stand.spot ≡ place.Queue q → G)
-    (out : (m : ℕ) (v : Visit) → m < limit → IsIn v visits → (r : IsRefixed t v.stand) → Trail t q m r.key r.exchange → G) where
-  kept_key : (v : Visit) → IsIn v visits → fixed_of t v.stand.fixed ≡ None → v.stand.fixed ≡ None
+    (hit : (v : Visit) → IsIn v visits → v.location.fixed ≡ None → spot_place t v.location.spot ≡ place.Queue q → G)
+    (out : (m : ℕ) (v : Visit) → m < limit → IsIn v visits → (r : IsRefixed t v.location) → Trail t q m r.key r.exchange → G) where
+  kept_key : (v : Visit) → IsIn v visits → fixed_of t v.location.fixed ≡ None → v.location.fixed ≡ None
   kept_key v i n = elim (e.heads v i) [
     | inl s ↦ s
     | inr r ↦ absurd (let h : Some r.key ≡ None = sym (refixed_key t r.queue r.exchange r.key r.fixes) ∙ ap (fixed_of t) (sym r.fixed) ∙ n in cc)
@@ -192,7 +194,7 @@ module _ (t : Topology) (x key q : Text) (visits : List Visit) (e : AreExplored 
 
   next_met : {fixed' : Option Text} {from to : Place} → IsVisitedAt t visits None from → Next t key None from fixed' to → IsVisitedAt t visits fixed' to
   next_met {fixed'} {from} {to} m n =
-      e.left m.visit m.is_in (kept_key m.visit m.is_in m.fixed) fixed' to (subst (λ (z : Option Text). Next t key z (spot_place t m.visit.stand.spot) fixed' to) (sym m.fixed) (subst (λ (z : Place). Next t key None z fixed' to) (sym m.place) n))
+      e.left m.visit m.is_in (kept_key m.visit m.is_in m.fixed) fixed' to (subst (λ (z : Option Text). Next t key z (spot_place t m.visit.location.spot) fixed' to) (sym m.fixed) (subst (λ (z : Place). Next t key None z fixed' to) (sym m.place) n))
 
   leads_met : {y z : Text} → Leads t (of_key key) y z → IsVisitedAt t visits None (place.Exchange y) → IsVisitedAt t visits None (place.Exchange z)
   leads_met here m = m

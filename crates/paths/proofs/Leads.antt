@@ -1,16 +1,16 @@
 -- What leads to a queue is what chains of links lead to from it.
-use Rattle.paths.proofs.Names.{◌≡◌, ℕ, zero, suc, ◌+◌, ◌<◌, ◌≤◌, List, [], ◌∷◌, ◌++◌, Bool, true, refl, sym, ap, ◌∙◌, subst, length, take, get_or, inl, inr, Option, Some, None, arith, Decides, slice_get, false≢true, take_all, take_more, Text, Topology, IsIn, of_key, Comes, Place, comes_fixed, IsSet, Hop, Stand, Visit, AreReached, Chain, LinksAreWithin, still, along, fixed_of, spot_place, IsRefixed, Refixes, AreExplored, Onto, there, comes, AddsFront, AddsLink, AreLeading, AreLinked, ComesAfter, IsFront, IsLeading, IsSource, LinkHolds, LinksAll, SomeLeads, links_from, in_get}
+use Rattle.paths.proofs.Names.{◌≡◌, ℕ, zero, suc, ◌+◌, ◌<◌, ◌≤◌, List, [], ◌∷◌, ◌++◌, Bool, true, refl, sym, ap, ◌∙◌, subst, length, take, get_or, inl, inr, Option, Some, None, arith, Decides, slice_get, false≢true, take_all, take_more, Text, Topology, IsIn, of_key, Comes, Place, comes_fixed, IsSet, Hop, Location, Visit, AreReached, Chain, LinksAreWithin, still, along, fixed_of, spot_place, IsRefixed, Refixes, AreExplored, Onto, there, comes, AddsFront, AddsLink, AreLeading, AreLinked, ComesAfter, IsFront, IsLeading, IsSource, LinkHolds, LinksAll, SomeLeads, links_from, in_get}
 use Rattle.std.proofs.Common.{false}
 use Rattle.model.specs.declared.topologies.Place.TheVariants as place
 use Rattle.laws.proofs.Counts.{in_front, in_back, in-append}
-use Rattle.paths.specs.Leading.{Leads as Stands}
+use Rattle.paths.specs.Leading.{Leads as Locations}
 use Rattle.paths.proofs.Traced.{below_or, in_at}
 use Rattle.paths.proofs.Chains.{chain_on}
 use Rattle.paths.proofs.Explorations.{Trail, refixed_key, refixed_once, refixed_within, trail_comes, trail_of, walk}
 
 -- ---- what a stand adds
 
-same_source : (t : Topology) (q : Text) (s : Stand) (o : Option ℕ) (n : ℕ) → IsSource t q s o → IsSource t q s (Some n) → o ≡ Some n
+same_source : (t : Topology) (q : Text) (s : Location) (o : Option ℕ) (n : ℕ) → IsSource t q s o → IsSource t q s (Some n) → o ≡ Some n
 same_source t q s None n a (inl e) = absurd (let h : None ≡ Some n = sym a.0 ∙ e in cc)
 same_source t q s None n a (inr b) = absurd (a.1 b.2)
 same_source t q s (Some m) n (inl d) (inl e) = sym d ∙ e
@@ -19,9 +19,9 @@ same_source t q s (Some m) n (inr a) (inl e) = absurd (let h : None ≡ Some n =
 same_source t q s (Some m) n (inr a) (inr b) = ap (λ (z : ℕ). Some z) (a.1 ∙ sym b.1)
 
 -- from what was explored a message comes to the queue where what it adds leads there
-pub source_comes : (t : Topology) (q x key : Text) (visits : List Visit) (v : Visit) (n : ℕ) → AreExplored t x key visits → IsIn v visits → IsSource t q v.stand (Some n) → IsLeading t q n → Comes t (of_key key) None x q
+pub source_comes : (t : Topology) (q x key : Text) (visits : List Visit) (v : Visit) (n : ℕ) → AreExplored t x key visits → IsIn v visits → IsSource t q v.location (Some n) → IsLeading t q n → Comes t (of_key key) None x q
 source_comes t q x key visits v n e i (inr s) l =
-    e.sound q v i (subst (λ (z : Place). Onto t key q (fixed_of t v.stand.fixed) z) (sym s.2) there)
+    e.sound q v i (subst (λ (z : Place). Onto t key q (fixed_of t v.location.fixed) z) (sym s.2) there)
 source_comes t q x key visits v n e i (inl s) l = elim (e.heads v i) [
   | inl k ↦ absurd (let h : None ≡ Some n = sym k ∙ s in cc)
   | inr r ↦ (
@@ -33,15 +33,15 @@ source_comes t q x key visits v n e i (inl s) l = elim (e.heads v i) [
       ])
 ]
   where
-    from : (r : IsRefixed t v.stand) → (a : ComesAfter t q n) → Refixes t n r.exchange r.key → r.queue ≡ n → Comes t (of_key key) None x q
+    from : (r : IsRefixed t v.location) → (a : ComesAfter t q n) → Refixes t n r.exchange r.key → r.queue ≡ n → Comes t (of_key key) None x q
     from r a f same =
         let one = refixed_once t n a.exchange a.key r.exchange r.key a.fixes f in
         let c : Comes t (of_key key) (Some a.key) a.exchange q = comes_fixed t (Some a.key) key {h = None} a.comes in
-        let k : Some a.key ≡ fixed_of t v.stand.fixed = ap (λ (z : Text). Some z) one.1 ∙ sym (key_of r) in
-        let p : place.Exchange a.exchange ≡ spot_place t v.stand.spot = ap (λ (z : Text). place.Exchange z) one.0 ∙ sym r.place in
-        e.sound q v i (subst (λ (z : Place). Onto t key q (fixed_of t v.stand.fixed) z) p (subst (λ (z : Option Text). Onto t key q z (place.Exchange a.exchange)) k (comes c)))
+        let k : Some a.key ≡ fixed_of t v.location.fixed = ap (λ (z : Text). Some z) one.1 ∙ sym (key_of r) in
+        let p : place.Exchange a.exchange ≡ spot_place t v.location.spot = ap (λ (z : Text). place.Exchange z) one.0 ∙ sym r.place in
+        e.sound q v i (subst (λ (z : Place). Onto t key q (fixed_of t v.location.fixed) z) p (subst (λ (z : Option Text). Onto t key q z (place.Exchange a.exchange)) k (comes c)))
       where
-        key_of : (r : IsRefixed t v.stand) → fixed_of t v.stand.fixed ≡ Some r.key
+        key_of : (r : IsRefixed t v.location) → fixed_of t v.location.fixed ≡ Some r.key
         key_of r = ap (fixed_of t) r.fixed ∙ refixed_key t r.queue r.exchange r.key r.fixes
 
 -- ---- link by link
@@ -54,21 +54,21 @@ in_links None to l i = absurd i
 in_links (Some n) to l (inl e) = (n, refl, e)
 in_links (Some n) to l (inr i) = absurd i
 
-links_then : (t : Topology) (q : Text) (visits : List Visit) (v : Visit) (to : ℕ) (old mid new : List Hop) → LinksAll t q visits to old mid → AddsLink t q v.stand to mid new → LinksAll t q (visits ++ v ∷ []) to old new
+links_then : (t : Topology) (q : Text) (visits : List Visit) (v : Visit) (to : ℕ) (old mid new : List Hop) → LinksAll t q visits to old mid → AddsLink t q v.location to mid new → LinksAll t q (visits ++ v ∷ []) to old new
 links_then t q visits v to old mid new a b = record {
   kept = λ l i. grown l (a.kept l i);
   only = λ l i. (elim (in-append l mid (links_from b.0 to) (subst (λ (z : List Hop). IsIn l z) b.2 i)) [
     | inl j ↦ (elim (a.only l j) [ inl k ↦ inl k | inr k ↦ inr (k.0, in_front k.0 visits (v ∷ []) k.1, k.2, k.3) ])
     | inr j ↦ (
         let r = in_links b.0 to l j in
-        let s : IsSource t q v.stand (Some r.0) = subst (λ (o : Option ℕ). IsSource t q v.stand o) r.1 b.1 in
-        inr (v, in_back v visits (v ∷ []) (inl refl), ap (λ (z : Hop). z.to) r.2, subst (λ (m : ℕ). IsSource t q v.stand (Some m)) (sym (ap (λ (z : Hop). z.from) r.2)) s))
+        let s : IsSource t q v.location (Some r.0) = subst (λ (o : Option ℕ). IsSource t q v.location o) r.1 b.1 in
+        inr (v, in_back v visits (v ∷ []) (inl refl), ap (λ (z : Hop). z.to) r.2, subst (λ (m : ℕ). IsSource t q v.location (Some m)) (sym (ap (λ (z : Hop). z.from) r.2)) s))
   ]);
   all = λ w n i s. (elim (in-append w visits (v ∷ []) i) [
     | inl j ↦ grown (record { from = n; to = to }) (a.all w n j s)
     | inr j ↦ (elim j [
       | inl e ↦ (
-          let o : b.0 ≡ Some n = same_source t q v.stand b.0 n b.1 (subst (λ (z : Visit). IsSource t q z.stand (Some n)) e s) in
+          let o : b.0 ≡ Some n = same_source t q v.location b.0 n b.1 (subst (λ (z : Visit). IsSource t q z.location (Some n)) e s) in
           subst (λ (z : List Hop). IsIn (record { from = n; to = to }) z) (sym b.2)
           (in_back (record { from = n; to = to }) mid (links_from b.0 to) (subst (λ (z : Option ℕ). IsIn (record { from = n; to = to }) (links_from z to)) (sym o) (inl refl))))
       | inr z ↦ absurd z
@@ -79,7 +79,7 @@ links_then t q visits v to old mid new a b = record {
     grown : (l : Hop) → IsIn l mid → IsIn l new
     grown l i = subst (λ (z : List Hop). IsIn l z) (sym b.2) (in_front l mid (links_from b.0 to) i)
 
-pub links_more : (t : Topology) (q : Text) (visits : List Visit) (i : ℕ) (d : Visit) (to : ℕ) (old mid new : List Hop) → i < length visits → LinksAll t q (take i visits) to old mid → AddsLink t q (get_or visits i d).stand to mid new
+pub links_more : (t : Topology) (q : Text) (visits : List Visit) (i : ℕ) (d : Visit) (to : ℕ) (old mid new : List Hop) → i < length visits → LinksAll t q (take i visits) to old mid → AddsLink t q (get_or visits i d).location to mid new
     → LinksAll t q (take (i + 1) visits) to old new
 links_more t q visits i d to old mid new h a b =
     subst (λ (z : List Visit). LinksAll t q z to old new) (sym (take_more visits i d h)) (links_then t q (take i visits) (get_or visits i d) to old mid new a b)
@@ -97,7 +97,7 @@ front_linked t q at exchange key visits old new r e a = record {
       subst (λ (z : Text). IsFront t q at z k new) one.0 (subst (λ (z : Text). IsFront t q at exchange z new) one.1 (record { visits = visits; explored = e; linked = λ v n i s. a.all v n i s })));
 }
   where
-    inside : (l : Hop) (v : Visit) → IsIn v visits → IsSource t q v.stand (Some l.from) → l.from < length t.queues + 1
+    inside : (l : Hop) (v : Visit) → IsIn v visits → IsSource t q v.location (Some l.from) → l.from < length t.queues + 1
     inside l v i (inl s) = elim (e.heads v i) [
       | inl k ↦ absurd (let h : None ≡ Some l.from = sym k ∙ s in cc)
       | inr p ↦ (
@@ -108,7 +108,7 @@ front_linked t q at exchange key visits old new r e a = record {
     ]
     inside l v i (inr s) = let k = s.1 in omega (arith, k)
 
-    holds : (l : Hop) (v : Visit) → IsIn v visits → l.to ≡ at → IsSource t q v.stand (Some l.from) → LinkHolds t q l
+    holds : (l : Hop) (v : Visit) → IsIn v visits → l.to ≡ at → IsSource t q v.location (Some l.from) → LinkHolds t q l
     holds l v i s o = record {
       from = inside l v i o;
       to = (let w = refixed_within t at exchange key r in omega (arith, w, s));
@@ -196,15 +196,15 @@ some_tells t q x key visits marks e a yes' d = (λ y. to (d.0 y), λ c. d.1 (fro
 
 -- none before this place adds what is marked
 abbrev pub NoneLeads : Topology → Text → List Visit → List Bool → ℕ → Type 0
-NoneLeads t q visits marks n = (i : ℕ) (v : Visit) → i < n → slice_get visits i ≡ Some v → Stands t q v.stand marks → ⊥
+NoneLeads t q visits marks n = (i : ℕ) (v : Visit) → i < n → slice_get visits i ≡ Some v → Locations t q v.location marks → ⊥
 
-pub one_leads : (t : Topology) (q : Text) (visits : List Visit) (marks : List Bool) (i : ℕ) (d : Visit) → i < length visits → Stands t q (get_or visits i d).stand marks → Decides true (SomeLeads t q visits marks)
+pub one_leads : (t : Topology) (q : Text) (visits : List Visit) (marks : List Bool) (i : ℕ) (d : Visit) → i < length visits → Locations t q (get_or visits i d).location marks → Decides true (SomeLeads t q visits marks)
 one_leads t q visits marks i d h s = (λ e. (get_or visits i d, in_get visits i d h, s), λ m. refl)
 
-pub none_more : (t : Topology) (q : Text) (visits : List Visit) (marks : List Bool) (n : ℕ) (d : Visit) (yes' : Bool) → NoneLeads t q visits marks n → Decides yes' (Stands t q (get_or visits n d).stand marks) → yes' ≡ false → NoneLeads t q visits marks (n + 1)
+pub none_more : (t : Topology) (q : Text) (visits : List Visit) (marks : List Bool) (n : ℕ) (d : Visit) (yes' : Bool) → NoneLeads t q visits marks n → Decides yes' (Locations t q (get_or visits n d).location marks) → yes' ≡ false → NoneLeads t q visits marks (n + 1)
 none_more t q visits marks n d yes' k a f i v h g s = elim (below_or i n h) [
   | inl b ↦ k i v b g s
-  | inr e ↦ false≢true (sym f ∙ a.1 (subst (λ (z : Visit). Stands t q z.stand marks) (sym (at_get visits n d v (subst (λ (j : ℕ). slice_get visits j ≡ Some v) e g))) s))
+  | inr e ↦ false≢true (sym f ∙ a.1 (subst (λ (z : Visit). Locations t q z.location marks) (sym (at_get visits n d v (subst (λ (j : ℕ). slice_get visits j ≡ Some v) e g))) s))
 ]
   where
     at_get : (xs : List Visit) (i : ℕ) (d v : Visit) → slice_get xs i ≡ Some v → get_or xs i d ≡ v

@@ -9,3 +9,4 @@ pub mod Fronts
 pub mod Leads
 pub mod Walks
 pub mod Among
+pub mod Following

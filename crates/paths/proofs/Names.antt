@@ -15,18 +15,18 @@ pub use Rattle.model.specs.declared.topologies.Place.{Place}
 pub use Rattle.paths.specs.Deaths.{AreDeaths, AreFronts, IsDeathOf, IsFrontAt}
 pub use Rattle.paths.specs.Exploring.{AreExplored, Exploring, GoesOn, IsExploration, IsLeft, KeptOrFixed, Onto, after, comes, there}
 pub use Rattle.paths.specs.Found.{ExpandsVisit}
-pub use Rattle.paths.specs.Keyed.{Adds, AddsAll, AreOneOn, LeadsDead, NextStand, SomeGoesOn, WalksOn, into, is_queue}
+pub use Rattle.paths.specs.Keyed.{Adds, AddsAll, AreOneOn, LeadsDead, NextLocation, SomeGoesOn, WalksOn, into, is_queue}
 pub use Rattle.paths.specs.Leading.{AddsFront, AddsLink, AreLeading, AreLinked, ComesAfter, IsFront, IsLeading, IsSource, LinkHolds, LinksAll, SomeLeads, links_from}
-pub use Rattle.paths.specs.Onward.{AreNext, Fixes, Follows, IsRefixed, Next, Refixes, stand_at}
+pub use Rattle.paths.specs.Onward.{AreNext, Fixes, Follows, IsRefixed, Next, Refixes, location_at}
 pub use Rattle.paths.specs.Reach.{AreReached, Chain, IsLinkPending, LinksAreWithin, MarksBegin, along, still}
 pub use Rattle.paths.specs.Rows.{IsRow, MarksColumn, RowIsOpened, Sets, left, left_all}
-pub use Rattle.paths.specs.Stands.{IsFixedThere, IsSpotThere, IsStandThere, end_spot, fixed_keys, fixed_of, spot_place}
-pub use Rattle.paths.specs.Visits.{AddsVisit, AreVisits, IsAdded, IsDone, IsVisited, IsVisitedAt, Searching, StandIsMarked, VisitsAreKept, VisitsGrow, column_of, row_of, width}
+pub use Rattle.paths.specs.Locations.{IsFixedThere, IsSpotThere, IsLocationThere, end_spot, fixed_keys, fixed_of, spot_place}
+pub use Rattle.paths.specs.Visits.{AddsVisit, AreVisits, IsAdded, IsDone, IsVisited, IsVisitedAt, Searching, LocationIsMarked, VisitsAreKept, VisitsGrow, column_of, row_of, width}
 pub use Rattle.paths.specs.declared.keyed.KeyedPlace.{KeyedPlace}
 pub use Rattle.paths.specs.declared.keyed.KeyedPlace.TheVariants.{Queue}
 pub use Rattle.paths.specs.declared.reach.Hop.{Hop}
-pub use Rattle.paths.specs.declared.stands.Spot.{Spot}
-pub use Rattle.paths.specs.declared.stands.Stand.{Stand}
+pub use Rattle.paths.specs.declared.locations.Spot.{Spot}
+pub use Rattle.paths.specs.declared.locations.Location.{Location}
 pub use Rattle.paths.specs.declared.visits.Visit.{Visit}
 pub use Rattle.std.proofs.Common.{Bool, List, None, Option, Some, [], ap, append_assoc, arith, cond, drop, get_or, inl, inr, length, length-append, map, refl, reverse, rules, set, subst, suc, sym, take, true, zero, ℕ, ◌++◌, ◌+◌, ◌-◌, ◌<◌, ◌∙◌, ◌∷◌, ◌≡◌, ◌≤◌}
 pub use Rattle.std.proofs.lemmas.Bool.{false≢true}

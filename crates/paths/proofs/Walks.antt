@@ -1,5 +1,5 @@
 -- How a message goes along a path of names.
-use Rattle.paths.proofs.Names.{◌≡◌, ℕ, ◌+◌, ◌<◌, List, [], ◌∷◌, Bool, true, refl, sym, ap, ◌∙◌, subst, length, drop, get_or, inl, inr, Option, Some, None, ◌↔◌, Decides, ◌||◌, ◌&&◌, list_any, drop_more, Text, Topology, IsIn, of_key, Edge, reading_after, fixed_after, key_after, Walk, ends, name_of, Place, KeyedPlace, Queue, WalksOn, SomeGoesOn, NextStand, into, AreOneOn, is_queue}
+use Rattle.paths.proofs.Names.{◌≡◌, ℕ, ◌+◌, ◌<◌, List, [], ◌∷◌, Bool, true, refl, sym, ap, ◌∙◌, subst, length, drop, get_or, inl, inr, Option, Some, None, ◌↔◌, Decides, ◌||◌, ◌&&◌, list_any, drop_more, Text, Topology, IsIn, of_key, Edge, reading_after, fixed_after, key_after, Walk, ends, name_of, Place, KeyedPlace, Queue, WalksOn, SomeGoesOn, NextLocation, into, AreOneOn, is_queue}
 use Rattle.std.proofs.Common.{false}
 use Rattle.model.specs.Refutations.{edge, dies}
 use Rattle.model.specs.declared.topologies.Place.TheVariants as place
@@ -29,7 +29,7 @@ same_key (Some c) k = refl
 
 -- ---- one step
 
-pub step_on : (t : Topology) (q name next : Text) (rest : List Text) (s s' : KeyedPlace) → NextStand t name next s s' → WalksOn t q next rest s' → WalksOn t q name (next ∷ rest) s
+pub step_on : (t : Topology) (q name next : Text) (rest : List Text) (s s' : KeyedPlace) → NextLocation t name next s s' → WalksOn t q next rest s' → WalksOn t q name (next ∷ rest) s
 step_on t q name next rest s s' (on l) w = edge (place.Exchange next) l w next refl
 step_on t q name next rest s s' (into l) w = edge (place.Queue next) l w next refl
 step_on t q name next rest s s' (dead {key} last d) w = dies last d (by_key (key_after last.dead_letter_key key) key (fixed_after last.dead_letter_key None) (sym (same_key last.dead_letter_key key)) w)
@@ -37,7 +37,7 @@ step_on t q name next rest s s' (dead {key} last d) w = dies last d (by_key (key
 -- what a walk does first
 pub record Goes (t : Topology) (q name next : Text) (rest : List Text) (s : KeyedPlace) : Type 0 where
   pub to : KeyedPlace
-  pub is_next : NextStand t name next s to
+  pub is_next : NextLocation t name next s to
   pub goes : WalksOn t q next rest to
 
 from_exchange : (t : Topology) (q name next key : Text) (rest : List Text) (to : Place) → next ≡ name_of to → Edge t (of_key key) name to → Walk t (of_key key) q None to rest → Goes t q name next rest (Exchange key)

@@ -1,4 +1,4 @@
-pub mod Stands
+pub mod Locations
 pub mod Onward
 pub mod Rows
 pub mod Visits
@@ -8,3 +8,4 @@ pub mod Exploring
 pub mod Deaths
 pub mod Leading
 pub mod Keyed
+pub mod Along

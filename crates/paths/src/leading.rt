@@ -4,7 +4,7 @@ ghost use Rattle.std.specs.Prelude.{◌≡◌, ◌<◌, ◌+◌, Decides, IfOk, 
 ghost use Rattle.model.specs.Words.{Text};
 ghost use Rattle.model.specs.Topology.{IsIn, Topology as Seen};
 ghost use Rattle.model.specs.Routing.{Comes, of_key};
-ghost use Rattle.paths.specs.Stands.{IsStandThere};
+ghost use Rattle.paths.specs.Locations.{IsLocationThere};
 ghost use Rattle.paths.specs.Onward.{Refixes};
 ghost use Rattle.paths.specs.Exploring.{AreExplored, IsExploration};
 ghost use Rattle.paths.specs.Deaths.{AreDeaths};
@@ -12,8 +12,8 @@ ghost use Rattle.paths.specs.Leading.{AddsFront, AddsLink, AreLeading, AreLinked
 
 use crate::deaths::Deaths;
 use crate::explored::Explored;
+use crate::locations::{Location, is_queue};
 use crate::reach::{Hop, reached};
-use crate::stands::{Stand, is_queue};
 use crate::visits::Visit;
 use exchange_graph::Topology;
 use std::alloc::{AllocError, Global};
@@ -34,32 +34,33 @@ impl Model for Leading {
     ghost view = { λ l. l.marks.items };
 }
 
-/// Returns the index of the queue that set the key of `stand`. If none did, returns the number of all queues for a stand in `queue`, otherwise `None`.
-fn source_of(topology: &Topology, queue: &[u8], stand: Stand) -> Option<usize>
-    requires { IsStandThere topology.now stand }
-    ensures { IsSource topology.now queue.now stand result }
+/// Returns the index of the queue that set the key of `location`. If none did, returns the number of all queues for a location in `queue`, otherwise
+/// `None`.
+fn source_of(topology: &Topology, queue: &[u8], location: Location) -> Option<usize>
+    requires { IsLocationThere topology.now location }
+    ensures { IsSource topology.now queue.now location result }
 {
-    if stand.fixed.is_some() {
-        return stand.fixed;
+    if location.fixed.is_some() {
+        return location.fixed;
     }
-    if is_queue(topology, stand.spot, queue) {
+    if is_queue(topology, location.spot, queue) {
         return Some(topology.queues().len());
     }
     None
 }
 
-/// Adds the link from the source of `stand`, if it has one, to index `to`.
+/// Adds the link from the source of `location`, if it has one, to index `to`.
 fn link(
     links: &mut Vec<Hop>,
     topology: &Topology,
     queue: &[u8],
-    stand: Stand,
+    location: Location,
     to: usize,
 ) -> Result<(), AllocError>
-    requires { IsStandThere topology.now stand }
-    ensures { OnOk result (AddsLink topology.now queue.now stand to links.old.items links.new.items) }
+    requires { IsLocationThere topology.now location }
+    ensures { OnOk result (AddsLink topology.now queue.now location to links.old.items links.new.items) }
 {
-    if let Some(from) = source_of(topology, queue, stand) {
+    if let Some(from) = source_of(topology, queue, location) {
         links.push(Hop { from, to })?;
     }
     Ok(())
@@ -73,11 +74,11 @@ fn link_all(
     visits: &[Visit],
     to: usize,
 ) -> Result<(), AllocError>
-    requires { (v : Visit) → IsIn v visits.now → IsStandThere topology.now v.stand }
+    requires { (v : Visit) → IsIn v visits.now → IsLocationThere topology.now v.location }
     ensures { OnOk result (LinksAll topology.now queue.now visits.now to links.old.items links.new.items) }
 {
     for visit in visits {
-        link(links, topology, queue, visit.stand, to)?;
+        link(links, topology, queue, visit.location, to)?;
     }
     Ok(())
 }
@@ -118,13 +119,13 @@ fn all_links(
     Ok(links)
 }
 
-/// Returns whether the source of `stand` is marked.
-fn leads(topology: &Topology, queue: &[u8], stand: Stand, marks: &[bool]) -> bool
-    requires there { IsStandThere topology.now stand }
+/// Returns whether the source of `location` is marked.
+fn leads(topology: &Topology, queue: &[u8], location: Location, marks: &[bool]) -> bool
+    requires there { IsLocationThere topology.now location }
     requires size { length marks.now ≡ length topology.now.queues + 1 }
-    ensures { Decides result (Leads topology.now queue.now stand marks.now) }
+    ensures { Decides result (Leads topology.now queue.now location marks.now) }
 {
-    match source_of(topology, queue, stand) {
+    match source_of(topology, queue, location) {
         Some(from) => marks[from],
         None => false,
     }
@@ -132,12 +133,12 @@ fn leads(topology: &Topology, queue: &[u8], stand: Stand, marks: &[bool]) -> boo
 
 /// Returns whether the source of one of `visits` is marked.
 fn some_leads(topology: &Topology, queue: &[u8], visits: &[Visit], marks: &[bool]) -> bool
-    requires there { (v : Visit) → IsIn v visits.now → IsStandThere topology.now v.stand }
+    requires there { (v : Visit) → IsIn v visits.now → IsLocationThere topology.now v.location }
     requires size { length marks.now ≡ length topology.now.queues + 1 }
     ensures { Decides result (SomeLeads topology.now queue.now visits.now marks.now) }
 {
     for visit in visits {
-        if leads(topology, queue, visit.stand, marks) {
+        if leads(topology, queue, visit.location, marks) {
             return true;
         }
     }

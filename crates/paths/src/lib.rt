@@ -4,19 +4,21 @@
 //! from the exchange up to the queue. To find what leads to a queue, each key that a queue sets is explored once ([`Deaths`]).
 #![tactic(auto)]
 
+mod along;
 mod deaths;
 mod explored;
 mod exploring;
 mod keyed;
 mod leading;
+mod locations;
 mod onward;
 mod reach;
 mod rows;
 mod searching;
-mod stands;
 mod visits;
 mod walking;
 
+pub use along::find_path_by;
 pub use deaths::Deaths;
 pub use explored::Explored;
 pub use leading::Leading;

@@ -3,7 +3,7 @@
 ghost use Rattle.std.specs.Prelude.{Decides, IfOk, OnOk, ◌≡◌};
 ghost use Rattle.std.specs.List.{list_any};
 ghost use Rattle.model.specs.Routing.{key_after};
-ghost use Rattle.paths.specs.Keyed.{AddsAll, AreOneOn, WalksOn, IsPath, LeadsDead, NextStand, is_queue};
+ghost use Rattle.paths.specs.Keyed.{AddsAll, AreOneOn, WalksOn, IsPath, LeadsDead, NextLocation, is_queue};
 ghost use Rattle.paths.specs.declared.keyed.KeyedPlace.TheVariants.{Exchange, Queue};
 
 use crate::keyed::{KeyedPlace, add_if};
@@ -18,14 +18,14 @@ fn go_on(
     name: &[u8],
     key: &Text,
     next: &[u8],
-    stands: &mut Vec<KeyedPlace>,
+    locations: &mut Vec<KeyedPlace>,
 ) -> Result<(), AllocError>
-    ensures { OnOk result (AddsAll (NextStand topology.now name.now next.now (Exchange key.now)) stands.old.items stands.new.items) }
+    ensures { OnOk result (AddsAll (NextLocation topology.now name.now next.now (Exchange key.now)) locations.old.items locations.new.items) }
 {
     let on = topology.leads_on(alloc, name, key.as_bytes(), next)?;
     let into = topology.leads_in(alloc, name, key.as_bytes(), next)?;
-    add_if(stands, on, KeyedPlace::Exchange(key.clone()?))?;
-    add_if(stands, into, KeyedPlace::Queue(key.clone()?))
+    add_if(locations, on, KeyedPlace::Exchange(key.clone()?))?;
+    add_if(locations, into, KeyedPlace::Queue(key.clone()?))
 }
 
 /// Returns whether `next` is the queue's dead-letter exchange.
@@ -54,9 +54,9 @@ fn die(
     name: &[u8],
     key: &Text,
     next: &[u8],
-    stands: &mut Vec<KeyedPlace>,
+    locations: &mut Vec<KeyedPlace>,
 ) -> Result<(), AllocError>
-    ensures { OnOk result (AddsAll (NextStand topology.now name.now next.now (Queue key.now)) stands.old.items stands.new.items) }
+    ensures { OnOk result (AddsAll (NextLocation topology.now name.now next.now (Queue key.now)) locations.old.items locations.new.items) }
 {
     topology.ghost_is_well_formed();
     let Some(place) = topology.queue_at(name) else {
@@ -64,51 +64,51 @@ fn die(
     };
     let queue = topology.queue(place);
     add_if(
-        stands,
+        locations,
         leads_dead(queue, next),
         KeyedPlace::Exchange(dead_key(queue, key)?),
     )
 }
 
-/// Adds the places of a message at `next` that are one step after `stand`.
+/// Adds the places of a message at `next` that are one step after `location`.
 fn step(
     topology: &Topology,
     alloc: Global,
     name: &[u8],
-    stand: &KeyedPlace,
+    location: &KeyedPlace,
     next: &[u8],
-    stands: &mut Vec<KeyedPlace>,
+    locations: &mut Vec<KeyedPlace>,
 ) -> Result<(), AllocError>
-    ensures { OnOk result (AddsAll (NextStand topology.now name.now next.now stand.now) stands.old.items stands.new.items) }
+    ensures { OnOk result (AddsAll (NextLocation topology.now name.now next.now location.now) locations.old.items locations.new.items) }
 {
-    match stand {
-        KeyedPlace::Exchange(key) => go_on(topology, alloc, name, key, next, stands),
-        KeyedPlace::Queue(key) => die(topology, name, key, next, stands),
+    match location {
+        KeyedPlace::Exchange(key) => go_on(topology, alloc, name, key, next, locations),
+        KeyedPlace::Queue(key) => die(topology, name, key, next, locations),
     }
 }
 
-/// Returns the places of a message at the name `next` that are one step after one of `stands`.
+/// Returns the places of a message at the name `next` that are one step after one of `locations`.
 fn advance(
     topology: &Topology,
     alloc: Global,
     name: &[u8],
-    stands: &[KeyedPlace],
+    locations: &[KeyedPlace],
     next: &[u8],
 ) -> Result<Vec<KeyedPlace>, AllocError>
-    ensures { IfOk result (λ found. AreOneOn topology.now name.now next.now stands.now found.items) }
+    ensures { IfOk result (λ found. AreOneOn topology.now name.now next.now locations.now found.items) }
 {
     let mut found = Vec::new(alloc);
-    for stand in stands {
-        step(topology, alloc, name, stand, next, &mut found)?;
+    for location in locations {
+        step(topology, alloc, name, location, next, &mut found)?;
     }
     Ok(found)
 }
 
-/// Returns whether one of `stands` is in a queue.
-fn is_queued(stands: &[KeyedPlace]) -> bool
-    ensures { result ≡ list_any is_queue stands.now }
+/// Returns whether one of `locations` is in a queue.
+fn is_queued(locations: &[KeyedPlace]) -> bool
+    ensures { result ≡ list_any is_queue locations.now }
 {
-    stands.iter().any(|stand| match stand {
+    locations.iter().any(|location| match location {
         KeyedPlace::Exchange(_) => false,
         KeyedPlace::Queue(_) => true,
     })
@@ -125,14 +125,14 @@ fn goes_on(
 ) -> Result<bool, AllocError>
     ensures { IfOk result (λ yes. Decides yes (WalksOn topology.now queue.now exchange.now rest.now (Exchange key.now))) }
 {
-    let mut stands = Vec::new(alloc);
-    stands.push(KeyedPlace::Exchange(key.clone()?))?;
+    let mut locations = Vec::new(alloc);
+    locations.push(KeyedPlace::Exchange(key.clone()?))?;
     let mut name = exchange;
     for next in rest {
-        stands = advance(topology, alloc, name, stands.as_slice(), next.as_bytes())?;
+        locations = advance(topology, alloc, name, locations.as_slice(), next.as_bytes())?;
         name = next.as_bytes();
     }
-    Ok(name == queue && is_queued(stands.as_slice()))
+    Ok(name == queue && is_queued(locations.as_slice()))
 }
 
 /// Returns whether `path` leads a message with this key into `queue`: it begins with `exchange`, ends with the queue, and each name is

@@ -322,7 +322,7 @@ pub(crate) fn files_that_are_replaced_are_put_in_force(alloc: Global) -> Result<
     let mut err: Vec<u8> = Vec::new(alloc);
     let status = serve_over(alloc, &[STARTED], READS_OF_OTHERS, 1, &mut err)?;
     expect_number("the status", u64::from(status), 0)?;
-    expect("nothing is told", err.is_empty())
+    expect("nothing is reported", err.is_empty())
 }
 
 /// Files that are refused at five looks, and valid at the sixth.
@@ -364,7 +364,7 @@ pub(crate) fn files_that_do_not_fit_are_told_at_each_look(alloc: Global) -> Resu
     )?;
     expect_number("the status", u64::from(status), 0)?;
     expect_bytes(
-        "what is told",
+        "what is reported",
         err.as_slice(),
         b"warren: definitions: refused 1\nwarren: definitions: refused 1\nwarren: certificate 1: fault 5\nwarren: reload refused in-use \"audit\"\nwarren: reload refused in-use \"audit\"\n",
     )
@@ -407,7 +407,7 @@ pub(crate) fn a_message_that_could_come_where_it_is_forbidden_is_told(
     )?;
     expect_number("the status", u64::from(status), 0)?;
     expect_bytes(
-        "what is told",
+        "what is reported",
         err.as_slice(),
         b"warren: reload refused breaks \"audit\" 6e6577 1\n",
     )

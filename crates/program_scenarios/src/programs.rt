@@ -140,8 +140,8 @@ pub(crate) fn each_status_comes_of_files_of_the_machine(rt: &HostRuntime) -> Res
     let refused = ["warren", "route", TWO_KEYS, "nowhere", "orders"];
     expect_run(rt, refused.as_slice(), 3, b"", b"warren: no exchange\n")?;
     let unread = ["warren", "check", NO_FILE, ORDERS];
-    let told = b"warren: definitions/nowhere.json: cannot read\n";
-    expect_run(rt, unread.as_slice(), 4, b"", told)
+    let expected = b"warren: definitions/nowhere.json: cannot read\n";
+    expect_run(rt, unread.as_slice(), 4, b"", expected)
 }
 
 /// Returns the words that ask to serve at `address` for three rounds, with a look at the files after each but the last.
@@ -159,10 +159,10 @@ pub(crate) fn it_serves_at_a_port_that_is_free(rt: &HostRuntime) -> Result<(), U
     remove(rt)?;
     expect_number("the status", u64::from(run.status), 0)?;
     expect_bytes("the complaint", run.err.as_slice(), b"")?;
-    let told = b"warren: listening on 127.0.0.1:";
+    let expected = b"warren: listening on 127.0.0.1:";
     expect(
-        "it is told where",
-        run.out.as_slice().starts_with(told.as_slice()),
+        "the address is reported",
+        run.out.as_slice().starts_with(expected.as_slice()),
     )
 }
 

@@ -60,7 +60,7 @@ free_there ps i holder e = nowhere_in (is_held_as holder) ps i (not_found (is_he
 -- it is the first such message
 pub held_first : (ps : List (List Entry)) (ready live bytes i : ℕ) (holder : Holder) → IsCounted (joined ps) ready live bytes → some_pass (is_held_as holder) (get_or ps i []) ≡ true
     → FirstIn (is_held_as holder) ps i
-held_first ps ready live bytes i holder c h = only_in (is_held_as holder) ps i h (c.apart holder)
+held_first ps ready live bytes i holder c h = only_in (is_held_as holder) ps i h (c.distinct holder)
 
 -- the counts have room for a step
 pub held_there : (ps : List (List Entry)) (ready live bytes i : ℕ) (holder : Holder) → IsCounted (joined ps) ready live bytes → some_pass (is_held_as holder) (get_or ps i []) ≡ true
@@ -75,9 +75,9 @@ held_there ps ready live bytes i holder c h = go (find (is_held_as holder) (get_
 pub freed_there_is : (ps : List (List Entry)) (ready live bytes i : ℕ) (holder : Holder) → IsCounted (joined ps) ready live bytes → some_pass (is_held_as holder) (get_or ps i []) ≡ true
     → requeued (is_under holder) (joined ps) ≡ joined (set ps i (requeued (is_under holder) (get_or ps i [])))
 freed_there_is ps ready live bytes i holder c h =
-    freed_once (joined ps) holder (c.apart holder)
+    freed_once (joined ps) holder (c.distinct holder)
     ∙ joined_changed (is_held_as holder) freed_now ps i (held_first ps ready live bytes i holder c h)
-    ∙ ap (λ (es : List Entry). joined (set ps i es)) (sym (freed_once (get_or ps i []) holder (part_once (is_held_as holder) ps i (c.apart holder))))
+    ∙ ap (λ (es : List Entry). joined (set ps i es)) (sym (freed_once (get_or ps i []) holder (part_once (is_held_as holder) ps i (c.distinct holder))))
 
 pub release_there : (ps now : List (List Entry)) (ready live bytes ready' bytes' size i : ℕ) (holder : Holder) → IsCounted (joined ps) ready live bytes
     → some_pass (is_held_as holder) (get_or ps i []) ≡ true → now ≡ set ps i (requeued (is_under holder) (get_or ps i []))
@@ -94,9 +94,9 @@ release_there ps now ready live bytes ready' bytes' size i holder c h e s r b =
 pub left_out_is : (ps : List (List Entry)) (ready live bytes i : ℕ) (holder : Holder) → IsCounted (joined ps) ready live bytes → some_pass (is_held_as holder) (get_or ps i []) ≡ true
     → filter (λ e. not (is_held_as holder e)) (joined ps) ≡ joined (set ps i (filter (λ e. not (is_held_as holder e)) (get_or ps i [])))
 left_out_is ps ready live bytes i holder c h =
-    once_left_out (is_held_as holder) (joined ps) (c.apart holder)
+    once_left_out (is_held_as holder) (joined ps) (c.distinct holder)
     ∙ joined_without (is_held_as holder) ps i (held_first ps ready live bytes i holder c h)
-    ∙ ap (λ (es : List Entry). joined (set ps i es)) (sym (once_left_out (is_held_as holder) (get_or ps i []) (part_once (is_held_as holder) ps i (c.apart holder))))
+    ∙ ap (λ (es : List Entry). joined (set ps i es)) (sym (once_left_out (is_held_as holder) (get_or ps i []) (part_once (is_held_as holder) ps i (c.distinct holder))))
 
 pub remove_there : (ps now : List (List Entry)) (ready live bytes live' i : ℕ) (holder : Holder) → IsCounted (joined ps) ready live bytes
     → some_pass (is_held_as holder) (get_or ps i []) ≡ true → now ≡ set ps i (filter (λ e. not (is_held_as holder e)) (get_or ps i []))

@@ -137,12 +137,12 @@ hold_counted es ready live bytes ready' bytes' e holder c found free r b =
       ready_count = (let t = tally-changed is_ready is_ready (held_as holder) es e found in let n = ap num rdy in let a = c.ready_count in omega arith);
       live_count = c.live_count ∙ sym (length-changed is_ready (held_as holder) es e found);
       sum = (let t = total-changed ready_size is_ready (held_as holder) es e found in let n = ready_bytes_of e rdy in let a = c.sum in omega arith);
-      apart = λ h. apart_now h (is_under h holder) refl;
+      distinct = λ h. apart_now h (is_under h holder) refl;
       short = (let t = tally-changed is_long is_ready (held_as holder) es e found in let a = c.short in omega arith);
     }
   where
     apart_now : (h : Holder) (b : Bool) → is_under h holder ≡ b → tally (is_held_as h) (change_first is_ready (held_as holder) es) ≤ 1
-    apart_now h false u = let t = tally-changed (is_held_as h) is_ready (held_as holder) es e found in let n = ap num u in let a = c.apart h in omega arith
+    apart_now h false u = let t = tally-changed (is_held_as h) is_ready (held_as holder) es e found in let n = ap num u in let a = c.distinct h in omega arith
     apart_now h true u =
         let z : tally (is_held_as h) es ≡ 0 = same_count (is_held_as h) (is_held_as holder) (λ x. same_held h holder x u) es ∙ not_found (is_held_as holder) es free in
         let t = tally-changed (is_held_as h) is_ready (held_as holder) es e found in let n = ap num u in omega arith
@@ -155,7 +155,7 @@ take_counted es ready live bytes ready' live' bytes' e c found r l b =
       ready_count = (let t = tally-without is_ready is_ready es e found in let n = ap num rdy in let a = c.ready_count in omega arith);
       live_count = (let t = length-without is_ready es e found in let a = c.live_count in omega arith);
       sum = (let t = total-without ready_size is_ready es e found in let n = ready_bytes_of e rdy in let a = c.sum in omega arith);
-      apart = λ h. (let t = tally-without (is_held_as h) is_ready es e found in let a = c.apart h in omega arith);
+      distinct = λ h. (let t = tally-without (is_held_as h) is_ready es e found in let a = c.distinct h in omega arith);
       short = (let t = tally-without is_long is_ready es e found in let a = c.short in omega arith);
     }
 
@@ -163,12 +163,12 @@ take_counted es ready live bytes ready' live' bytes' e c found r l b =
 pub remove_counted : (es : List Entry) (ready live bytes live' : ℕ) (e : Entry) (holder : Holder) → IsCounted es ready live bytes → find (is_held_as holder) es ≡ Some e
     → live' + 1 ≡ live → IsCounted (filter (λ x. not (is_held_as holder x)) es) ready live' bytes
 remove_counted es ready live bytes live' e holder c found l =
-    subst (λ (xs : List Entry). IsCounted xs ready live' bytes) (sym (once_left_out (is_held_as holder) es (c.apart holder))) (
+    subst (λ (xs : List Entry). IsCounted xs ready live' bytes) (sym (once_left_out (is_held_as holder) es (c.distinct holder))) (
     let not_ready = held_ready holder e (passes (is_held_as holder) es e found) in record {
       ready_count = (let t = tally-without is_ready (is_held_as holder) es e found in let n = ap num not_ready in let a = c.ready_count in omega arith);
       live_count = (let t = length-without (is_held_as holder) es e found in let a = c.live_count in omega arith);
       sum = (let t = total-without ready_size (is_held_as holder) es e found in let n = held_bytes_of e not_ready in let a = c.sum in omega arith);
-      apart = λ h. (let t = tally-without (is_held_as h) (is_held_as holder) es e found in let a = c.apart h in omega arith);
+      distinct = λ h. (let t = tally-without (is_held_as h) (is_held_as holder) es e found in let a = c.distinct h in omega arith);
       short = (let t = tally-without is_long (is_held_as holder) es e found in let a = c.short in omega arith);
     })
 
@@ -180,12 +180,12 @@ freed_once es holder le = once_mapped (is_held_as holder) (freed (is_under holde
 pub release_counted : (es : List Entry) (ready live bytes ready' bytes' : ℕ) (e : Entry) (holder : Holder) → IsCounted es ready live bytes → find (is_held_as holder) es ≡ Some e
     → ready' ≡ ready + 1 → bytes' ≡ bytes + body_bytes e → IsCounted (map (freed (is_under holder)) es) ready' live bytes'
 release_counted es ready live bytes ready' bytes' e holder c found r b =
-    subst (λ (xs : List Entry). IsCounted xs ready' live bytes') (sym (freed_once es holder (c.apart holder))) (
+    subst (λ (xs : List Entry). IsCounted xs ready' live bytes') (sym (freed_once es holder (c.distinct holder))) (
     let not_ready = held_ready holder e (passes (is_held_as holder) es e found) in record {
       ready_count = (let t = tally-changed is_ready (is_held_as holder) freed_now es e found in let n = ap num not_ready in let a = c.ready_count in omega arith);
       live_count = c.live_count ∙ sym (length-changed (is_held_as holder) freed_now es e found);
       sum = (let t = total-changed ready_size (is_held_as holder) freed_now es e found in let n = held_bytes_of e not_ready in let a = c.sum in omega arith);
-      apart = λ h. (let t = tally-changed (is_held_as h) (is_held_as holder) freed_now es e found in let a = c.apart h in omega arith);
+      distinct = λ h. (let t = tally-changed (is_held_as h) (is_held_as holder) freed_now es e found in let a = c.distinct h in omega arith);
       short = (let t = tally-changed is_long (is_held_as holder) freed_now es e found in let a = c.short in omega arith);
     })
 
@@ -197,7 +197,7 @@ push_counted es ready live bytes ready' live' bytes' m c le r l b =
       ready_count = (let t = tally-end is_ready es v in let a = c.ready_count in omega arith);
       live_count = (let t = length-end es v in let a = c.live_count in omega arith);
       sum = (let t = total-end ready_size es v in let a = c.sum in omega arith);
-      apart = λ h. (let t = tally-end (is_held_as h) es v in let a = c.apart h in omega arith);
+      distinct = λ h. (let t = tally-end (is_held_as h) es v in let a = c.distinct h in omega arith);
       short = (let t = tally-end is_long es v in let a = c.short in let n = ap num (le-ltb 18446744073709551615 (length m.content.body) le) in omega arith);
     }
 

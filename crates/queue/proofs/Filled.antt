@@ -1,5 +1,5 @@
 -- Blocks that need the slots they keep.
-use Rattle.queue.proofs.Names.{◌≡◌, ℕ, zero, suc, ◌+◌, ◌-◌, ◌*◌, ◌<◌, ◌≤◌, List, [], ◌∷◌, ◌++◌, length, get_or, map, filter, refl, sym, ap, ◌∙◌, subst, arith, Bool, true, false, cond, inl, inr, nat_lt, ◌||◌, ◌⊎◌, ltb-false, eqb_tells, leb_tells, get_or-set_same, get_or-set_other, length-set, length-append, stood_now, Stretch, parts, joined, is_in_use, stood_block, no_stretch, block_at, slots_of, AreFilled, AreFilledBut, IsFilled, IsHeld, IsBounded, NeedBoth, NeedBothAt, IsSpent, IsNotSpent, AreNeeded, AreJoined, AreWhole, HasRoom, LastIsShort, last_room}
+use Rattle.queue.proofs.Names.{◌≡◌, ℕ, zero, suc, ◌+◌, ◌-◌, ◌*◌, ◌<◌, ◌≤◌, List, [], ◌∷◌, ◌++◌, length, get_or, map, filter, refl, sym, ap, ◌∙◌, subst, arith, Bool, true, false, cond, inl, inr, nat_lt, ◌||◌, ◌⊎◌, ltb-false, eqb_tells, leb_tells, get_or-set_same, get_or-set_other, length-set, length-append, survived_now, Stretch, parts, joined, is_in_use, survived_block, no_stretch, block_at, slots_of, AreFilled, AreFilledBut, IsFilled, IsHeld, IsBounded, NeedBoth, NeedBothAt, IsSpent, IsNotSpent, AreNeeded, AreJoined, AreWhole, HasRoom, LastIsShort, last_room}
 use Rattle.std.proofs.Math.ListN.{set}
 use Rattle.queue.proofs.Signed.{at_default}
 use Rattle.queue.proofs.Stood.{length-mapped}
@@ -382,16 +382,16 @@ filled_in_use most (b ∷ bs) f = go (is_in_use b) (filled_in_use most bs (behin
 
 -- ---- all marked as what stood
 
-stood_at : (bs : List Stretch) (i : ℕ) → block_at (map stood_block bs) i ≡ stood_block (block_at bs i)
+stood_at : (bs : List Stretch) (i : ℕ) → block_at (map survived_block bs) i ≡ survived_block (block_at bs i)
 stood_at [] i = refl
 stood_at (b ∷ bs) zero = refl
 stood_at (b ∷ bs) (suc i) = stood_at bs i
 
-pub stood_alike : (bs : List Stretch) → AreAlike bs (map stood_block bs)
+pub stood_alike : (bs : List Stretch) → AreAlike bs (map survived_block bs)
 stood_alike bs = record {
-  len = length-mapped stood_block bs;
+  len = length-mapped survived_block bs;
   slots = λ i. slots_at _ _ (stood_at bs i);
-  live = λ i. live_at _ _ (stood_at bs i) ∙ length-mapped stood_now (block_at bs i).entries;
+  live = λ i. live_at _ _ (stood_at bs i) ∙ length-mapped survived_now (block_at bs i).entries;
 }
 
 -- ---- all of them

@@ -3,11 +3,11 @@ pub use Rattle.marks.specs.Places.{Differs, IsNextMark, bit_of}
 pub use Rattle.model.specs.Broker.{body_bytes, is_ready, ready_bytes}
 pub use Rattle.model.specs.Entries.{change_first, freed, freed_now, held_as, is_held_as, is_held_by, is_under, number_of, without_first}
 pub use Rattle.model.specs.Message.{Message}
-pub use Rattle.model.specs.Reloading.{stood_now}
+pub use Rattle.model.specs.Reloading.{survived_now}
 pub use Rattle.model.specs.declared.messages.Entry.{Entry}
 pub use Rattle.model.specs.declared.messages.Holder.{Holder}
 pub use Rattle.model.specs.declared.messages.Mark.TheVariants.{Held, Ready}
-pub use Rattle.queue.specs.Blocks.{AreApart, AreBlocksSigned, AreFilled, AreFilledBut, AreJoined, AreNeeded, AreSpare, AreWhole, HasRoom, IsBounded, IsCounted, IsFilled, IsHeld, IsNotSpent, IsPair, IsSpent, IsWhole, LastIsShort, NeedBoth, NeedBothAt, Stretch, block_at, is_in_use, is_long, joined, last_room, no_stretch, parts, ready_size, room_after, size_of, slots_of, some_pass, stood_block, total}
+pub use Rattle.queue.specs.Blocks.{AreHeldOnce, AreBlocksSigned, AreFilled, AreFilledBut, AreJoined, AreNeeded, AreSpare, AreWhole, HasRoom, IsBounded, IsCounted, IsFilled, IsHeld, IsNotSpent, IsPair, IsSpent, IsWhole, LastIsShort, NeedBoth, NeedBothAt, Stretch, block_at, is_in_use, is_long, joined, last_room, no_stretch, parts, ready_size, room_after, size_of, slots_of, some_pass, survived_block, total}
 pub use Rattle.queue.specs.Line.{Line, ready_count, requeued}
 pub use Rattle.queue.specs.Slots.{AreSigned, BitTurned, BitsShow, HasPlaces, SlotBits, SlotsAreMarked, changed, contents, num, slot_has, somes, tally}
 pub use Rattle.queue.specs.declared.slots.Slot.{Slot}

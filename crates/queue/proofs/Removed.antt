@@ -1,5 +1,5 @@
 -- A block goes, and what stood in it stands in the one before it.
-use Rattle.queue.proofs.Names.{◌≡◌, ℕ, zero, suc, ◌+◌, ◌<◌, ◌≤◌, List, [], ◌∷◌, ◌++◌, length, get_or, refl, sym, ap, ◌∙◌, subst, arith, append_assoc, Bool, remove, length-set, is_held_as, Entry, Holder, tally, Stretch, parts, joined, no_stretch, block_at, room_after, last_room, AreJoined, AreApart}
+use Rattle.queue.proofs.Names.{◌≡◌, ℕ, zero, suc, ◌+◌, ◌<◌, ◌≤◌, List, [], ◌∷◌, ◌++◌, length, get_or, refl, sym, ap, ◌∙◌, subst, arith, append_assoc, Bool, remove, length-set, is_held_as, Entry, Holder, tally, Stretch, parts, joined, no_stretch, block_at, room_after, last_room, AreJoined, AreHeldOnce}
 use Rattle.std.proofs.Math.ListN.{set}
 use Rattle.std.proofs.lemmas.List.Edits.{length-remove, get_or-remove_below, get_or-remove_above}
 use Rattle.queue.proofs.Joined.{tally-both}
@@ -54,10 +54,10 @@ pair-once p (xs ∷ xss) (suc i) le = let a = tally-both p xs (joined xss) in pa
 pair_once : {X : Type 0} (p : X → Bool) (xss : List (List X)) (i : ℕ) → tally p (joined xss) ≤ 1 → tally p (get_or xss i [] ++ get_or xss (i + 1) []) ≤ 1
 pair_once p xss i le = subst (λ (k : ℕ). tally p (get_or xss i [] ++ get_or xss k []) ≤ 1) (one_on i) (pair-once p xss i le)
 
-pub apart_there : (bs : List Stretch) (i : ℕ) (d next : Stretch) (holder : Holder) → i + 1 < length bs → d ≡ get_or (remove bs (i + 1)) i d → next ≡ get_or bs (i + 1) next → AreApart bs
+pub apart_there : (bs : List Stretch) (i : ℕ) (d next : Stretch) (holder : Holder) → i + 1 < length bs → d ≡ get_or (remove bs (i + 1)) i d → next ≡ get_or bs (i + 1) next → AreHeldOnce bs
     → tally (is_held_as holder) (d.entries ++ next.entries) ≤ 1
-apart_there bs i d next holder lt at behind apart =
+apart_there bs i d next holder lt at behind distinct =
     subst (λ (es : List Entry). tally (is_held_as holder) es ≤ 1)
     (sym (ap (λ (x : Stretch). x.entries ++ next.entries) (still_there bs i d lt at) ∙ ap (λ (x : Stretch). (block_at bs i).entries ++ x.entries) (next_there bs i next lt behind)
     ∙ ap (λ (es : List Entry). es ++ (block_at bs (i + 1)).entries) (parts-at bs i no_stretch (omega (arith, lt))) ∙ ap (λ (es : List Entry). get_or (parts bs) i [] ++ es) (parts-at bs (i + 1) no_stretch lt)))
-    (pair_once (is_held_as holder) (parts bs) i (apart holder))
+    (pair_once (is_held_as holder) (parts bs) i (distinct holder))

@@ -1,5 +1,5 @@
 -- Blocks, the bits that say which of them have a ready message, and the room of the last.
-use Rattle.queue.proofs.Names.{◌≡◌, ℕ, zero, suc, ◌+◌, ◌-◌, ◌<◌, ◌≤◌, List, [], ◌∷◌, ◌++◌, length, get_or, map, filter, refl, sym, ap, ◌∙◌, subst, arith, Bool, true, false, cond, Some, find, is_some, inl, inr, nat_lt, ◌==◌, ◌||◌, false≢true, ltb-false, eqb_tells, leb_tells, get_or-set_same, get_or-set_other, map-set, is_ready, stood_now, Entry, Message, Ready, IsNextMark, bit_of, num, SlotBits, BitTurned, Stretch, parts, joined, room_after, last_room, some_pass, is_in_use, stood_block, AreBlocksSigned}
+use Rattle.queue.proofs.Names.{◌≡◌, ℕ, zero, suc, ◌+◌, ◌-◌, ◌<◌, ◌≤◌, List, [], ◌∷◌, ◌++◌, length, get_or, map, filter, refl, sym, ap, ◌∙◌, subst, arith, Bool, true, false, cond, Some, find, is_some, inl, inr, nat_lt, ◌==◌, ◌||◌, false≢true, ltb-false, eqb_tells, leb_tells, get_or-set_same, get_or-set_other, map-set, is_ready, survived_now, Entry, Message, Ready, IsNextMark, bit_of, num, SlotBits, BitTurned, Stretch, parts, joined, room_after, last_room, some_pass, is_in_use, survived_block, AreBlocksSigned}
 use Rattle.std.proofs.Math.ListN.{set}
 use Rattle.queue.proofs.Places.{num-some, num-none}
 use Rattle.queue.proofs.Joined.{FirstIn, joined_mapped}
@@ -154,34 +154,34 @@ room_in_use bs = room-in_use 0 0 bs (omega arith)
 
 -- ---- all marked as what stood
 
-parts-stood : (bs : List Stretch) → parts (map stood_block bs) ≡ map (λ (es : List Entry). map stood_now es) (parts bs)
+parts-stood : (bs : List Stretch) → parts (map survived_block bs) ≡ map (λ (es : List Entry). map survived_now es) (parts bs)
 parts-stood [] = refl
-parts-stood (b ∷ bs) = ap (λ (ps : List (List Entry)). map stood_now b.entries ∷ ps) (parts-stood bs)
+parts-stood (b ∷ bs) = ap (λ (ps : List (List Entry)). map survived_now b.entries ∷ ps) (parts-stood bs)
 
-pub joined_stood : (bs : List Stretch) → joined (parts (map stood_block bs)) ≡ map stood_now (joined (parts bs))
-joined_stood bs = ap (λ (ps : List (List Entry)). joined ps) (parts-stood bs) ∙ joined_mapped stood_now (parts bs)
+pub joined_stood : (bs : List Stretch) → joined (parts (map survived_block bs)) ≡ map survived_now (joined (parts bs))
+joined_stood bs = ap (λ (ps : List (List Entry)). joined ps) (parts-stood bs) ∙ joined_mapped survived_now (parts bs)
 
-room-stood : (r : ℕ) (bs : List Stretch) → room_after r (map stood_block bs) ≡ room_after r bs
+room-stood : (r : ℕ) (bs : List Stretch) → room_after r (map survived_block bs) ≡ room_after r bs
 room-stood r [] = refl
 room-stood r (b ∷ bs) = room-stood b.room bs
 
-pub room_stood : (bs : List Stretch) → last_room (map stood_block bs) ≡ last_room bs
+pub room_stood : (bs : List Stretch) → last_room (map survived_block bs) ≡ last_room bs
 room_stood bs = room-stood 0 bs
 
-part-stood : (ps : List (List Entry)) (i : ℕ) → get_or (map (λ (es : List Entry). map stood_now es) ps) i [] ≡ map stood_now (get_or ps i [])
+part-stood : (ps : List (List Entry)) (i : ℕ) → get_or (map (λ (es : List Entry). map survived_now es) ps) i [] ≡ map survived_now (get_or ps i [])
 part-stood [] i = refl
 part-stood (p ∷ ps) zero = refl
 part-stood (p ∷ ps) (suc i) = part-stood ps i
 
-ready-stood : (es : List Entry) → some_pass is_ready (map stood_now es) ≡ some_pass is_ready es
+ready-stood : (es : List Entry) → some_pass is_ready (map survived_now es) ≡ some_pass is_ready es
 ready-stood [] = refl
 ready-stood (e ∷ es) = go (is_ready e) (ready-stood es)
   where
-    go : (b : Bool) → some_pass is_ready (map stood_now es) ≡ some_pass is_ready es → is_some (cond b (Some (stood_now e)) (find is_ready (map stood_now es))) ≡ is_some (cond b (Some e) (find is_ready es))
+    go : (b : Bool) → some_pass is_ready (map survived_now es) ≡ some_pass is_ready es → is_some (cond b (Some (survived_now e)) (find is_ready (map survived_now es))) ≡ is_some (cond b (Some e) (find is_ready es))
     go true r = refl
     go false r = r
 
-pub signed_stood : (bs : List Stretch) (bits : SlotBits) → AreBlocksSigned (parts bs) bits → AreBlocksSigned (parts (map stood_block bs)) bits
+pub signed_stood : (bs : List Stretch) (bits : SlotBits) → AreBlocksSigned (parts bs) bits → AreBlocksSigned (parts (map survived_block bs)) bits
 signed_stood bs bits s i = s i ∙ ap num (sym (ready-stood (get_or (parts bs) i [])) ∙ ap (some_pass is_ready) (sym (part-stood (parts bs) i) ∙ ap (λ (ps : List (List Entry)). get_or ps i []) (sym (parts-stood bs))))
 
 -- ---- the bits

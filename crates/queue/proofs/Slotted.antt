@@ -142,14 +142,14 @@ record Written (slots : List (Option Entry)) (v : Option Entry) (bits bits' : Sl
   there : i < length slots
   turned : BitTurned bits bits' i (num (slot_has is_ready v))
   live_count : live' + num (is_some (get_or slots i None)) ≡ live + num (is_some v)
-  apart : (h : Holder) → tally (is_held_as h) (somes (set slots i v)) ≤ 1
+  distinct : (h : Holder) → tally (is_held_as h) (somes (set slots i v)) ≤ 1
 
 shows_set : (slots : List (Option Entry)) (v : Option Entry) (bits bits' : SlotBits) (live live' i : ℕ) → BitsShow slots bits live
     → Written slots v bits bits' live live' i → BitsShow (set slots i v) bits' live'
 shows_set slots v bits bits' live live' i s w = record {
   signed = signed_set slots v bits bits' i w.there s.signed w.turned;
   live_count = (let a = s.live_count in let b = w.live_count in let c = length-set slots i v w.there in omega arith);
-  apart = w.apart;
+  distinct = w.distinct;
 }
 
 -- no more are held so than before
@@ -182,7 +182,7 @@ hold_shows slots now bits bits' live i holder s n t e f =
       there = lt;
       turned = subst (λ (b : Bool). BitTurned bits bits' i (num b)) (sym (held_not_free holder o)) t;
       live_count = ap (λ (b : Bool). live + num b) (sym (still_some (held_as holder) o));
-      apart = λ h. apart_held slots i holder h (is_under h holder) refl lt p.there f (s.apart h);
+      distinct = λ h. apart_held slots i holder h (is_under h holder) refl lt p.there f (s.distinct h);
     }))
 
 pub take_shows : (slots now : List (Option Entry)) (bits bits' : SlotBits) (live live' i : ℕ) → BitsShow slots bits live → IsNextMark (bit_of bits.ready) 0 i
@@ -194,7 +194,7 @@ take_shows slots now bits bits' live live' i s n t e l =
       there = lt;
       turned = t;
       live_count = (let a = ap num (some_of is_ready (get_or slots i None) p.there) in omega arith);
-      apart = λ h. apart_less slots None i h lt (s.apart h) refl;
+      distinct = λ h. apart_less slots None i h lt (s.distinct h) refl;
     }))
 
 pub release_shows : (slots now : List (Option Entry)) (bits bits' : SlotBits) (live i : ℕ) (holder : Holder) → BitsShow slots bits live
@@ -209,7 +209,7 @@ release_shows slots now bits bits' live i holder s h t e =
       there = lt;
       turned = subst (λ (b : Bool). BitTurned bits bits' i (num b)) (sym f) t;
       live_count = ap (λ (b : Bool). live + num b) (sym (still_some freed_now o));
-      apart = λ g. apart_less slots v i g lt (s.apart g) (ready_not_held (is_under g) v f);
+      distinct = λ g. apart_less slots v i g lt (s.distinct g) (ready_not_held (is_under g) v f);
     }))
 
 pub remove_shows : (slots now : List (Option Entry)) (bits bits' : SlotBits) (live live' i : ℕ) (holder : Holder) → BitsShow slots bits live
@@ -220,7 +220,7 @@ remove_shows slots now bits bits' live live' i holder s h t e l =
       there = lt;
       turned = t;
       live_count = (let a = ap num (some_of (is_held_as holder) (get_or slots i None) h) in omega arith);
-      apart = λ g. apart_less slots None i g lt (s.apart g) refl;
+      distinct = λ g. apart_less slots None i g lt (s.distinct g) refl;
     }))
 
 pub push_shows : (slots now : List (Option Entry)) (bits bits' : SlotBits) (live live' : ℕ) (m : Message) → BitsShow slots bits live
@@ -230,7 +230,7 @@ push_shows slots now bits bits' live live' m s t e l =
     subst (λ (xs : List (Option Entry)). BitsShow xs bits' live') (sym e) (record {
       signed = marked_push is_ready slots (Some v) _ _ s.signed t.turned;
       live_count = (let a = s.live_count in let b = length_end slots v in omega arith);
-      apart = λ h. (let a = s.apart h in let b = counted_end (is_held_as h) slots v in omega arith);
+      distinct = λ h. (let a = s.distinct h in let b = counted_end (is_held_as h) slots v in omega arith);
     })
   where
     counted_end : (p : Entry → Bool) (xs : List (Option Entry)) (x : Entry) → tally p (somes (xs ++ Some x ∷ [])) ≡ tally p (somes xs) + num (p x)
@@ -263,7 +263,7 @@ held_least slots bits live i holder s t =
 -- what is held under a tag is the only such entry
 pub only_held : (slots : List (Option Entry)) (bits : SlotBits) (live i : ℕ) (holder : Holder) → BitsShow slots bits live
     → slot_has (is_held_as holder) (get_or slots i None) ≡ true → OnlyAt (is_held_as holder) slots i
-only_held slots bits live i holder s t = record { there = t; only = s.apart holder }
+only_held slots bits live i holder s t = record { there = t; only = s.distinct holder }
 
 -- a slot is told where an entry is held so
 pub held_told : (p : Entry → Bool) (slots : List (Option Entry)) (o : Option ℕ) → IfSome o (λ i. slot_has p (get_or slots i None) ≡ true)

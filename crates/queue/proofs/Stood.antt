@@ -1,5 +1,5 @@
 -- What is kept beside the slots stays as it is where each message is marked as one that stood.
-use Rattle.queue.proofs.Names.{◌≡◌, ℕ, zero, suc, ◌<◌, ◌≤◌, List, [], ◌∷◌, ◌++◌, length, get_or, take, drop, map, refl, sym, ap, ◌∙◌, subst, arith, Bool, Option, Some, None, stood_now, is_ready, is_held_as, Entry, Slot, contents, somes, slot_has, changed, num, tally, SlotBits, BitsShow, total, ready_size, is_long, IsCounted}
+use Rattle.queue.proofs.Names.{◌≡◌, ℕ, zero, suc, ◌<◌, ◌≤◌, List, [], ◌∷◌, ◌++◌, length, get_or, take, drop, map, refl, sym, ap, ◌∙◌, subst, arith, Bool, Option, Some, None, survived_now, is_ready, is_held_as, Entry, Slot, contents, somes, slot_has, changed, num, tally, SlotBits, BitsShow, total, ready_size, is_long, IsCounted}
 use Rattle.std.proofs.Common.{set}
 use Rattle.queue.proofs.Slotted.{contents-length, contents-written}
 use Rattle.queue.proofs.Changing.{changed_next}
@@ -34,22 +34,22 @@ length-mapped f (x ∷ xs) = ap suc (length-mapped f xs)
 
 -- ---- the marks, the counts and the bytes
 
-pub stood_shows : (os : List (Option Entry)) (bits : SlotBits) (live : ℕ) → BitsShow os bits live → BitsShow (map (changed stood_now) os) bits live
+pub stood_shows : (os : List (Option Entry)) (bits : SlotBits) (live : ℕ) → BitsShow os bits live → BitsShow (map (changed survived_now) os) bits live
 stood_shows os bits live s =
-    let same = somes-changed stood_now os in record {
-      signed = λ i. s.signed i ∙ ap num (sym (has_changed is_ready stood_now (λ e. refl) (get_or os i None)) ∙ ap (slot_has is_ready) (sym (there_changed stood_now os i)));
-      live_count = s.live_count ∙ sym (length-mapped stood_now (somes os)) ∙ ap length (sym same);
-      apart = λ holder. subst (λ (n : ℕ). n ≤ 1) (sym (tally-mapped (is_held_as holder) stood_now (λ e. refl) (somes os)) ∙ ap (tally (is_held_as holder)) (sym same)) (s.apart holder);
+    let same = somes-changed survived_now os in record {
+      signed = λ i. s.signed i ∙ ap num (sym (has_changed is_ready survived_now (λ e. refl) (get_or os i None)) ∙ ap (slot_has is_ready) (sym (there_changed survived_now os i)));
+      live_count = s.live_count ∙ sym (length-mapped survived_now (somes os)) ∙ ap length (sym same);
+      distinct = λ holder. subst (λ (n : ℕ). n ≤ 1) (sym (tally-mapped (is_held_as holder) survived_now (λ e. refl) (somes os)) ∙ ap (tally (is_held_as holder)) (sym same)) (s.distinct holder);
     }
 
 -- so it is with the entries of a queue
-pub stood_counted : (es : List Entry) (ready live bytes : ℕ) → IsCounted es ready live bytes → IsCounted (map stood_now es) ready live bytes
+pub stood_counted : (es : List Entry) (ready live bytes : ℕ) → IsCounted es ready live bytes → IsCounted (map survived_now es) ready live bytes
 stood_counted es ready live bytes c = record {
-  ready_count = c.ready_count ∙ sym (tally-mapped is_ready stood_now (λ e. refl) es);
-  live_count = c.live_count ∙ sym (length-mapped stood_now es);
-  sum = c.sum ∙ sym (total-mapped ready_size stood_now (λ e. refl) es);
-  apart = λ holder. subst (λ (n : ℕ). n ≤ 1) (sym (tally-mapped (is_held_as holder) stood_now (λ e. refl) es)) (c.apart holder);
-  short = tally-mapped is_long stood_now (λ e. refl) es ∙ c.short;
+  ready_count = c.ready_count ∙ sym (tally-mapped is_ready survived_now (λ e. refl) es);
+  live_count = c.live_count ∙ sym (length-mapped survived_now es);
+  sum = c.sum ∙ sym (total-mapped ready_size survived_now (λ e. refl) es);
+  distinct = λ holder. subst (λ (n : ℕ). n ≤ 1) (sym (tally-mapped (is_held_as holder) survived_now (λ e. refl) es)) (c.distinct holder);
+  short = tally-mapped is_long survived_now (λ e. refl) es ∙ c.short;
 }
 
 -- ---- slot by slot

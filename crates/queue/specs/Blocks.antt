@@ -4,7 +4,7 @@ use Rattle.std.specs.Prelude.{Bool, cond, nat_lt, Option, Some, None, find, is_s
 use Rattle.std.specs.Global.{Vec}
 use Rattle.model.specs.Broker.{is_ready, body_bytes}
 use Rattle.model.specs.Entries.{is_held_as}
-use Rattle.model.specs.Reloading.{stood_now}
+use Rattle.model.specs.Reloading.{survived_now}
 use Rattle.model.specs.declared.messages.Entry.{Entry}
 use Rattle.model.specs.declared.messages.Holder.{Holder}
 use Rattle.marks.specs.Places.{bit_of}
@@ -42,8 +42,8 @@ abbrev pub is_in_use : Stretch → Bool
 is_in_use b = nat_lt 0 (length b.entries) || nat_lt 0 b.room
 
 -- the block with each entry marked as one that a reload found there
-abbrev pub stood_block : Stretch → Stretch
-stood_block b = record { entries = map stood_now b.entries; room = b.room; slots = b.slots }
+abbrev pub survived_block : Stretch → Stretch
+survived_block b = record { entries = map survived_now b.entries; room = b.room; slots = b.slots }
 
 -- a block without entries and slots
 abbrev pub no_stretch : Stretch
@@ -127,8 +127,8 @@ pub record AreJoined (place : ℕ) (old new : List Stretch) : Type 0 where
   pub behind : (i : ℕ) → place < i → block_at new i ≡ block_at old (i + 1)
 
 -- no two messages of the blocks are held by the same holder
-abbrev pub AreApart : List Stretch → Type 0
-AreApart blocks = (holder : Holder) → tally (is_held_as holder) (joined (parts blocks)) ≤ 1
+abbrev pub AreHeldOnce : List Stretch → Type 0
+AreHeldOnce blocks = (holder : Holder) → tally (is_held_as holder) (joined (parts blocks)) ≤ 1
 
 -- blocks that were filled (`AreFilled`) still are
 abbrev pub StayFilled : List Stretch → List Stretch → Type 0
@@ -242,7 +242,7 @@ pub record IsCounted (entries : List Entry) (ready live bytes : ℕ) : Type 0 wh
   pub ready_count : ready ≡ tally is_ready entries
   pub live_count : live ≡ length entries
   pub sum : bytes ≡ total ready_size entries
-  pub apart : (holder : Holder) → tally (is_held_as holder) entries ≤ 1
+  pub distinct : (holder : Holder) → tally (is_held_as holder) entries ≤ 1
   pub short : tally is_long entries ≡ 0
 
 -- The slots are at most twice the messages, plus the promised room, plus 3,072. If no room is promised the last block has a message,

@@ -71,7 +71,7 @@ AreSigned slots bits = SlotsAreMarked is_ready slots (bit_of bits.ready)
 pub record BitsShow (slots : List (Option Entry)) (bits : SlotBits) (live : ℕ) : Type 0 where
   pub signed : AreSigned slots bits
   pub live_count : live ≡ length (somes slots)
-  pub apart : (holder : Holder) → tally (is_held_as holder) (somes slots) ≤ 1
+  pub distinct : (holder : Holder) → tally (is_held_as holder) (somes slots) ≤ 1
 
 -- Each of `slots` slots has a bit, and there are no more bits than the vector has capacity.
 pub record HasPlaces (slots capacity places : ℕ) : Type 0 where

@@ -35,9 +35,11 @@ fn twice(slots: usize) -> usize
 /// double the capacity, up to 1,024. Returns `None` if `slots + more` exceeds both the capacity and 1,024.
 fn growth(slots: usize, capacity: usize, more: usize) -> Option<usize>
     requires { slots ≤ capacity }
+    // If slots are added they are enough, at most 1,024 in all unless the capacity is greater, and only `more` if the capacity suffices.
     ensures enough { IfSome result (λ grown. more ≤ grown) }
     ensures few { IfSome result (λ grown. capacity ≤ 1024 → slots + grown ≤ 1024) }
     ensures same { IfSome result (λ grown. slots + more ≤ capacity → grown ≡ more) }
+    // None are added only if `more` exceed both 1,024 slots and the capacity.
     ensures past { IfNone result (1024 < slots + more) }
     ensures wide { IfNone result (capacity < slots + more) }
 {
@@ -53,9 +55,11 @@ fn growth(slots: usize, capacity: usize, more: usize) -> Option<usize>
 /// Reserves capacity for `more` further slots, each with its bit, unless there is enough.
 fn grow(slots: &mut Vec<Slot>, signs: &mut Signs, more: usize) -> Result<(), AllocError>
     requires { vec_capacity slots.old ≤ signs.old.places }
+    // The frame, also after a failure: the slots and their bits are unchanged.
     ensures items { slots.new.items ≡ slots.old.items }
     ensures len { vec_len slots.new ≡ vec_len slots.old }
     ensures bits { SameBits signs.old signs.new }
+    // The capacity is enough on success, with a bit for each slot; it never shrinks, and if it grows, then at most to what is needed.
     ensures places { vec_capacity slots.new ≤ signs.new.places }
     ensures kept { vec_capacity slots.old ≤ vec_capacity slots.new }
     ensures room { OnOk result (vec_len slots.new + more ≤ vec_capacity slots.new) }
@@ -105,7 +109,7 @@ impl Block {
     ghost use Rattle.model.specs.Entries.{is_under, is_held_as, held_as, change_first, without_first};
     ghost use Rattle.model.specs.declared.messages.Mark.TheVariants.{Ready};
     ghost use Rattle.model.specs.declared.messages.Holder.{Holder as Tag};
-    ghost use Rattle.queue.specs.Blocks.{is_in_use, stood_block, IsFilled, IsShort, IsTooMuch, HasSlots, NeedBoth};
+    ghost use Rattle.queue.specs.Blocks.{is_in_use, survived_block, IsFilled, IsShort, IsTooMuch, HasSlots, NeedBoth};
     ghost use Rattle.queue.specs.Line.{requeued};
     ghost use Rattle.queue.specs.Slots.{contents, somes, tally};
 
@@ -164,11 +168,14 @@ impl Block {
     /// Makes room for `more` messages if they fit into the slots that the block has or may have, and returns whether they do.
     /// Closes gaps if at least half of the used slots are empty, and grows if that is not enough. Fails only if an allocation fails.
     pub(crate) fn reserve(&mut self, more: usize) -> Result<bool, AllocError>
+        // The frame, also after a failure: the messages stay, and the room never shrinks.
         ensures entries { self.new.entries ≡ self.old.entries }
         ensures kept { self.old.room ≤ self.new.room }
+        // With `true` the room is there; `false` comes only if they are too much for a block, and a failure only if there was too little room.
         ensures room { IfOk result (λ fits. fits ≡ true → more ≤ self.new.room) }
         ensures fits { IfOk result (λ fits. fits ≡ false → IsTooMuch more self.old) }
         ensures full { OnErr result (self.old.room < more) }
+        // The number of slots stays if it is enough already, and never grows past 1,024.
         ensures same { HasSlots more self.old → self.new.slots ≡ self.old.slots }
         ensures slots { self.old.slots ≤ 1024 → self.new.slots ≤ 1024 }
     {
@@ -207,7 +214,7 @@ impl Block {
     /// Appends the entries of `others`. There are slots for them.
     pub(crate) fn take_in(&mut self, others: Vec<Slot>)
         requires fits { length self.old.entries + length (somes (contents others.items)) ≤ self.old.slots }
-        requires apart { (holder : Tag) → tally (is_held_as holder) (self.old.entries ++ somes (contents others.items)) ≤ 1 }
+        requires distinct { (holder : Tag) → tally (is_held_as holder) (self.old.entries ++ somes (contents others.items)) ≤ 1 }
         ensures entries { self.new.entries ≡ self.old.entries ++ somes (contents others.items) }
         ensures slots { self.new.slots ≡ self.old.slots }
     {
@@ -271,7 +278,7 @@ impl Block {
     /// Marks the first ready message, if any, as held by `holder`, which holds no message yet. Returns the number of its arrival.
     pub(crate) fn hold(&mut self, holder: Holder) -> Option<u64>
         requires { find (is_held_as holder) self.old.entries ≡ None }
-        ensures told { is_some result ≡ is_some (find is_ready self.old.entries) }
+        ensures reported { is_some result ≡ is_some (find is_ready self.old.entries) }
         ensures entries { self.new.entries ≡ change_first is_ready (held_as holder) self.old.entries }
         ensures room { self.new.room ≡ self.old.room }
         ensures slots { self.new.slots ≡ self.old.slots }
@@ -321,7 +328,7 @@ impl Block {
 
     /// Makes the message held by `holder` ready again, in its place and marked as redelivered. Returns whether there is one.
     pub(crate) fn release(&mut self, holder: &Holder, near: usize) -> bool
-        ensures told { result ≡ is_some (find (is_held_as holder.now) self.old.entries) }
+        ensures reported { result ≡ is_some (find (is_held_as holder.now) self.old.entries) }
         ensures entries { self.new.entries ≡ requeued (is_under holder.now) self.old.entries }
         ensures room { self.new.room ≡ self.old.room }
         ensures slots { self.new.slots ≡ self.old.slots }
@@ -355,7 +362,7 @@ impl Block {
 
     /// Marks each message, ready or held, as one that a reload found here.
     pub(crate) fn mark_reloaded(&mut self)
-        ensures { self.new ≡ stood_block self.old }
+        ensures { self.new ≡ survived_block self.old }
     {
         mark_reloaded_in(&mut self.slots);
     }

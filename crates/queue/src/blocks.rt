@@ -8,9 +8,9 @@ ghost use Rattle.model.specs.declared.messages.Mark.TheVariants.{Ready};
 ghost use Rattle.marks.specs.Places.{bit_of};
 ghost use Rattle.queue.specs.Line.{requeued};
 ghost use Rattle.queue.specs.Slots.{num, tally, BitTurned, HavePlaces};
-ghost use Rattle.queue.specs.Blocks.{parts, part_at, part_changed, without_held, joined, last_room, some_pass, size_of, stood_block, AreBlocksSigned};
+ghost use Rattle.queue.specs.Blocks.{parts, part_at, part_changed, without_held, joined, last_room, some_pass, size_of, survived_block, AreBlocksSigned};
 ghost use Rattle.queue.specs.Blocks.{AreFilled, AreFilledBut, AreWhole, HoldAsMany, StayFilled, IsSpent, IsNotSpent, IsHeld, NeedBothAt, FitInOne};
-ghost use Rattle.queue.specs.Blocks.{IsPair, AreNeeded, AreJoined, AreApart, LastFits, LastHasTooMuch, LastHasSlots, LastIsShort, KeepSlots, block_at};
+ghost use Rattle.queue.specs.Blocks.{IsPair, AreNeeded, AreJoined, AreHeldOnce, LastFits, LastHasTooMuch, LastHasSlots, LastIsShort, KeepSlots, block_at};
 
 use crate::block::{BLOCK_SLOTS, Block};
 use crate::signs::Signs;
@@ -118,9 +118,11 @@ pub(crate) fn spot_held(blocks: &[Block], holder: &Holder, arrival: u64) -> Opti
 /// number of its arrival.
 pub(crate) fn hold_at(blocks: &mut Vec<Block>, index: usize, holder: Holder) -> Option<u64>
     requires within { index < vec_len blocks.old }
-    requires apart { find (is_held_as holder) (part_at blocks.old.items index) ≡ None }
-    ensures told { is_some result ≡ some_pass is_ready (part_at blocks.old.items index) }
+    requires distinct { find (is_held_as holder) (part_at blocks.old.items index) ≡ None }
+    // A number is returned exactly if a message is ready, and only the first that is ready changes.
+    ensures reported { is_some result ≡ some_pass is_ready (part_at blocks.old.items index) }
     ensures parts { parts blocks.new.items ≡ part_changed (change_first is_ready (held_as holder)) blocks.old.items index }
+    // The frame: the last block's room and the list's size stay, and the bounds on slots still hold.
     ensures room { last_room blocks.new.items ≡ last_room blocks.old.items }
     ensures len { vec_len blocks.new ≡ vec_len blocks.old }
     ensures capacity { vec_capacity blocks.new ≡ vec_capacity blocks.old }
@@ -134,6 +136,7 @@ pub(crate) fn hold_at(blocks: &mut Vec<Block>, index: usize, holder: Holder) -> 
 pub(crate) fn free_at(blocks: &mut Vec<Block>, index: usize, holder: &Holder, near: usize)
     requires { index < vec_len blocks.old }
     ensures parts { parts blocks.new.items ≡ part_changed (requeued (is_under holder.now)) blocks.old.items index }
+    // The frame: the last block's room and the list's size stay, and the bounds on slots still hold.
     ensures room { last_room blocks.new.items ≡ last_room blocks.old.items }
     ensures len { vec_len blocks.new ≡ vec_len blocks.old }
     ensures capacity { vec_capacity blocks.new ≡ vec_capacity blocks.old }
@@ -149,6 +152,7 @@ pub(crate) fn take_at(blocks: &mut Vec<Block>, index: usize) -> Option<Entry>
     requires some { some_pass is_ready (part_at blocks.old.items index) ≡ true }
     ensures taken { result ≡ find is_ready (part_at blocks.old.items index) }
     ensures parts { parts blocks.new.items ≡ part_changed (without_first is_ready) blocks.old.items index }
+    // The frame: the last block's room and the list's size stay. The bounds on slots hold but for this block, which [`settle`] may free or join.
     ensures room { last_room blocks.new.items ≡ last_room blocks.old.items }
     ensures len { vec_len blocks.new ≡ vec_len blocks.old }
     ensures capacity { vec_capacity blocks.new ≡ vec_capacity blocks.old }
@@ -164,11 +168,13 @@ pub(crate) fn remove_at(
     holder: &Holder,
     near: usize,
 ) -> Option<Entry>
+    // What the caller knows: this block has exactly one message of the holder.
     requires within { index < vec_len blocks.old }
     requires some { some_pass (is_held_as holder.now) (part_at blocks.old.items index) ≡ true }
     requires once { tally (is_held_as holder.now) (part_at blocks.old.items index) ≤ 1 }
     ensures taken { result ≡ find (is_held_as holder.now) (part_at blocks.old.items index) }
     ensures parts { parts blocks.new.items ≡ part_changed (without_held holder.now) blocks.old.items index }
+    // The frame: the last block's room and the list's size stay. The bounds on slots hold but for this block, which [`settle`] may free or join.
     ensures room { last_room blocks.new.items ≡ last_room blocks.old.items }
     ensures len { vec_len blocks.new ≡ vec_len blocks.old }
     ensures capacity { vec_capacity blocks.new ≡ vec_capacity blocks.old }
@@ -179,11 +185,13 @@ pub(crate) fn remove_at(
 
 /// Frees the last block if it has 1,024 slots and no message, and no room is promised.
 pub(crate) fn give_back_spare(blocks: &mut Vec<Block>, room: usize, alloc: Global)
+    // The frame: messages and the list's size stay, so does the last block's room if room is promised, and the bounds on slots still hold.
     ensures parts { parts blocks.new.items ≡ parts blocks.old.items }
     ensures room { 0 < room → last_room blocks.new.items ≡ last_room blocks.old.items }
     ensures len { vec_len blocks.new ≡ vec_len blocks.old }
     ensures capacity { vec_capacity blocks.new ≡ vec_capacity blocks.old }
     ensures filled { StayFilled blocks.old.items blocks.new.items }
+    // If no room is promised, the last block now has a message or fewer than 1,024 slots.
     ensures spare { room ≡ 0 → LastIsShort blocks.new.items }
 {
     if room > 0 || blocks.is_empty() {
@@ -197,7 +205,7 @@ pub(crate) fn give_back_spare(blocks: &mut Vec<Block>, room: usize, alloc: Globa
 
 /// Marks each message of the blocks as one that a reload found here.
 pub(crate) fn mark_reloaded_in(blocks: &mut [Block])
-    ensures { blocks.new ≡ map stood_block blocks.old }
+    ensures { blocks.new ≡ map survived_block blocks.old }
 {
     for block in blocks.iter_mut() {
         block.mark_reloaded();
@@ -217,13 +225,16 @@ fn room_of(blocks: &[Block]) -> usize
 /// Makes room for `more` messages in the last block if they fit into it, and returns whether they do. Fails only if an allocation
 /// fails.
 fn reserve_last(blocks: &mut Vec<Block>, more: usize) -> Result<bool, AllocError>
+    // Also after a failure, messages and the list's size stay, and the room never shrinks; with `true` it suffices.
     ensures parts { parts blocks.new.items ≡ parts blocks.old.items }
     ensures kept { last_room blocks.old.items ≤ last_room blocks.new.items }
     ensures room { IfOk result (λ fits. fits ≡ true → more ≤ last_room blocks.new.items) }
     ensures len { vec_len blocks.new ≡ vec_len blocks.old }
     ensures capacity { vec_capacity blocks.new ≡ vec_capacity blocks.old }
+    // `false` comes only if they are too much for the block, and a failure only if there was too little room.
     ensures fits { IfOk result (λ fits. fits ≡ false → LastHasTooMuch more blocks.old.items) }
     ensures full { OnErr result (last_room blocks.old.items < more) }
+    // The slots stay if there are enough, and within their bounds.
     ensures same { LastHasSlots more blocks.old.items → KeepSlots blocks.old.items blocks.new.items }
     ensures filled { AreFilled 1024 blocks.old.items → AreFilled 1024 blocks.new.items }
 {
@@ -237,9 +248,11 @@ fn reserve_last(blocks: &mut Vec<Block>, more: usize) -> Result<bool, AllocError
 /// Appends `message` to the last block as ready, with the arrival number `arrival`. Returns the index of the block.
 pub(crate) fn push_last(blocks: &mut Vec<Block>, arrival: u64, message: Message) -> usize
     requires { 0 < last_room blocks.old.items }
+    // The message is the last entry of the last block, which has room for one less.
     ensures place { result + 1 ≡ vec_len blocks.old }
     ensures parts { parts blocks.new.items ≡ part_changed (λ es. es ++ record { message = message; mark = Ready } ∷ []) blocks.old.items result }
     ensures room { last_room blocks.new.items + 1 ≡ last_room blocks.old.items }
+    // The frame: the list's size stays, and the bounds on slots still hold.
     ensures len { vec_len blocks.new ≡ vec_len blocks.old }
     ensures capacity { vec_capacity blocks.new ≡ vec_capacity blocks.old }
     ensures filled { StayFilled blocks.old.items blocks.new.items }
@@ -298,6 +311,7 @@ fn is_spent(blocks: &[Block], place: usize) -> bool
 fn give_back_at(blocks: &mut Vec<Block>, place: usize, alloc: Global)
     requires within { place + 1 < vec_len blocks.old }
     requires spent { IsSpent place blocks.old.items }
+    // Only slots are freed: the block stays in the list, empty, and the bounds on slots hold again.
     ensures parts { parts blocks.new.items ≡ parts blocks.old.items }
     ensures room { last_room blocks.new.items ≡ last_room blocks.old.items }
     ensures len { vec_len blocks.new ≡ vec_len blocks.old }
@@ -334,9 +348,11 @@ fn pair_at(blocks: &[Block], place: usize) -> Option<usize>
 
 /// Moves the messages of the next block into the block at index `place`, which has slots for them, and removes the next.
 fn join_at(blocks: &mut Vec<Block>, place: usize)
+    // What the caller knows: the first block has messages and slots for those of both, and no holder has two messages.
     requires within { place + 1 < vec_len blocks.old }
     requires fit { FitInOne (block_at blocks.old.items place) (block_at blocks.old.items (place + 1)) }
-    requires apart { AreApart blocks.old.items }
+    requires distinct { AreHeldOnce blocks.old.items }
+    // The list is shorter by one block, and all messages stay in their order; the last block's room stays unless that block was joined.
     ensures joined { AreJoined place blocks.old.items blocks.new.items }
     ensures entries { joined (parts blocks.new.items) ≡ joined (parts blocks.old.items) }
     ensures room { place + 2 < vec_len blocks.old → last_room blocks.new.items ≡ last_room blocks.old.items }
@@ -350,15 +366,18 @@ fn join_at(blocks: &mut Vec<Block>, place: usize)
 /// Joins the block at index `place` with a neighbour if the first of the two has slots for the messages of both. A message was removed
 /// from the block before.
 fn join_near(blocks: &mut Vec<Block>, signs: &mut Signs, place: usize)
+    // What the caller knows: it isn't the last block, it or the one before has messages, the bits are right, and no holder has two messages.
     requires within { place + 1 < vec_len blocks.old }
     requires left { IsNotSpent place blocks.old.items }
     requires signed { AreBlocksSigned (parts blocks.old.items) signs.old }
     requires places { HavePlaces blocks.old signs.old }
-    requires apart { AreApart blocks.old.items }
+    requires distinct { AreHeldOnce blocks.old.items }
+    // The bits are right for the new list, which is no longer than before.
     ensures signed { AreBlocksSigned (parts blocks.new.items) signs.new }
     ensures places { HavePlaces blocks.new signs.new }
     ensures len { vec_len blocks.new ≤ vec_len blocks.old }
     ensures signs { signs.new.places ≡ signs.old.places }
+    // All messages stay in their order, so does the last block's room, and the bounds on slots hold again.
     ensures entries { joined (parts blocks.new.items) ≡ joined (parts blocks.old.items) }
     ensures room { last_room blocks.new.items ≡ last_room blocks.old.items }
     ensures filled { (most : ℕ) → AreFilledBut place most blocks.old.items → AreFilled most blocks.new.items }
@@ -376,14 +395,17 @@ fn join_near(blocks: &mut Vec<Block>, signs: &mut Signs, place: usize)
 /// Keeps the number of slots low after a message was removed from the block at `index`: frees the block if neither it nor the one
 /// before it has a message, otherwise joins it with a neighbour if the two fit into one. The last block stays as it is.
 pub(crate) fn settle(blocks: &mut Vec<Block>, signs: &mut Signs, index: usize, alloc: Global)
+    // What the caller knows: the bits are right, and no holder has two messages.
     requires within { index < vec_len blocks.old }
     requires signed { AreBlocksSigned (parts blocks.old.items) signs.old }
     requires places { HavePlaces blocks.old signs.old }
-    requires apart { AreApart blocks.old.items }
+    requires distinct { AreHeldOnce blocks.old.items }
+    // The bits are right for the new list, which is no longer than before.
     ensures signed { AreBlocksSigned (parts blocks.new.items) signs.new }
     ensures places { HavePlaces blocks.new signs.new }
     ensures len { vec_len blocks.new ≤ vec_len blocks.old }
     ensures signs { signs.new.places ≡ signs.old.places }
+    // All messages stay in their order, so does the last block's room, and the bounds on slots hold again.
     ensures entries { joined (parts blocks.new.items) ≡ joined (parts blocks.old.items) }
     ensures room { last_room blocks.new.items ≡ last_room blocks.old.items }
     ensures filled { (most : ℕ) → AreFilledBut index most blocks.old.items → AreFilled most blocks.new.items }
@@ -414,10 +436,12 @@ fn drop_given_back(blocks: &mut Vec<Block>)
 fn make_places(blocks: &mut Vec<Block>, signs: &mut Signs, more: usize) -> Result<(), AllocError>
     requires signed { AreBlocksSigned (parts blocks.old.items) signs.old }
     requires places { HavePlaces blocks.old signs.old }
+    // The frame, also after a failure: the bits are right, all messages stay in their order, and the room never shrinks.
     ensures signed { AreBlocksSigned (parts blocks.new.items) signs.new }
     ensures places { HavePlaces blocks.new signs.new }
     ensures entries { joined (parts blocks.new.items) ≡ joined (parts blocks.old.items) }
     ensures kept { last_room blocks.old.items ≤ last_room blocks.new.items }
+    // On success there are bits for `more` further blocks, and never for fewer than before; the bounds on slots still hold.
     ensures room { OnOk result (vec_len blocks.new + more ≤ signs.new.places) }
     ensures held { HoldAsMany blocks.old signs.old blocks.new signs.new }
     ensures filled { StayFilled blocks.old.items blocks.new.items }
@@ -434,15 +458,18 @@ fn make_places(blocks: &mut Vec<Block>, signs: &mut Signs, more: usize) -> Resul
 
 /// Appends `block`, which is empty. The block that was the last is then freed, or joined with the one before it, as [`settle`] does.
 fn append_block(blocks: &mut Vec<Block>, signs: &mut Signs, block: Block, alloc: Global)
+    // What the caller knows: the bits are right, there is one for the new block, and no holder has two messages.
     requires signed { AreBlocksSigned (parts blocks.old.items) signs.old }
     requires places { HavePlaces blocks.old signs.old }
-    requires apart { AreApart blocks.old.items }
+    requires distinct { AreHeldOnce blocks.old.items }
     requires held { vec_len blocks.old < signs.old.places }
     requires empty { block.entries ≡ [] }
+    // The bits are right for the new list, all messages stay in their order, and the last block has the room of `block`.
     ensures signed { AreBlocksSigned (parts blocks.new.items) signs.new }
     ensures places { HavePlaces blocks.new signs.new }
     ensures entries { joined (parts blocks.new.items) ≡ joined (parts blocks.old.items) }
     ensures room { last_room blocks.new.items ≡ block.room }
+    // The list is longer by one block at most, with as many bits; the bounds on slots still hold if `block` is within them.
     ensures len { vec_len blocks.new ≤ vec_len blocks.old + 1 }
     ensures signs { signs.new.places ≡ signs.old.places }
     ensures filled { (most : ℕ) → block.slots ≤ most → AreFilled most blocks.old.items → AreFilled most blocks.new.items }
@@ -461,14 +488,17 @@ fn start_first(
     first: u64,
     spares: usize,
 ) -> Result<(), AllocError>
+    // What the caller knows: the bits are right and suffice for `spares` more blocks, and no holder has two messages.
     requires signed { AreBlocksSigned (parts blocks.old.items) signs.old }
     requires places { HavePlaces blocks.old signs.old }
-    requires apart { AreApart blocks.old.items }
+    requires distinct { AreHeldOnce blocks.old.items }
     requires held { vec_len blocks.old + spares ≤ signs.old.places }
+    // The frame, also after a failure: the bits are right, all messages stay in their order, and the room never shrinks.
     ensures signed { AreBlocksSigned (parts blocks.new.items) signs.new }
     ensures places { HavePlaces blocks.new signs.new }
     ensures entries { joined (parts blocks.new.items) ≡ joined (parts blocks.old.items) }
     ensures kept { last_room blocks.old.items ≤ last_room blocks.new.items }
+    // Bits for `spares` more blocks are still there, and the bounds on slots still hold.
     ensures held { vec_len blocks.new + spares ≤ signs.new.places }
     ensures filled { StayFilled blocks.old.items blocks.new.items }
 {
@@ -520,15 +550,18 @@ fn add_spares(
     alloc: Global,
     more: usize,
 ) -> Result<(), AllocError>
+    // What the caller knows: the bits are right and suffice for the spare blocks, too, which have 1,024 slots each and no message.
     requires signed { AreBlocksSigned (parts blocks.old.items) signs.old }
     requires places { HavePlaces blocks.old signs.old }
     requires held { vec_len blocks.old + vec_len spares.old ≤ signs.old.places }
     requires whole { AreWhole spares.old.items }
+    // The frame, also after a failure: bits and spare blocks are right, and all messages stay in their order.
     ensures signed { AreBlocksSigned (parts blocks.new.items) signs.new }
     ensures places { HavePlaces blocks.new signs.new }
     ensures entries { joined (parts blocks.new.items) ≡ joined (parts blocks.old.items) }
     ensures held { vec_len blocks.new + vec_len spares.new ≤ signs.new.places }
     ensures whole { AreWhole spares.new.items }
+    // The room never shrinks and no spare block is lost; on success there is room for `more`. The bounds on slots still hold.
     ensures kept { last_room blocks.old.items ≤ last_room blocks.new.items }
     ensures least { vec_len spares.old ≤ vec_len spares.new }
     ensures room { OnOk result (more ≤ last_room blocks.new.items + vec_len spares.new * 1024) }
@@ -547,15 +580,18 @@ fn grow_last(
     alloc: Global,
     more: usize,
 ) -> Result<(), AllocError>
+    // What the caller knows: the bits are right and suffice for the spare blocks, too, which have 1,024 slots each and no message.
     requires signed { AreBlocksSigned (parts blocks.old.items) signs.old }
     requires places { HavePlaces blocks.old signs.old }
     requires held { vec_len blocks.old + vec_len spares.old ≤ signs.old.places }
     requires whole { AreWhole spares.old.items }
+    // The frame, also after a failure: bits and spare blocks are right, and all messages stay in their order.
     ensures signed { AreBlocksSigned (parts blocks.new.items) signs.new }
     ensures places { HavePlaces blocks.new signs.new }
     ensures entries { joined (parts blocks.new.items) ≡ joined (parts blocks.old.items) }
     ensures held { vec_len blocks.new + vec_len spares.new ≤ signs.new.places }
     ensures whole { AreWhole spares.new.items }
+    // The room never shrinks and no spare block is lost; on success there is room for `more`.
     ensures kept { last_room blocks.old.items ≤ last_room blocks.new.items }
     ensures least { vec_len spares.old ≤ vec_len spares.new }
     ensures room { OnOk result (more ≤ last_room blocks.new.items + vec_len spares.new * 1024) }
@@ -580,16 +616,19 @@ fn grow_room(
     first: u64,
     more: usize,
 ) -> Result<(), AllocError>
+    // What the caller knows: the bits are right and suffice for the spare blocks, too, which are empty; no holder has two messages.
     requires signed { AreBlocksSigned (parts blocks.old.items) signs.old }
     requires places { HavePlaces blocks.old signs.old }
-    requires apart { AreApart blocks.old.items }
+    requires distinct { AreHeldOnce blocks.old.items }
     requires held { vec_len blocks.old + vec_len spares.old ≤ signs.old.places }
     requires whole { AreWhole spares.old.items }
+    // The frame, also after a failure: bits and spare blocks are right, and all messages stay in their order.
     ensures signed { AreBlocksSigned (parts blocks.new.items) signs.new }
     ensures places { HavePlaces blocks.new signs.new }
     ensures entries { joined (parts blocks.new.items) ≡ joined (parts blocks.old.items) }
     ensures held { vec_len blocks.new + vec_len spares.new ≤ signs.new.places }
     ensures whole { AreWhole spares.new.items }
+    // The room never shrinks and no spare block is lost; on success there is room for `more`. The bounds on slots still hold.
     ensures kept { last_room blocks.old.items ≤ last_room blocks.new.items }
     ensures least { vec_len spares.old ≤ vec_len spares.new }
     ensures room { OnOk result (more ≤ last_room blocks.new.items + vec_len spares.new * 1024) }
@@ -606,6 +645,7 @@ fn grow_room(
 fn drop_spares(blocks: &[Block], spares: &mut Vec<Block>, room: usize)
     requires there { room ≤ last_room blocks.now + vec_len spares.old * 1024 }
     requires whole { AreWhole spares.old.items }
+    // The promised room is still there, and with one spare block less it wouldn't be; none is added.
     ensures there { room ≤ last_room blocks.now + vec_len spares.new * 1024 }
     ensures needed { 0 < vec_len spares.new → last_room blocks.now + vec_len spares.new * 1024 < room + 1024 }
     ensures whole { AreWhole spares.new.items }
@@ -623,10 +663,12 @@ pub(crate) fn keep_room(
 )
     requires there { room ≤ last_room blocks.old.items + vec_len spares.old * 1024 }
     requires whole { AreWhole spares.old.items }
+    // The frame: messages and the list's size stay, and the bounds on slots still hold.
     ensures parts { parts blocks.new.items ≡ parts blocks.old.items }
     ensures len { vec_len blocks.new ≡ vec_len blocks.old }
     ensures capacity { vec_capacity blocks.new ≡ vec_capacity blocks.old }
     ensures filled { StayFilled blocks.old.items blocks.new.items }
+    // If no room is promised the last block has a message or fewer than 1,024 slots. One spare block less would be too few; none is added.
     ensures short { room ≡ 0 → LastIsShort blocks.new.items }
     ensures there { room ≤ last_room blocks.new.items + vec_len spares.new * 1024 }
     ensures needed { 0 < vec_len spares.new → last_room blocks.new.items + vec_len spares.new * 1024 < room + 1024 }
@@ -648,21 +690,25 @@ pub(crate) fn make_room(
     room: usize,
     more: usize,
 ) -> Result<(), AllocError>
+    // What the caller knows: the bits are right and suffice for the spare blocks, too, which are empty; no holder has two messages.
     requires signed { AreBlocksSigned (parts blocks.old.items) signs.old }
     requires places { HavePlaces blocks.old signs.old }
-    requires apart { AreApart blocks.old.items }
+    requires distinct { AreHeldOnce blocks.old.items }
     requires held { vec_len blocks.old + vec_len spares.old ≤ signs.old.places }
     requires whole { AreWhole spares.old.items }
     requires there { room ≤ last_room blocks.old.items + vec_len spares.old * 1024 }
+    // The frame, also after a failure: bits, spare blocks and bounds on slots are right, and all messages stay in their order.
     ensures signed { AreBlocksSigned (parts blocks.new.items) signs.new }
     ensures places { HavePlaces blocks.new signs.new }
     ensures entries { joined (parts blocks.new.items) ≡ joined (parts blocks.old.items) }
     ensures held { vec_len blocks.new + vec_len spares.new ≤ signs.new.places }
     ensures whole { AreWhole spares.new.items }
     ensures filled { AreFilled 1024 blocks.old.items → AreFilled 1024 blocks.new.items }
+    // On success there is room for `more` messages, and no spare block more than that needs.
     ensures made_there { OnOk result (more ≤ last_room blocks.new.items + vec_len spares.new * 1024) }
     ensures made_needed { OnOk result (0 < vec_len spares.new → last_room blocks.new.items + vec_len spares.new * 1024 < more + 1024) }
     ensures made_short { OnOk result (more ≡ 0 → LastIsShort blocks.new.items) }
+    // After a failure there is room for `room` messages, and no spare block more than that needs.
     ensures kept_there { OnErr result (room ≤ last_room blocks.new.items + vec_len spares.new * 1024) }
     ensures kept_needed { OnErr result (0 < vec_len spares.new → last_room blocks.new.items + vec_len spares.new * 1024 < room + 1024) }
     ensures kept_short { OnErr result (room ≡ 0 → LastIsShort blocks.new.items) }
@@ -687,17 +733,20 @@ pub(crate) fn open_spare(
     alloc: Global,
     first: u64,
 )
+    // What the caller knows: the bits are right and suffice for the spare blocks, too, which are empty; no holder has two messages.
     requires signed { AreBlocksSigned (parts blocks.old.items) signs.old }
     requires places { HavePlaces blocks.old signs.old }
-    requires apart { AreApart blocks.old.items }
+    requires distinct { AreHeldOnce blocks.old.items }
     requires held { vec_len blocks.old + vec_len spares.old ≤ signs.old.places }
     requires whole { AreWhole spares.old.items }
     requires room { 0 < last_room blocks.old.items + vec_len spares.old * 1024 }
+    // The frame: bits and spare blocks are right, and all messages stay in their order.
     ensures signed { AreBlocksSigned (parts blocks.new.items) signs.new }
     ensures places { HavePlaces blocks.new signs.new }
     ensures entries { joined (parts blocks.new.items) ≡ joined (parts blocks.old.items) }
     ensures held { vec_len blocks.new + vec_len spares.new ≤ signs.new.places }
     ensures whole { AreWhole spares.new.items }
+    // The last block has room; in all there is as much as before, for a block comes from the spare ones. The bounds on slots still hold.
     ensures room { 0 < last_room blocks.new.items }
     ensures sum { last_room blocks.new.items + vec_len spares.new * 1024 ≡ last_room blocks.old.items + vec_len spares.old * 1024 }
     ensures few { vec_len spares.new ≤ vec_len spares.old }

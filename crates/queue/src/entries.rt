@@ -3,7 +3,7 @@
 ghost use Rattle.std.specs.Prelude.{◌≡◌};
 ghost use Rattle.model.specs.Broker.{is_ready};
 ghost use Rattle.model.specs.Entries.{is_under, is_held_as, freed, freed_now, held_as};
-ghost use Rattle.model.specs.Reloading.{stood_now};
+ghost use Rattle.model.specs.Reloading.{survived_now};
 
 use model::{Entry, Holder, Mark};
 
@@ -58,8 +58,8 @@ pub(crate) fn free_under(entry: &mut Entry, holder: &Holder)
 }
 
 /// Marks the message as one that a reload found here.
-pub(crate) fn stand(entry: &mut Entry)
-    ensures { entry.new ≡ stood_now entry.old }
+pub(crate) fn mark_survived(entry: &mut Entry)
+    ensures { entry.new ≡ survived_now entry.old }
 {
-    entry.message.stand();
+    entry.message.mark_survived();
 }

@@ -5,12 +5,12 @@ ghost use Rattle.std.specs.List.{position_from};
 ghost use Rattle.model.specs.Broker as seen;
 ghost use Rattle.model.specs.Broker.{is_ready};
 ghost use Rattle.model.specs.Entries.{is_under, is_held_as, held_as, change_first, without_first, number_of};
-ghost use Rattle.model.specs.Reloading.{stood_now};
+ghost use Rattle.model.specs.Reloading.{survived_now};
 ghost use Rattle.queue.specs.Line as seen_line;
 ghost use Rattle.queue.specs.Blocks as blocks;
 ghost use Rattle.queue.specs.Line.{requeued};
 
-use crate::entries::{free_under, hold, is_free, is_held_under, stand};
+use crate::entries::{free_under, hold, is_free, is_held_under, mark_survived};
 use model::{Entry, Holder};
 
 /// Returns the number of ready entries.
@@ -58,7 +58,7 @@ fn place_ready(entries: &[Entry]) -> Option<usize>
 
 /// Marks the first ready entry, if any, as held by `holder`. Returns whether there is one.
 pub(crate) fn hold_first(entries: &mut Vec<Entry>, holder: Holder) -> bool
-    ensures told { result ≡ is_some (find is_ready entries.old.items) }
+    ensures reported { result ≡ is_some (find is_ready entries.old.items) }
     ensures entries { entries.new.items ≡ change_first is_ready (held_as holder) entries.old.items }
     ensures len { vec_len entries.new ≡ vec_len entries.old }
     ensures capacity { vec_capacity entries.new ≡ vec_capacity entries.old }
@@ -105,7 +105,7 @@ pub(crate) fn first_held<'a>(entries: &'a [Entry], holder: &Holder) -> Option<&'
 
 /// Makes all entries held by `holder` ready again, and marks them as redelivered. Returns whether there is one.
 pub(crate) fn release(entries: &mut Vec<Entry>, holder: &Holder) -> bool
-    ensures told { result ≡ is_some (find (is_held_as holder.now) entries.old.items) }
+    ensures reported { result ≡ is_some (find (is_held_as holder.now) entries.old.items) }
     ensures entries { entries.new.items ≡ requeued (is_under holder.now) entries.old.items }
     ensures len { vec_len entries.new ≡ vec_len entries.old }
     ensures capacity { vec_capacity entries.new ≡ vec_capacity entries.old }
@@ -203,6 +203,7 @@ pub(crate) fn purge(entries: &mut Vec<Entry>, numbers: &mut Vec<u64>)
     requires { vec_len numbers.old + seen_line.ready_count entries.old.items ≤ vec_capacity numbers.old }
     ensures entries { entries.new.items ≡ filter (λ e. not (is_ready e)) entries.old.items }
     ensures numbers { numbers.new.items ≡ numbers.old.items ++ map number_of (filter is_ready entries.old.items) }
+    // The frame: `entries` is no longer than before, and neither capacity changes.
     ensures len { vec_len entries.new ≤ vec_len entries.old }
     ensures capacity { vec_capacity entries.new ≡ vec_capacity entries.old }
     ensures numbers_capacity { vec_capacity numbers.new ≡ vec_capacity numbers.old }
@@ -213,9 +214,9 @@ pub(crate) fn purge(entries: &mut Vec<Entry>, numbers: &mut Vec<u64>)
 
 /// Marks each entry as one that a reload found here.
 pub(crate) fn mark_reloaded(entries: &mut [Entry])
-    ensures { entries.new ≡ map stood_now entries.old }
+    ensures { entries.new ≡ map survived_now entries.old }
 {
     for entry in entries.iter_mut() {
-        stand(entry);
+        mark_survived(entry);
     }
 }

@@ -4,11 +4,11 @@ ghost use Rattle.std.specs.Prelude.{◌≡◌, ◌+◌, ◌*◌, ◌<◌, ◌≤
 ghost use Rattle.std.specs.Prelude.{option_map, IfSome, IfNone, Some, None};
 ghost use Rattle.model.specs.Broker.{is_ready};
 ghost use Rattle.model.specs.Entries.{is_held_as, held_as, freed_now};
-ghost use Rattle.model.specs.Reloading.{stood_now};
+ghost use Rattle.model.specs.Reloading.{survived_now};
 ghost use Rattle.marks.specs.Places.{bit_of};
 ghost use Rattle.queue.specs.Slots.{contents, somes, slot_has, slot_at, slot_changed, changed, num, AreSigned, BitTurned};
 
-use crate::entries::{free, hold, is_free, is_held_under, stand};
+use crate::entries::{free, hold, is_free, is_held_under, mark_survived};
 use crate::signs::Signs;
 use model::{Entry, Holder};
 
@@ -38,11 +38,11 @@ fn hold_here(entry: &mut Option<Entry>, holder: Holder)
 }
 
 /// Marks the entry, if any, as one that a reload found here.
-fn stand_here(entry: &mut Option<Entry>)
-    ensures { entry.new ≡ changed stood_now entry.old }
+fn mark_survived_here(entry: &mut Option<Entry>)
+    ensures { entry.new ≡ changed survived_now entry.old }
 {
     if let Some(entry) = entry {
-        stand(entry);
+        mark_survived(entry);
     }
 }
 
@@ -125,10 +125,10 @@ pub(crate) fn free_at(slots: &mut Vec<Slot>, index: usize)
 
 /// Marks each entry as one that a reload found here.
 pub(crate) fn mark_reloaded_in(slots: &mut [Slot])
-    ensures { contents slots.new ≡ map (changed stood_now) (contents slots.old) }
+    ensures { contents slots.new ≡ map (changed survived_now) (contents slots.old) }
 {
     for slot in slots.iter_mut() {
-        stand_here(&mut slot.entry);
+        mark_survived_here(&mut slot.entry);
     }
 }
 
@@ -209,11 +209,14 @@ fn sign_all(slots: &[Slot], signs: &mut Signs, places: usize)
 
 /// Removes the empty slots, and sets the bits of the rest.
 fn close_gaps(slots: &mut Vec<Slot>, signs: &mut Signs)
+    // What the caller knows: each slot has a bit, which says whether its message is ready.
     requires within { vec_len slots.old ≤ signs.old.places }
     requires signed { AreSigned (contents slots.old.items) signs.old }
+    // The entries stay in their order, each in one of the slots that are left, and the bits are right for these.
     ensures signed { AreSigned (contents slots.new.items) signs.new }
     ensures entries { somes (contents slots.new.items) ≡ somes (contents slots.old.items) }
     ensures closed { vec_len slots.new ≡ length (somes (contents slots.old.items)) }
+    // The frame: the capacity of `slots` and the number of bits stay.
     ensures capacity { vec_capacity slots.new ≡ vec_capacity slots.old }
     ensures places { signs.new.places ≡ signs.old.places }
 {
@@ -224,13 +227,16 @@ fn close_gaps(slots: &mut Vec<Slot>, signs: &mut Signs)
 
 /// Removes the empty slots if they are at least half of `slots`. `live` is the number of those with an entry.
 pub(crate) fn close_many_gaps(slots: &mut Vec<Slot>, signs: &mut Signs, live: usize)
+    // What the caller knows: each slot has a bit, which says whether its message is ready, and `live` is right.
     requires within { vec_len slots.old ≤ signs.old.places }
     requires signed { AreSigned (contents slots.old.items) signs.old }
     requires live { live ≡ length (somes (contents slots.old.items)) }
+    // The entries stay in their order, in at most twice as many slots, and the bits are right for these.
     ensures signed { AreSigned (contents slots.new.items) signs.new }
     ensures entries { somes (contents slots.new.items) ≡ somes (contents slots.old.items) }
     ensures len { vec_len slots.new ≤ vec_len slots.old }
     ensures few { vec_len slots.new ≤ live * 2 }
+    // The frame: the capacity of `slots` and the number of bits stay.
     ensures capacity { vec_capacity slots.new ≡ vec_capacity slots.old }
     ensures places { signs.new.places ≡ signs.old.places }
 {
@@ -243,12 +249,15 @@ pub(crate) fn close_many_gaps(slots: &mut Vec<Slot>, signs: &mut Signs, live: us
 /// Removes the empty slots, appends the entries of `others`, and sets the bits. `slots` has capacity for all entries. Returns the number of
 /// entries appended.
 pub(crate) fn move_in(slots: &mut Vec<Slot>, signs: &mut Signs, others: Vec<Slot>) -> usize
+    // What the caller knows: there is capacity for all entries, with a bit for each slot, and the bits are right.
     requires within { vec_capacity slots.old ≤ signs.old.places }
     requires signed { AreSigned (contents slots.old.items) signs.old }
     requires room { length (somes (contents slots.old.items)) + length (somes (contents others.items)) ≤ vec_capacity slots.old }
+    // The entries of `others` come behind those of `slots`, all in their order, and the bits are right.
     ensures signed { AreSigned (contents slots.new.items) signs.new }
     ensures entries { somes (contents slots.new.items) ≡ somes (contents slots.old.items) ++ somes (contents others.items) }
     ensures count { result ≡ length (somes (contents others.items)) }
+    // The frame: the capacity of `slots` and the number of bits stay.
     ensures capacity { vec_capacity slots.new ≡ vec_capacity slots.old }
     ensures places { signs.new.places ≡ signs.old.places }
 {

@@ -4,7 +4,7 @@ ghost use Rattle.std.specs.Prelude.{◌≡◌, ◌+◌, ◌<◌, ◌≤◌, ◌�
 ghost use Rattle.std.specs.Prelude.{OnOk, OnErr, None, find, filter, map, max, not, is_some, option_map, vec_len, vec_capacity};
 ghost use Rattle.model.specs.Broker.{is_at, is_past, is_ready, ready_bytes};
 ghost use Rattle.model.specs.Entries.{is_under, is_held_as, held_as, change_first, without_first, number_of};
-ghost use Rattle.model.specs.Reloading.{stood_now};
+ghost use Rattle.model.specs.Reloading.{survived_now};
 ghost use Rattle.model.specs.declared.messages.Mark.TheVariants.{Ready};
 ghost use Rattle.queue.specs.Line.{Line, ready_count, requeued};
 
@@ -73,7 +73,7 @@ pub trait Store: Drop {
     /// with which later calls find it faster, or 0 if arrivals are not numbered. Never allocates.
     fn hold(&mut self, holder: Holder) -> Option<u64>
         requires { find (is_held_as holder) (line self.old).entries ≡ None }
-        ensures told { is_some result ≡ is_some (find is_ready (line self.old).entries) }
+        ensures reported { is_some result ≡ is_some (find is_ready (line self.old).entries) }
         ensures entries { (line self.new).entries ≡ change_first is_ready (held_as holder) (line self.old).entries }
         ensures room { (line self.new).room ≡ (line self.old).room };
 
@@ -90,7 +90,7 @@ pub trait Store: Drop {
     /// Makes the message held by `holder` ready again, in its place and marked as redelivered. Returns whether there is one.
     /// Never allocates.
     fn release(&mut self, holder: &Holder, arrival: u64) -> bool
-        ensures told { result ≡ is_some (find (is_held_as holder.now) (line self.old).entries) }
+        ensures reported { result ≡ is_some (find (is_held_as holder.now) (line self.old).entries) }
         ensures entries { (line self.new).entries ≡ requeued (is_under holder.now) (line self.old).entries }
         ensures room { (line self.new).room ≡ (line self.old).room };
 
@@ -111,7 +111,7 @@ pub trait Store: Drop {
 
     /// Marks each message, ready or held, as one that a reload found here. Never allocates.
     fn mark_reloaded(&mut self)
-        ensures entries { (line self.new).entries ≡ map stood_now (line self.old).entries }
+        ensures entries { (line self.new).entries ≡ map survived_now (line self.old).entries }
         ensures room { (line self.new).room ≡ (line self.old).room };
 
     /// Returns an iterator over the entries, ready and held, in the order of arrival.

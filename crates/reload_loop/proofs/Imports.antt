@@ -4,13 +4,13 @@ pub use Rattle.engine.specs.World.{world_of}
 pub use Rattle.model.specs.Arrivals.{Same, World, new_world}
 pub use Rattle.model.specs.State.{Config}
 pub use Rattle.model.specs.Words.{Text}
-pub use Rattle.reload_loop.specs.Looks.{IsFaultTold, IsFound, IsFoundAgain, IsOffered, IsWhyNotPut, JudgesOffer, Looks, WasFound, done, refused, stopped, unchanged, wanting}
+pub use Rattle.reload_loop.specs.Looks.{IsFaultReported, IsFound, IsFoundAgain, IsOffered, IsWhyNotPut, JudgesOffer, Looks, WasFound, done, refused, stopped, unchanged, wanting}
 pub use Rattle.reload_loop.specs.Program.{AsksToServe, IsEvery, IsNotServe, ServesReloading, asked_by, names_in, reloading, reloads, serves, unserved, without}
-pub use Rattle.reload_loop.specs.ServesOn.{ServesOn, Standing, last, more, standing}
+pub use Rattle.reload_loop.specs.ServesOn.{ServesOn, BetweenRounds, last, more, between_rounds}
 pub use Rattle.reload_loop.specs.Snapshots.{AllRead, AreHeld, AreSame, IsHeld, IsReadFrom, IsSameText, IsSlotOf, Snap, WasRead, known_in, names_of}
 pub use Rattle.reload_loop.specs.declared.found.Found.{Found}
 pub use Rattle.scripts.specs.FileNames.{FileNames}
-pub use Rattle.server.proofs.Beginning.{asked_once, asks_same, memory_told}
+pub use Rattle.server.proofs.Beginning.{asked_once, asks_same, memory_reported}
 pub use Rattle.server.specs.Files.{Absent, AreKept, HasText, Holds, Known, Unknown}
 pub use Rattle.server.specs.Streams.{OutputStream, change}
 pub use Rattle.serving.specs.Story.{Served, served}

@@ -1,17 +1,17 @@
 -- What a look comes to, by its steps.
-use Rattle.reload_loop.proofs.Imports.{◌≡◌, Bool, false, Decides, Option, Some, None, refl, subst, sym, Ok, Err, Text, Config, World, Same, engine_lacks, Known, Holds, Absent, Unknown, AreKept, HasText, FileNames, OutputStream, change, Found, Snap, AllRead, AreHeld, AreSame, IsHeld, IsReadFrom, IsSameText, IsSlotOf, WasRead, IsFaultTold, IsFound, IsFoundAgain, IsOffered, IsWhyNotPut, JudgesOffer, Looks, WasFound, done, refused, stopped, wanting}
+use Rattle.reload_loop.proofs.Imports.{◌≡◌, Bool, false, Decides, Option, Some, None, refl, subst, sym, Ok, Err, Text, Config, World, Same, engine_lacks, Known, Holds, Absent, Unknown, AreKept, HasText, FileNames, OutputStream, change, Found, Snap, AllRead, AreHeld, AreSame, IsHeld, IsReadFrom, IsSameText, IsSlotOf, WasRead, IsFaultReported, IsFound, IsFoundAgain, IsOffered, IsWhyNotPut, JudgesOffer, Looks, WasFound, done, refused, stopped, wanting}
 use Rattle.std.proofs.Common.{true}
 use Rattle.std.specs.Io.KnownBytes.{Keeps}
-use Rattle.runs.specs.Reloaded.{IsPutInForce, TellsReload, IsMemory, wanting as wanting_is}
+use Rattle.runs.specs.Reloaded.{IsPutInForce, ReportsReload, IsMemory, wanting as wanting_is}
 use Rattle.model.specs.declared.obstacles.Obstacle.{Obstacle}
 use Rattle.model.specs.declared.obstacles.Obstacle.TheVariants as obstacle
 use Rattle.runs.specs.Faults.{obstacle_in}
 use Rattle.runs.specs.Wants.{To_reload}
-use Rattle.engine.specs.Offered.{TellsWhatStands}
+use Rattle.engine.specs.Offered.{JudgesOffered}
 use Rattle.runs.specs.declared.faults.ReloadFault.{ReloadFault}
 use Rattle.runs.specs.declared.faults.ReloadFault.TheVariants.{InUse, Breaks, Memory}
-use Rattle.server.specs.declared.refusals.Told.{Told}
-use Rattle.server.specs.Program.{TellsLine, refusal_line}
+use Rattle.server.specs.declared.refusals.Report.{Report}
+use Rattle.server.specs.Program.{WritesLine, refusal_line}
 use Rattle.reload_loop.specs.declared.found.Found.TheVariants.{Nothing, Refused, Admitted}
 
 -- a stream that was not written to
@@ -62,13 +62,13 @@ read_before a b names s k h = subst (λ (x : Text → Known). IsReadFrom x names
 -- what was found before is found in files that are found as they were read then
 pub found_again : (holds : Text → Known) (names : FileNames) (kept : Snap) (found : Found) → WasFound names kept found → IsFoundAgain holds names found → IsFound holds names kept found
 found_again holds names kept Nothing was again = absurd again
-found_again holds names kept (Refused read told) was again = (again, was)
+found_again holds names kept (Refused read report) was again = (again, was)
 found_again holds names kept (Admitted read force) was again = (again, was)
 
 -- what is found now was found
 pub was_found : (holds : Text → Known) (names : FileNames) (kept : Snap) (found : Found) → IsFound holds names kept found → WasFound names kept found
 was_found holds names kept Nothing is = tt
-was_found holds names kept (Refused read told) is = is.1
+was_found holds names kept (Refused read report) is = is.1
 was_found holds names kept (Admitted read force) is = is.1
 
 -- files that have what is kept, once what is known of them stayed, had it before
@@ -79,45 +79,45 @@ held_before a b names s k h = subst (λ (x : Text → Known). AreHeld x names s)
 pub found_before : (a b : Text → Known) (names : FileNames) (kept : Snap) (found : Found) → AreKept a b → IsFound b names kept found → IsFound a names kept found
 found_before a b names kept found k = subst (λ (x : Text → Known). IsFound x names kept found) (same_holds a b k)
 
--- what was refused is told
-pub refused_look : (holds : Text → Known) (names : FileNames) (err : OutputStream) (kept read : Snap) (old : World) (told : Told) (whole : Bool) → IsFound holds names kept (Refused read told)
-    → TellsLine err (refusal_line told.file.now told.why) whole → Looks holds names err kept old kept old whole
-refused_look holds names err kept read old told whole is line = refused read is.0 is.1.other (record { file = told.file.now; why = told.why; fails = is.1.fails; told = line })
+-- what was refused is reported
+pub refused_look : (holds : Text → Known) (names : FileNames) (err : OutputStream) (kept read : Snap) (old : World) (report : Report) (whole : Bool) → IsFound holds names kept (Refused read report)
+    → WritesLine err (refusal_line report.file.now report.why) whole → Looks holds names err kept old kept old whole
+refused_look holds names err kept read old report whole is line = refused read is.0 is.1.other (record { file = report.file.now; why = report.why; fails = is.1.fails; reported = line })
 
 pub done_look : (holds : Text → Known) (names : FileNames) (o : Option Text) (kept read : Snap) (a b : World) (force : Config) → IsReadFrom holds names read → IsOffered names kept read force → IsPutInForce a force b
     → Looks holds names (change o o) kept a read b true
 done_look holds names o kept read a b force from f p = done force from f.other f.states p (untouched o)
 
--- what is not put in force is told, and nothing is different
+-- what is not put in force is reported, and nothing is different
 pub fault_look : (holds : Text → Known) (names : FileNames) (err : OutputStream) (kept read : Snap) (a b : World) (force : Config) (fault : ReloadFault) (whole : Bool) → IsReadFrom holds names read → IsOffered names kept read force
-    → IsWhyNotPut a force (obstacle_in fault) → Same a b → IsFaultTold err fault whole → Looks holds names err kept a kept b whole
-fault_look holds names err kept read a b force (InUse q) whole from f why same told = stopped read force (obstacle.InUse q) from f.other f.states why same told
-fault_look holds names err kept read a b force (Breaks q key number) whole from f why same told = stopped read force (obstacle.Breaks q key number) from f.other f.states why same told
-fault_look holds names err kept read a b force Memory whole from f why same told = wanting read force from f.other f.states why same told
+    → IsWhyNotPut a force (obstacle_in fault) → Same a b → IsFaultReported err fault whole → Looks holds names err kept a kept b whole
+fault_look holds names err kept read a b force (InUse q) whole from f why same report = stopped read force (obstacle.InUse q) from f.other f.states why same report
+fault_look holds names err kept read a b force (Breaks q key number) whole from f why same report = stopped read force (obstacle.Breaks q key number) from f.other f.states why same report
+fault_look holds names err kept read a b force Memory whole from f why same report = wanting read force from f.other f.states why same report
 
 -- the obstacle to it is reported, or there is none
-pub stands : (w : World) (force : Config) (found : Option Obstacle) (o : Obstacle) (fault : ReloadFault) → found ≡ Some o → TellsWhatStands w force found → obstacle_in fault ≡ Some o → JudgesOffer w force (Err fault)
-stands w force found o fault is t told = subst (λ (z : Option Obstacle). IsWhyNotPut w force z) (sym told) (subst (λ (z : Option Obstacle). TellsWhatStands w force z) is t)
+pub stands : (w : World) (force : Config) (found : Option Obstacle) (o : Obstacle) (fault : ReloadFault) → found ≡ Some o → JudgesOffered w force found → obstacle_in fault ≡ Some o → JudgesOffer w force (Err fault)
+stands w force found o fault is t report = subst (λ (z : Option Obstacle). IsWhyNotPut w force z) (sym report) (subst (λ (z : Option Obstacle). JudgesOffered w force z) is t)
 
-pub none_stands : (w : World) (force : Config) (found : Option Obstacle) → found ≡ None → TellsWhatStands w force found → JudgesOffer w force (Ok tt)
-none_stands w force found none t = subst (λ (z : Option Obstacle). TellsWhatStands w force z) none t
+pub none_stands : (w : World) (force : Config) (found : Option Obstacle) → found ≡ None → JudgesOffered w force found → JudgesOffer w force (Ok tt)
+none_stands w force found none t = subst (λ (z : Option Obstacle). JudgesOffered w force z) none t
 
 same_world : (w : World) → Same w w
 same_world w = record { config = refl; state = refl; given = refl; wires = λ c. refl }
 
 -- so where it was judged and not tried
 pub judged_look : (holds : Text → Known) (names : FileNames) (err : OutputStream) (kept read : Snap) (w : World) (force : Config) (fault : ReloadFault) (whole : Bool) → IsReadFrom holds names read → IsOffered names kept read force
-    → JudgesOffer w force (Err fault) → IsFaultTold err fault whole → Looks holds names err kept w kept w whole
-judged_look holds names err kept read w force fault whole from f judged told = fault_look holds names err kept read w w force fault whole from f judged (same_world w) told
+    → JudgesOffer w force (Err fault) → IsFaultReported err fault whole → Looks holds names err kept w kept w whole
+judged_look holds names err kept read w force fault whole from f judged report = fault_look holds names err kept read w w force fault whole from f judged (same_world w) report
 
 -- and where it was tried
-not_put : (a b : World) (force : Config) (fault : ReloadFault) → TellsReload a force (Err fault) b → (IsMemory (Err fault) → engine_lacks a (To_reload force)) → IsWhyNotPut a force (obstacle_in fault) × Same a b
+not_put : (a b : World) (force : Config) (fault : ReloadFault) → ReportsReload a force (Err fault) b → (IsMemory (Err fault) → engine_lacks a (To_reload force)) → IsWhyNotPut a force (obstacle_in fault) × Same a b
 not_put a b force (InUse q) t wants = t
 not_put a b force (Breaks q key number) t wants = t
 not_put a b force Memory t wants = (wants wanting_is, t)
 
 pub tried_look : (holds : Text → Known) (names : FileNames) (err : OutputStream) (kept read : Snap) (a b : World) (force : Config) (fault : ReloadFault) (whole : Bool) → IsReadFrom holds names read → IsOffered names kept read force
-    → TellsReload a force (Err fault) b → (IsMemory (Err fault) → engine_lacks a (To_reload force)) → IsFaultTold err fault whole → Looks holds names err kept a kept b whole
-tried_look holds names err kept read a b force fault whole from f t wants told =
+    → ReportsReload a force (Err fault) b → (IsMemory (Err fault) → engine_lacks a (To_reload force)) → IsFaultReported err fault whole → Looks holds names err kept a kept b whole
+tried_look holds names err kept read a b force fault whole from f t wants report =
     let n = not_put a b force fault t wants in
-    fault_look holds names err kept read a b force fault whole from f n.0 n.1 told
+    fault_look holds names err kept read a b force fault whole from f n.0 n.1 report

@@ -1,23 +1,23 @@
 -- What comes of serving with looks at the files.
-use Rattle.reload_loop.proofs.Imports.{◌≡◌, ℕ, Bool, List, [], Option, Some, ap, subst, asked_once, Text, Config, new_world, engine_lacks, Known, AreKept, FileNames, Served, IsServed, OutputStream, change, Snap, IsReadFrom, known_in, ServesOn, Standing, standing, AsksToServe, IsEvery, IsNotServe, ServesReloading}
+use Rattle.reload_loop.proofs.Imports.{◌≡◌, ℕ, Bool, List, [], Option, Some, ap, subst, asked_once, Text, Config, new_world, engine_lacks, Known, AreKept, FileNames, Served, IsServed, OutputStream, change, Snap, IsReadFrom, known_in, ServesOn, BetweenRounds, between_rounds, AsksToServe, IsEvery, IsNotServe, ServesReloading}
 use Rattle.std.proofs.Common.{true}
 use Rattle.command_line.specs.CommandLine.{Wanted, Serve, AsksFor}
-use Rattle.serving.specs.Wire.{Told}
+use Rattle.serving.specs.Wire.{Traffic}
 use Rattle.server.specs.Clients.{Begins, IsTurns, Openings}
 use Rattle.reload_loop.proofs.Outcomes.{same_holds}
 
 -- a broker that was just started by what was read, and then this number of rounds
 pub serves_reloading : (holds : Text → Known) (names : FileNames) (turns : Option Text) (every : Text) (may : Openings) (out : OutputStream) (before said after : Option Text) (first last : Snap) (start end : Served) (count step : ℕ) (whole : Bool)
     → IsReadFrom holds names first → Begins (known_in names first) names.definitions names.guarantees names.certificates may out (change before said) start
-    → IsTurns turns count → IsEvery every step → ServesOn holds names step count (standing start first said true) (standing end last after whole)
-    → ((f : Config) → start.world ≡ new_world f → start.peers ≡ [] → IsServed engine_lacks f start.told end)
+    → IsTurns turns count → IsEvery every step → ServesOn holds names step count (between_rounds start first said true) (between_rounds end last after whole)
+    → ((f : Config) → start.world ≡ new_world f → start.peers ≡ [] → IsServed engine_lacks f start.traffic end)
     → ServesReloading holds names turns every may out (change before after) end whole
 serves_reloading holds names turns every may out before said after first last start end count step whole read b counted stepped serves kept = record {
   first = first;
   read = read;
   force = b.force;
   in_force = b.in_force;
-  start = b.told;
+  start = b.traffic;
   said = said;
   can_come = b.can_come;
   count = count;
@@ -25,12 +25,12 @@ serves_reloading holds names turns every may out before said after first last st
   step = step;
   stepped = stepped;
   last = last;
-  serves = subst (λ (v : Served). ServesOn holds names step count (standing v first said true) (standing end last after whole)) b.is serves;
-  kept = subst (λ (t : Told). IsServed engine_lacks b.force t end) (ap (λ (v : Served). v.told) b.is) (kept b.force (ap (λ (v : Served). v.world) b.is) (ap (λ (v : Served). v.peers) b.is));
+  serves = subst (λ (v : Served). ServesOn holds names step count (between_rounds v first said true) (between_rounds end last after whole)) b.is serves;
+  kept = subst (λ (t : Traffic). IsServed engine_lacks b.force t end) (ap (λ (v : Served). v.traffic) b.is) (kept b.force (ap (λ (v : Served). v.world) b.is) (ap (λ (v : Served). v.peers) b.is));
 }
 
 -- what is done over files that were kept is done over the files before
-pub serves_kept : (a b : Text → Known) (names : FileNames) (every turns : ℕ) (old new : Standing) → AreKept a b → ServesOn b names every turns old new → ServesOn a names every turns old new
+pub serves_kept : (a b : Text → Known) (names : FileNames) (every turns : ℕ) (old new : BetweenRounds) → AreKept a b → ServesOn b names every turns old new → ServesOn a names every turns old new
 serves_kept a b names every turns old new k h = subst (λ (x : Text → Known). ServesOn x names every turns old new) (same_holds a b k) h
 
 -- what is not to serve was not asked to

@@ -3,7 +3,7 @@ use Rattle.std.specs.Prelude.{◌≡◌, ◌++◌, Bool, true, Option, Some, Non
 use Rattle.model.specs.Words.{Text}
 use Rattle.model.specs.State.{Config}
 use Rattle.model.specs.Arrivals.{World, Same}
-use Rattle.model.specs.Reloading.{IsObstacle, NothingStands}
+use Rattle.model.specs.Reloading.{IsObstacle, HasNoObstacle}
 use Rattle.model.specs.declared.obstacles.Obstacle.{Obstacle}
 use Rattle.runs.specs.Reloaded.{IsPutInForce}
 use Rattle.runs.specs.Faults.{obstacle_in}
@@ -14,24 +14,24 @@ use Rattle.server.specs.Files.{Known}
 use Rattle.scripts.specs.FileNames.{FileNames}
 use Rattle.scripts.specs.Transcript.{obstacle_line}
 use Rattle.server.specs.declared.refusals.CommandRefusal.{CommandRefusal}
-use Rattle.server.specs.Program.{FailsOver, IsInForceBy, TellsLine, out_of_memory, refusal_line}
+use Rattle.server.specs.Program.{FailsOver, IsInForceBy, WritesLine, out_of_memory, refusal_line}
 use Rattle.server.specs.Streams.{OutputStream, GetsNothing, PutsOut}
 use Rattle.reload_loop.specs.declared.found.Found.{Found}
 use Rattle.reload_loop.specs.declared.found.Found.TheVariants.{Nothing, Refused, Admitted}
 use Rattle.reload_loop.specs.Snapshots.{Snap, AreHeld, IsOther, IsReadFrom, known_in}
 
 -- the line that reports an obstacle: `warren: ` and the line of the note
-abbrev pub obstacle_told : Obstacle → Text
-obstacle_told o = codes "warren: " ++ obstacle_line o
+abbrev pub obstacle_message : Obstacle → Text
+obstacle_message o = codes "warren: " ++ obstacle_line o
 
 -- the line of the obstacle was written, or, if there is none, the line of an allocation failure: the whole line, or else a prefix of it
-abbrev pub IsWhyNotTold : OutputStream → Option Obstacle → Bool → Type 0
-IsWhyNotTold err (Some o) whole = TellsLine err (obstacle_told o) whole
-IsWhyNotTold err None whole = PutsOut err out_of_memory whole
+abbrev pub IsWhyNotReported : OutputStream → Option Obstacle → Bool → Type 0
+IsWhyNotReported err (Some o) whole = WritesLine err (obstacle_message o) whole
+IsWhyNotReported err None whole = PutsOut err out_of_memory whole
 
 -- the line that says why a reload was not done was written: the whole line, or else a prefix
-abbrev pub IsFaultTold : OutputStream → ReloadFault → Bool → Type 0
-IsFaultTold err fault whole = IsWhyNotTold err (obstacle_in fault) whole
+abbrev pub IsFaultReported : OutputStream → ReloadFault → Bool → Type 0
+IsFaultReported err fault whole = IsWhyNotReported err (obstacle_in fault) whole
 
 -- by the texts that were read, the files put `force` in force
 abbrev pub IsStated : FileNames → Snap → Config → Type 0
@@ -46,7 +46,7 @@ pub record IsRefused (names : FileNames) (read : Snap) (err : OutputStream) (who
   pub file : Text
   pub why : CommandRefusal
   pub fails : IsWhyRefused names read file why
-  pub told : TellsLine err (refusal_line file why) whole
+  pub reported : WritesLine err (refusal_line file why) whole
 
 -- ---- what is remembered between looks
 
@@ -63,19 +63,19 @@ pub record IsOffered (names : FileNames) (kept read : Snap) (force : Config) : T
 -- what an earlier look found and did not put in force, if anything
 abbrev pub WasFound : FileNames → Snap → Found → Type 0
 WasFound names kept Nothing = ⊤
-WasFound names kept (Refused read told) = IsRefusal names kept read told.file.now told.why
+WasFound names kept (Refused read report) = IsRefusal names kept read report.file.now report.why
 WasFound names kept (Admitted read force) = IsOffered names kept read force
 
 -- the files still are as they were when an earlier look read what it found; false if it found nothing
 abbrev pub IsFoundAgain : (Text → Known) → FileNames → Found → Type 0
 IsFoundAgain holds names Nothing = ⊥
-IsFoundAgain holds names (Refused read told) = IsReadFrom holds names read
+IsFoundAgain holds names (Refused read report) = IsReadFrom holds names read
 IsFoundAgain holds names (Admitted read force) = IsReadFrom holds names read
 
 -- what a look finds in the files: `Nothing` if they have the texts that are kept, otherwise a refusal or a configuration
 abbrev pub IsFound : (Text → Known) → FileNames → Snap → Found → Type 0
 IsFound holds names kept Nothing = AreHeld holds names kept
-IsFound holds names kept (Refused read told) = IsReadFrom holds names read × IsRefusal names kept read told.file.now told.why
+IsFound holds names kept (Refused read report) = IsReadFrom holds names read × IsRefusal names kept read report.file.now report.why
 IsFound holds names kept (Admitted read force) = IsReadFrom holds names read × IsOffered names kept read force
 
 -- ---- an offered configuration
@@ -87,7 +87,7 @@ IsWhyNotPut old offered None = engine_lacks old (To_reload offered)
 
 -- there is no obstacle to `offered`, or the result says why it is not put in force
 abbrev pub JudgesOffer : World → Config → Result Unit ReloadFault → Type 0
-JudgesOffer old offered (Ok x) = NothingStands old.config.topology offered old.state.broker
+JudgesOffer old offered (Ok x) = HasNoObstacle old.config.topology offered old.state.broker
 JudgesOffer old offered (Err fault) = IsWhyNotPut old offered (obstacle_in fault)
 
 -- ---- a look
@@ -107,7 +107,7 @@ pub data Looks (holds : Text → Known) (names : FileNames) (err : OutputStream)
   stopped : {new : World} {whole : Bool} (read : Snap) (force : Config) (o : Obstacle)
       → IsReadFrom holds names read → IsOther read kept → IsStated names read force
       → IsObstacle old.config.topology force old.state.broker o → Same old new
-      → TellsLine err (obstacle_told o) whole → Looks holds names err kept old kept new whole
+      → WritesLine err (obstacle_message o) whole → Looks holds names err kept old kept new whole
   -- the files have other texts, and an allocation failed, as is possible only if the new topology declares each queue in use,
   -- or if the first queue in use that it lacks has a long name
   wanting : {new : World} {whole : Bool} (read : Snap) (force : Config)

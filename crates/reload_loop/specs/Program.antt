@@ -4,7 +4,7 @@ use Rattle.std.specs.Str.Parse.{IsNumeral, digits_value, without_leading_plus}
 use Rattle.model.specs.Words.{Text}
 use Rattle.model.specs.State.{Config}
 use Rattle.model.specs.Arrivals.{new_world}
-use Rattle.serving.specs.Wire.{Told}
+use Rattle.serving.specs.Wire.{Traffic}
 use Rattle.serving.specs.Story.{Served, served}
 use Rattle.serving.specs.Whole.{IsServed}
 use Rattle.engine.specs.Wanting.{engine_lacks}
@@ -12,12 +12,12 @@ use Rattle.command_line.specs.CommandLine.{Wanted, Check, Verify, Replay, Serve,
 use Rattle.server.specs.Files.{Known, AreKept}
 use Rattle.server.specs.Stated.{file_named}
 use Rattle.scripts.specs.FileNames.{FileNames}
-use Rattle.server.specs.Streams.{OutputStream, TriesPut, change, tried}
+use Rattle.server.specs.Streams.{OutputStream, TriesPut, change, status_after}
 use Rattle.server.specs.declared.clients.ServeArguments.{ServeArguments}
 use Rattle.server.specs.Program.{IsInForceBy, RunsAs, out_of_memory}
 use Rattle.server.specs.Clients.{CanCome, EndsUnserved, IsTurns, Openings, ServeEnds}
 use Rattle.reload_loop.specs.Snapshots.{Snap, IsReadFrom, known_in}
-use Rattle.reload_loop.specs.ServesOn.{ServesOn, standing}
+use Rattle.reload_loop.specs.ServesOn.{ServesOn, between_rounds}
 
 -- the names of the files of `serve`
 abbrev pub names_in : ServeArguments → FileNames
@@ -54,7 +54,7 @@ pub record ServesReloading (holds : Text → Known) (names : FileNames) (turns :
   pub read : IsReadFrom holds names first
   pub force : Config
   pub in_force : IsInForceBy (known_in names first) names force
-  pub start : Told
+  pub start : Traffic
   -- what standard error holds once the address was reported
   pub said : Option Text
   pub can_come : CanCome may start out (change err.before said)
@@ -63,7 +63,7 @@ pub record ServesReloading (holds : Text → Known) (names : FileNames) (turns :
   pub step : ℕ
   pub stepped : IsEvery every step
   pub last : Snap
-  pub serves : ServesOn holds names step count (standing (served (new_world force) [] start) first said true) (standing end last err.after whole)
+  pub serves : ServesOn holds names step count (between_rounds (served (new_world force) [] start) first said true) (between_rounds end last err.after whole)
   -- all that arrived at the broker, reloads included, and certified delivery's promises of it
   pub kept : IsServed engine_lacks force start end
 
@@ -76,7 +76,7 @@ pub data ReloadsEnd (holds : Text → Known) (names : FileNames) (turns : Option
       Unasked may out err status
       → ReloadsEnd holds names turns every Unasked may out err None status
   reloading : {end : Served} {whole : Bool} → ServesReloading holds names turns every may out err end whole
-      → ReloadsEnd holds names turns every Unasked may out err (Some end) (tried whole 0)
+      → ReloadsEnd holds names turns every Unasked may out err (Some end) (status_after whole 0)
 
 -- How a call ends that can open sockets; `may` has the outcomes that opening them at an address may have, and `Unasked` says that none were asked for.
 pub data RunsWithSockets (words : List Text) (before after : Text → Known) (Unasked : Type 0)

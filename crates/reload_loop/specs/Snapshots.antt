@@ -21,7 +21,7 @@ known_of (Err unread.NoDescriptor) = Absent
 known_of (Err unread.TooLong) = Unknown
 known_of (Err unread.Memory) = Unknown
 
--- what the results of three reads tell about the three files
+-- what the results of three reads say about the three files
 pub record Snap : Type 0 where
   pub definitions : Known
   pub guarantees : Known

@@ -2,15 +2,15 @@
 
 use crate::snapshots::Snapshot;
 use engine::Setup;
-use server::Told;
+use server::Report;
 
 /// The outcome of the last look at the files, unless it was put in force.
 #[derive(Drop)]
 pub(crate) enum Found<'a> {
     /// Nothing is remembered.
     Nothing,
-    /// The files, as they were `read`, were refused; `told` is the refusal that is reported.
-    Refused { read: Snapshot, told: Told<'a> },
+    /// The files, as they were `read`, were refused; `report` is the refusal that is reported.
+    Refused { read: Snapshot, report: Report<'a> },
     /// The files, as they were `read`, were admitted, and state `setup`; but there was an obstacle, or an allocation failed.
     Admitted { read: Snapshot, setup: Setup },
 }

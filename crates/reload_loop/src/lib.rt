@@ -6,10 +6,10 @@ mod disk;
 mod found;
 mod looking;
 mod program;
+mod reporting;
 mod serving_on;
 mod snapshots;
 mod system;
-mod telling;
 
 pub use disk::Disk;
 pub use program::program_with_sockets;

@@ -15,19 +15,19 @@ ghost use Rattle.reload_loop.specs.Snapshots.{IsReadFrom, names_of};
 ghost use Rattle.reload_loop.specs.Looks.{IsFound, IsFoundAgain, IsOffered, IsStated, IsWhyRefused, JudgesOffer, Looks, WasFound};
 
 use crate::found::Found;
+use crate::reporting::put_fault;
 use crate::snapshots::{Names, Reading, Snapshot};
-use crate::telling::put_fault;
 use engine::{Engine, Setup};
 use runs::ReloadFault;
-use server::{BrokerFiles, CommandRefusal, Files, Told, in_force, put_refusal};
+use server::{BrokerFiles, CommandRefusal, Files, Report, in_force, put_refusal};
 use serving::Server;
 use std::alloc::Global;
 use std::io::Write;
 use std::{io, mem};
 
 /// Returns the setup that the files state, by the bytes in `read`, or the refusal of one of them, which is reported.
-fn stated<'a>(alloc: Global, names: Names<'a>, read: &Snapshot) -> Result<Setup, Told<'a>>
-    ensures { MatchResult result (IsStated (names_of names.entry) read.now) (λ told. IsWhyRefused (names_of names.entry) read.now told.file.now told.why) }
+fn stated<'a>(alloc: Global, names: Names<'a>, read: &Snapshot) -> Result<Setup, Report<'a>>
+    ensures { MatchResult result (IsStated (names_of names.entry) read.now) (λ r. IsWhyRefused (names_of names.entry) read.now r.file.now r.why) }
 {
     let named = BrokerFiles {
         definitions: Some(names.definitions),
@@ -40,7 +40,7 @@ fn stated<'a>(alloc: Global, names: Names<'a>, read: &Snapshot) -> Result<Setup,
     };
     match in_force(alloc, named, &mut reading) {
         Ok((checked, users)) => Ok(Setup::new(checked, users)),
-        Err(told) => Err(told),
+        Err(report) => Err(report),
     }
 }
 
@@ -57,8 +57,8 @@ fn is_found_again<F: Files>(
 {
     match found {
         Found::Nothing => false,
-        Found::Refused { read, told } => {
-            !matches!(told.why, CommandRefusal::Memory) && read.is_found(alloc, names, files)
+        Found::Refused { read, report } => {
+            !matches!(report.why, CommandRefusal::Memory) && read.is_found(alloc, names, files)
         }
         Found::Admitted { read, setup: _ } => read.is_found(alloc, names, files),
     }
@@ -75,7 +75,7 @@ fn find<'a, F: Files>(alloc: Global, names: Names<'a>, kept: &Snapshot, files: &
     }
     match stated(alloc, names, &read) {
         Ok(setup) => Found::Admitted { read, setup },
-        Err(told) => Found::Refused { read, told },
+        Err(report) => Found::Refused { read, report },
     }
 }
 
@@ -125,9 +125,9 @@ fn put_in_force<E: Write>(
         → Looks holds names (change (E.contents err.old) (E.contents err.new)) kept.old
         (world_of server.old.machine) kept.new (world_of server.new.machine) (is_ok result) }
     ensures peers { server.new.peers ≡ server.old.peers }
-    ensures served { (f : Config) (told now : wire.Told)
-        → IsServed engine_lacks f told (served (world_of server.old.machine) server.old.peers now)
-        → IsServed engine_lacks f told (served (world_of server.new.machine) server.new.peers now) }
+    ensures served { (f : Config) (traffic now : wire.Traffic)
+        → IsServed engine_lacks f traffic (served (world_of server.old.machine) server.old.peers now)
+        → IsServed engine_lacks f traffic (served (world_of server.new.machine) server.new.peers now) }
 {
     match server.reload(alloc, setup) {
         Ok(()) => {
@@ -152,15 +152,15 @@ fn act<'a, E: Write>(
         (world_of server.old.machine) kept.new (world_of server.new.machine) (is_ok result) }
     ensures found { (names : FileNames) → WasFound names kept.old found.old → WasFound names kept.new found.new }
     ensures peers { server.new.peers ≡ server.old.peers }
-    ensures served { (f : Config) (told now : wire.Told)
-        → IsServed engine_lacks f told (served (world_of server.old.machine) server.old.peers now)
-        → IsServed engine_lacks f told (served (world_of server.new.machine) server.new.peers now) }
+    ensures served { (f : Config) (traffic now : wire.Traffic)
+        → IsServed engine_lacks f traffic (served (world_of server.old.machine) server.old.peers now)
+        → IsServed engine_lacks f traffic (served (world_of server.new.machine) server.new.peers now) }
 {
     match mem::replace(found, Found::Nothing) {
         Found::Nothing => Ok(()),
-        Found::Refused { read, told } => {
-            *found = Found::Refused { read, told };
-            put_refusal(alloc, err, told)
+        Found::Refused { read, report } => {
+            *found = Found::Refused { read, report };
+            put_refusal(alloc, err, report)
         }
         Found::Admitted { read, setup } => match judge(alloc, server.machine(), &setup) {
             Ok(()) => put_in_force(alloc, server, kept, read, setup, err),
@@ -194,9 +194,9 @@ pub(crate) fn look<'a, F: Files, E: Write>(
     // What is remembered; the peers and the files are unchanged, and `IsServed` is kept.
     ensures found { WasFound (names_of names.entry) kept.new found.new }
     ensures peers { server.new.peers ≡ server.old.peers }
-    ensures served { (f : Config) (told now : wire.Told)
-        → IsServed engine_lacks f told (served (world_of server.old.machine) server.old.peers now)
-        → IsServed engine_lacks f told (served (world_of server.new.machine) server.new.peers now) }
+    ensures served { (f : Config) (traffic now : wire.Traffic)
+        → IsServed engine_lacks f traffic (served (world_of server.old.machine) server.old.peers now)
+        → IsServed engine_lacks f traffic (served (world_of server.new.machine) server.new.peers now) }
     ensures files { AreKept (F.holds files.old) (F.holds files.new) }
 {
     find_again(alloc, names, &*kept, found, files);

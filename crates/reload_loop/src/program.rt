@@ -6,7 +6,7 @@ ghost use Rattle.engine.specs.World.{world_of};
 ghost use Rattle.server.specs.Files.{AreKept};
 ghost use Rattle.server.specs.Stated.{file_named};
 ghost use Rattle.serving.specs.Story.{served};
-ghost use Rattle.server.specs.Streams.{change, tried};
+ghost use Rattle.server.specs.Streams.{change, status_after};
 ghost use Rattle.reload_loop.specs.Program.{IsEvery, IsNotServe, ReloadsEnd, RunsWithSockets, asked_by, names_in};
 
 use crate::serving_on::serve_and_reload;
@@ -69,7 +69,7 @@ fn every_of(given: &str) -> u64
 
 /// Returns the exit status of serving: 0 if standard error took each line whole, otherwise 4.
 fn status_of(whole: bool) -> u8
-    ensures { result ≡ tried whole 0 }
+    ensures { result ≡ status_after whole 0 }
 {
     if whole { 0 } else { 4 }
 }
@@ -90,7 +90,7 @@ fn serve_reloading<L: Listener, F: Files, O: Write, E: Write>(
     ensures ends { ReloadsEnd (F.holds files.old) (names_in arguments.entry) (file_named arguments.entry.turns)
         every.now (listener.new ≡ listener.old) (L.listens listener.old arguments.entry.listen.now)
         (change (O.contents out.old) (O.contents out.new)) (change (E.contents err.old) (E.contents err.new))
-        (option_map (λ s. served (world_of s.server.machine) s.server.peers (L.Sockets.told s.sockets))
+        (option_map (λ s. served (world_of s.server.machine) s.server.peers (L.Sockets.past s.sockets))
         result.service) result.status }
     ensures files { AreKept (F.holds files.old) (F.holds files.new) }
 {
@@ -146,7 +146,7 @@ pub fn program_with_sockets<S: AsStr, L: Listener, F: Files, O: Write, E: Write>
     ensures { RunsWithSockets (map S.text words.now) (F.holds files.old) (F.holds files.new)
         (listener.new ≡ listener.old) (L.listens listener.old) (change (O.contents out.old) (O.contents out.new))
         (change (E.contents err.old) (E.contents err.new))
-        (option_map (λ s. served (world_of s.server.machine) s.server.peers (L.Sockets.told s.sockets))
+        (option_map (λ s. served (world_of s.server.machine) s.server.peers (L.Sockets.past s.sockets))
         result.service) result.status }
 {
     let asked = match command(alloc, words) {

@@ -5,11 +5,11 @@ ghost use Rattle.model.specs.State.{Config};
 ghost use Rattle.engine.specs.World.{world_of};
 ghost use Rattle.engine.specs.Wanting.{engine_lacks};
 ghost use Rattle.server.specs.Files.{AreKept};
-ghost use Rattle.serving.specs.Wire.{Told};
+ghost use Rattle.serving.specs.Wire.{Traffic};
 ghost use Rattle.serving.specs.Story.{served};
 ghost use Rattle.serving.specs.Whole.{IsServed};
 ghost use Rattle.reload_loop.specs.Snapshots.{names_of};
-ghost use Rattle.reload_loop.specs.ServesOn.{ServesOn, standing};
+ghost use Rattle.reload_loop.specs.ServesOn.{ServesOn, between_rounds};
 
 use crate::found::Found;
 use crate::looking::look;
@@ -39,14 +39,14 @@ pub fn serve_and_reload<W: Wire, F: Files, E: Write>(
 ) -> bool
     requires { 1 ≤ every }
     ensures serves { ServesOn (F.holds files.old) (names_of names.entry) every turns
-        (standing (served (world_of server.old.machine) server.old.peers (W.told sockets.old))
+        (between_rounds (served (world_of server.old.machine) server.old.peers (W.past sockets.old))
         kept.old (E.contents err.old) true)
-        (standing (served (world_of server.new.machine) server.new.peers (W.told sockets.new))
+        (between_rounds (served (world_of server.new.machine) server.new.peers (W.past sockets.new))
         kept.new (E.contents err.new) result) }
     // `IsServed` is kept: it has all that arrived since the server was new, reloads included, and certified delivery's promises of it.
-    ensures served { (f : Config) (told : Told)
-        → IsServed engine_lacks f told (served (world_of server.old.machine) server.old.peers (W.told sockets.old))
-        → IsServed engine_lacks f told (served (world_of server.new.machine) server.new.peers (W.told sockets.new)) }
+    ensures served { (f : Config) (traffic : Traffic)
+        → IsServed engine_lacks f traffic (served (world_of server.old.machine) server.old.peers (W.past sockets.old))
+        → IsServed engine_lacks f traffic (served (world_of server.new.machine) server.new.peers (W.past sockets.new)) }
     ensures files { AreKept (F.holds files.old) (F.holds files.new) }
 {
     let mut found = Found::Nothing;

@@ -1,5 +1,5 @@
 -- The first of a list of which something is told, as it is found.
-use Rattle.reloading.proofs.Names.{◌≡◌, ℕ, zero, suc, ◌+◌, ◌<◌, ◌≤◌, List, [], ◌∷◌, ◌++◌, length, get_or, Option, Some, None, ◌⊎◌, inl, inr, refl, sym, ap, subst, ◌∙◌, append_assoc, arith, slice_get, Text, Topology, IsIn, queue_names, DeclaredQueue, TellsFirst, TellsNoneBelow}
+use Rattle.reloading.proofs.Names.{◌≡◌, ℕ, zero, suc, ◌+◌, ◌<◌, ◌≤◌, List, [], ◌∷◌, ◌++◌, length, get_or, Option, Some, None, ◌⊎◌, inl, inr, refl, sym, ap, subst, ◌∙◌, append_assoc, arith, slice_get, Text, Topology, IsIn, queue_names, DeclaredQueue, ReportsFirst, ReportsNoneBelow}
 use Rattle.std.proofs.lemmas.Option.{slice_get_within}
 use Rattle.std.proofs.lemmas.List.{length-map}
 
@@ -20,30 +20,30 @@ named_at [] i q l e = absurd (omega (arith, l))
 named_at (x ∷ xs) zero q l e = ap (λ (z : DeclaredQueue). Some z.name) (sym e)
 named_at (x ∷ xs) (suc i) q l e = named_at xs i q (let k : suc i < suc (length xs) = l in omega (arith, k)) e
 
-module _ {X Y : Type 0} (Tells : ℕ → X → Option Y → Type 0) (xs : List X) where
-  pub one_more : (place : ℕ) (one : X) → slice_get xs place ≡ Some one → TellsNoneBelow Tells xs place → Tells place one None → TellsNoneBelow Tells xs (place + 1)
+module _ {X Y : Type 0} (Reports : ℕ → X → Option Y → Type 0) (xs : List X) where
+  pub one_more : (place : ℕ) (one : X) → slice_get xs place ≡ Some one → ReportsNoneBelow Reports xs place → Reports place one None → ReportsNoneBelow Reports xs (place + 1)
   one_more place one there below none i x lt at = elim (below_or i place) [
     | inl k ↦ below i x k at
     | inr k ↦
         let same : i ≡ place = omega arith in
         let is : Some one ≡ Some x = sym there ∙ subst (λ (n : ℕ). slice_get xs n ≡ Some x) same at in
         let here : one ≡ x = cc in
-        subst (λ (n : ℕ). Tells n x None) (sym same) (subst (λ (z : X). Tells place z None) here none)
+        subst (λ (n : ℕ). Reports n x None) (sym same) (subst (λ (z : X). Reports place z None) here none)
   ]
 
-  pub none_of_all : (place : ℕ) → length xs ≤ place → TellsNoneBelow Tells xs place → TellsFirst Tells xs None
+  pub none_of_all : (place : ℕ) → length xs ≤ place → ReportsNoneBelow Reports xs place → ReportsFirst Reports xs None
   none_of_all place le below i x at = below i x (let w = slice_get_within xs i x at in omega (arith, w, le)) at
 
-  pub told_at : (place : ℕ) (one : X) (told : Y) → slice_get xs place ≡ Some one → TellsNoneBelow Tells xs place → Tells place one (Some told) → TellsFirst Tells xs (Some told)
-  told_at place one told there below tells = record { place = place; one = one; there = there; tells = tells; none_before = below }
+  pub told_at : (place : ℕ) (one : X) (reported : Y) → slice_get xs place ≡ Some one → ReportsNoneBelow Reports xs place → Reports place one (Some reported) → ReportsFirst Reports xs (Some reported)
+  told_at place one reported there below reports = record { place = place; one = one; there = there; reports = reports; none_before = below }
 
 -- ---- a list that is passed from its front
 
 -- This many were passed, of which nothing is reported, whatever their indices are.
-pub record Passed {X : Type 0} (Tells : X → Type 0) (xs rest : List X) : Type 0 where
+pub record Passed {X : Type 0} (Reports : X → Type 0) (xs rest : List X) : Type 0 where
   pub passed : List X
   pub split : xs ≡ passed ++ rest
-  pub none : (i : ℕ) (x : X) → slice_get passed i ≡ Some x → Tells x → ⊥
+  pub none : (i : ℕ) (x : X) → slice_get passed i ≡ Some x → Reports x → ⊥
 
 behind : {X : Type 0} (ps rest : List X) (i : ℕ) (x : X) → slice_get (ps ++ rest) i ≡ Some x → (slice_get ps i ≡ Some x) ⊎ ((j : ℕ) × (i ≡ length ps + j) × (slice_get rest j ≡ Some x))
 behind [] rest i x e = inr (i, omega arith, e)
@@ -54,22 +54,22 @@ at_front : {X : Type 0} (ps rest : List X) (x : X) → slice_get (ps ++ x ∷ re
 at_front [] rest x = refl
 at_front (p ∷ ps) rest x = at_front ps rest x
 
-module _ {X : Type 0} (Tells : X → Type 0) (xs : List X) where
-  pub passed_none : Passed Tells xs xs
+module _ {X : Type 0} (Reports : X → Type 0) (xs : List X) where
+  pub passed_none : Passed Reports xs xs
   passed_none = record { passed = []; split = refl; none = λ i x e t. (let h : None ≡ Some x = e in cc) }
 
-  pub passed_more : (x : X) (now then' : List X) → now ≡ x ∷ then' → (Tells x → ⊥) → Passed Tells xs now → Passed Tells xs then'
+  pub passed_more : (x : X) (now then' : List X) → now ≡ x ∷ then' → (Reports x → ⊥) → Passed Reports xs now → Passed Reports xs then'
   passed_more x now then' is not p = record {
     passed = p.passed ++ x ∷ [];
     split = p.split ∙ ap (λ (z : List X). p.passed ++ z) is ∙ sym (append_assoc p.passed (x ∷ []) then');
     none = λ i y e t. elim (behind p.passed (x ∷ []) i y e) [
       | inl h ↦ p.none i y h t
-      | inr (zero, at, h) ↦ not (subst Tells (let f : Some x ≡ Some y = h in sym (cc)) t)
+      | inr (zero, at, h) ↦ not (subst Reports (let f : Some x ≡ Some y = h in sym (cc)) t)
       | inr (suc j, at, h) ↦ (let f : None ≡ Some y = h in absurd (cc))
     ];
   }
 
-  pub passed_all : (now : List X) → now ≡ [] → Passed Tells xs now → (i : ℕ) (x : X) → slice_get xs i ≡ Some x → Tells x → ⊥
+  pub passed_all : (now : List X) → now ≡ [] → Passed Reports xs now → (i : ℕ) (x : X) → slice_get xs i ≡ Some x → Reports x → ⊥
   passed_all now is p i x e t =
       elim (behind p.passed now i x (subst (λ (z : List X). slice_get z i ≡ Some x) p.split e)) [
         | inl h ↦ p.none i x h t
@@ -77,10 +77,10 @@ module _ {X : Type 0} (Tells : X → Type 0) (xs : List X) where
       ]
 
   -- what is in front of the rest is the first, if something is reported of it
-  pub passed_front : (x : X) (now then' : List X) → now ≡ x ∷ then' → (p : Passed Tells xs now) → slice_get xs (length p.passed) ≡ Some x
+  pub passed_front : (x : X) (now then' : List X) → now ≡ x ∷ then' → (p : Passed Reports xs now) → slice_get xs (length p.passed) ≡ Some x
   passed_front x now then' is p = subst (λ (z : List X). slice_get z (length p.passed) ≡ Some x) (sym (p.split ∙ ap (λ (z : List X). p.passed ++ z) is)) (at_front p.passed then' x)
 
-  pub passed_before : (now : List X) (p : Passed Tells xs now) (i : ℕ) (y : X) → i < length p.passed → slice_get xs i ≡ Some y → Tells y → ⊥
+  pub passed_before : (now : List X) (p : Passed Reports xs now) (i : ℕ) (y : X) → i < length p.passed → slice_get xs i ≡ Some y → Reports y → ⊥
   passed_before now p i y lt e t = elim (behind p.passed now i y (subst (λ (z : List X). slice_get z i ≡ Some y) p.split e)) [
     | inl h ↦ p.none i y h t
     | inr h ↦ absurd (let g = h.1 in omega (arith, g, lt))

@@ -1,5 +1,5 @@
 -- From what is reported index by index to the obstacle to a reload.
-use Rattle.reloading.proofs.Names.{◌≡◌, ℕ, zero, suc, ◌+◌, List, [], ◌∷◌, Bool, Option, Some, None, refl, sym, subst, ◌∙◌, inl, inr, slice_get, Text, Topology, IsIn, queue_names, Guarantee, Config, IsInUse, by_entry, by_consumer, Endangers, Spot, IsBefore, IsDanger, NoneIsOrphaned, IsObstacle, NothingStands, Entry, Obstacle, in_from_contains, IsToldFirst, TellsFirst, IsUsed, TellsUse, TellsQueue, TellsEntry, TellsEntries, TellsQueues, Judges}
+use Rattle.reloading.proofs.Names.{◌≡◌, ℕ, zero, suc, ◌+◌, List, [], ◌∷◌, Bool, Option, Some, None, refl, sym, subst, ◌∙◌, inl, inr, slice_get, Text, Topology, IsIn, queue_names, Guarantee, Config, IsInUse, by_entry, by_consumer, Endangers, Spot, IsBefore, IsDanger, NoneIsOrphaned, IsObstacle, HasNoObstacle, Entry, Obstacle, in_from_contains, IsReportedFirst, ReportsFirst, IsUsed, ReportsUse, ReportsQueue, ReportsEntry, ReportsEntries, ReportsQueues, Judges}
 use Rattle.model.specs.Broker.{Broker}
 use Rattle.laws.proofs.Returned.{place_of}
 use Rattle.reloading.specs.LiveQueues.{ShowsQueues}
@@ -27,17 +27,17 @@ module _ (old : Topology) (g : Config) (entries : ℕ → List Entry) (consumed 
   in_use p q at (inl some) = by_some q (entries p) (s.queue p q at) some
   in_use p q at (inr y) = let c = (s.consumers p q at).0 y in by_consumer c.connection c.number c.channel c.consumer c.there c.among c.takes
 
-  pub orphaned_stands : (o : Obstacle) → TellsFirst (TellsQueue g.topology entries consumed) names (Some o) → IsObstacle old g b o
+  pub orphaned_stands : (o : Obstacle) → ReportsFirst (ReportsQueue g.topology entries consumed) names (Some o) → IsObstacle old g b o
   orphaned_stands o first =
       let q = first.one in
-      subst (IsObstacle old g b) (sym first.tells.1.1) (record {
+      subst (IsObstacle old g b) (sym first.reports.1.1) (record {
         place = first.place;
         named = first.there;
-        orphaned = record { was = in_at names first.place q first.there; gone = first.tells.0; in_use = in_use first.place q first.there first.tells.1.0 };
+        orphaned = record { was = in_at names first.place q first.there; gone = first.reports.0; in_use = in_use first.place q first.there first.reports.1.0 };
         none_before = λ i r lt at str. first.none_before i r lt at str.gone (used i r at str.in_use);
       })
 
-  pub none_stranded : TellsFirst (TellsQueue g.topology entries consumed) names None → NoneIsOrphaned old g.topology b
+  pub none_stranded : ReportsFirst (ReportsQueue g.topology entries consumed) names None → NoneIsOrphaned old g.topology b
   none_stranded none q str = let p = place_of q names str.was in none p.0 q p.1 str.gone (used p.0 q p.1 str.in_use)
 
   -- ---- messages that are endangered
@@ -45,14 +45,14 @@ module _ (old : Topology) (g : Config) (entries : ℕ → List Entry) (consumed 
   entry_at : (p : ℕ) (q : Text) (j : ℕ) (e : Entry) → slice_get names p ≡ Some q → slice_get (b.queue q) j ≡ Some e → slice_get (entries p) j ≡ Some e
   entry_at p q j e at there = subst (λ (es : List Entry). slice_get es j ≡ Some e) (s.queue p q at) there
 
-  pub breach_stands : NoneIsOrphaned old g.topology b → (o : Obstacle) → TellsFirst (TellsQueues g.topology names entries) g.guarantees (Some o) → IsObstacle old g b o
-  breach_stands none o first = subst (IsObstacle old g b) (sym third.tells.1) (
+  pub breach_stands : NoneIsOrphaned old g.topology b → (o : Obstacle) → ReportsFirst (ReportsQueues g.topology names entries) g.guarantees (Some o) → IsObstacle old g b o
+  breach_stands none o first = subst (IsObstacle old g b) (sym third.reports.1) (
     none,
     record {
       spot = spot;
       guarantee = u;
       entry = e;
-      danger = record { guarantee = first.there; queue = second.there; entry = subst (λ (es : List Entry). slice_get es third.place ≡ Some e) (sym (s.queue second.place q second.there)) third.there; endangers = third.tells.0 };
+      danger = record { guarantee = first.there; queue = second.there; entry = subst (λ (es : List Entry). slice_get es third.place ≡ Some e) (sym (s.queue second.place q second.there)) third.there; endangers = third.reports.0 };
       none_before = before;
       key_is = refl;
       number_is = refl;
@@ -62,14 +62,14 @@ module _ (old : Topology) (g : Config) (entries : ℕ → List Entry) (consumed 
       u : Guarantee
       u = first.one
 
-      second : IsToldFirst (TellsEntries g.topology u (first.place + 1) entries) names o
-      second = first.tells
+      second : IsReportedFirst (ReportsEntries g.topology u (first.place + 1) entries) names o
+      second = first.reports
 
       q : Text
       q = second.one
 
-      third : IsToldFirst (TellsEntry g.topology u (first.place + 1) q) (entries second.place) o
-      third = second.tells
+      third : IsReportedFirst (ReportsEntry g.topology u (first.place + 1) q) (entries second.place) o
+      third = second.reports
 
       e : Entry
       e = third.one
@@ -91,7 +91,7 @@ module _ (old : Topology) (g : Config) (entries : ℕ → List Entry) (consumed 
           let there : slice_get (entries second.place) r.entry ≡ Some d = subst (λ (i : ℕ). slice_get (entries i) r.entry ≡ Some d) here (entry_at r.queue p r.entry d k.queue k.entry) in
           third.none_before r.entry d lt there (subst (λ (z : Text). Endangers g.topology u z d.message) of (subst (λ (z : Guarantee). Endangers g.topology z p d.message) is k.endangers))
 
-  pub nothing_stands : NoneIsOrphaned old g.topology b → TellsFirst (TellsQueues g.topology names entries) g.guarantees None → NothingStands old g b
+  pub nothing_stands : NoneIsOrphaned old g.topology b → ReportsFirst (ReportsQueues g.topology names entries) g.guarantees None → HasNoObstacle old g b
   nothing_stands none quiet = record {
     none_stranded = none;
     none_endangered = λ u q e has there i.
@@ -101,11 +101,11 @@ module _ (old : Topology) (g : Config) (entries : ℕ → List Entry) (consumed 
         quiet n.0 u n.1 p.0 q p.1 j.0 e (entry_at p.0 q j.0 e p.1 j.1);
   }
 
-  pub breach_judges : NoneIsOrphaned old g.topology b → (o : Option Obstacle) → TellsFirst (TellsQueues g.topology names entries) g.guarantees o → Judges old g b o
+  pub breach_judges : NoneIsOrphaned old g.topology b → (o : Option Obstacle) → ReportsFirst (ReportsQueues g.topology names entries) g.guarantees o → Judges old g b o
   breach_judges none None quiet = nothing_stands none quiet
   breach_judges none (Some o) first = breach_stands none o first
 
 -- of a queue that is gone
-pub gone_tells : (new : Topology) (entries : ℕ → List Entry) (consumed : ℕ → Bool) (p : ℕ) (q : Text) (o : Option Obstacle) → (IsIn q (queue_names new.queues) → ⊥) → TellsUse (entries p) (consumed p) q o → TellsQueue new entries consumed p q o
-gone_tells new entries consumed p q None gone told = λ g used. told used
-gone_tells new entries consumed p q (Some o) gone told = (gone, told)
+pub gone_tells : (new : Topology) (entries : ℕ → List Entry) (consumed : ℕ → Bool) (p : ℕ) (q : Text) (o : Option Obstacle) → (IsIn q (queue_names new.queues) → ⊥) → ReportsUse (entries p) (consumed p) q o → ReportsQueue new entries consumed p q o
+gone_tells new entries consumed p q None gone reported = λ g used. reported used
+gone_tells new entries consumed p q (Some o) gone reported = (gone, reported)

@@ -1,5 +1,5 @@
 -- Where deaths lead a message: by the dead-letter exchange of its queue, under the key that the queue fixes or else its own.
-use Rattle.reloading.proofs.Names.{◌≡◌, ℕ, zero, suc, Bool, false, Option, Some, None, List, [], ◌∷◌, get_or, refl, sym, ap, subst, ◌∙◌, inl, inr, Decides, slice_get, false≢true, Text, Topology, IsIn, IsWellFormed, AreApart, queue_names, Reading, of_key, RoutesBy, reading_after, fixed_after, key_after, Comes, routed, dead, Dies, Later, DeclaredQueue, in_from_contains, Guarantee, EndangersNone, IsExploredFor, IsFixedFor}
+use Rattle.reloading.proofs.Names.{◌≡◌, ℕ, zero, suc, Bool, false, Option, Some, None, List, [], ◌∷◌, get_or, refl, sym, ap, subst, ◌∙◌, inl, inr, Decides, slice_get, false≢true, Text, Topology, IsIn, IsWellFormed, AreDistinct, queue_names, Reading, of_key, RoutesBy, reading_after, fixed_after, key_after, Comes, routed, dead, Dies, Later, DeclaredQueue, in_from_contains, Guarantee, EndangersNone, IsExploredFor, IsFixedFor}
 use Rattle.laws.proofs.Safe.{comes_fixed, refixed, same_reading}
 use Rattle.exchange_graph.specs.Marks.{queue_name}
 use Rattle.std.specs.Borrow.{Bor}
@@ -27,18 +27,18 @@ named_in p (q ∷ qs) (inl e) = inl (ap (λ (z : DeclaredQueue). z.name) e)
 named_in p (q ∷ qs) (inr i) = inr (named_in p qs i)
 
 -- names are apart, so two of one name are one
-one_queue : (p q : DeclaredQueue) (qs : List DeclaredQueue) → AreApart (queue_names qs) → IsIn p qs → IsIn q qs → p.name ≡ q.name → p ≡ q
-one_queue p q [] apart i j e = absurd i
-one_queue p q (r ∷ rs) apart (inl a) (inl b) e = a ∙ sym b
-one_queue p q (r ∷ rs) apart (inl a) (inr j) e = absurd (apart.0 (subst (λ (z : Text). IsIn z (queue_names rs)) (sym e ∙ ap (λ (z : DeclaredQueue). z.name) a) (named_in q rs j)))
-one_queue p q (r ∷ rs) apart (inr i) (inl b) e = absurd (apart.0 (subst (λ (z : Text). IsIn z (queue_names rs)) (e ∙ ap (λ (z : DeclaredQueue). z.name) b) (named_in p rs i)))
-one_queue p q (r ∷ rs) apart (inr i) (inr j) e = one_queue p q rs apart.1 i j e
+one_queue : (p q : DeclaredQueue) (qs : List DeclaredQueue) → AreDistinct (queue_names qs) → IsIn p qs → IsIn q qs → p.name ≡ q.name → p ≡ q
+one_queue p q [] distinct i j e = absurd i
+one_queue p q (r ∷ rs) distinct (inl a) (inl b) e = a ∙ sym b
+one_queue p q (r ∷ rs) distinct (inl a) (inr j) e = absurd (distinct.0 (subst (λ (z : Text). IsIn z (queue_names rs)) (sym e ∙ ap (λ (z : DeclaredQueue). z.name) a) (named_in q rs j)))
+one_queue p q (r ∷ rs) distinct (inr i) (inl b) e = absurd (distinct.0 (subst (λ (z : Text). IsIn z (queue_names rs)) (e ∙ ap (λ (z : DeclaredQueue). z.name) b) (named_in p rs i)))
+one_queue p q (r ∷ rs) distinct (inr i) (inr j) e = one_queue p q rs distinct.1 i j e
 
 dies_in : (t : Topology) (q x : Text) (last : DeclaredQueue) → Dies t q x last → IsIn last t.queues
 dies_in t q x last d = in_from_contains t.queues last d.is_queue.0 d.is_queue.1 d.is_queue.2
 
 one_death : (t : Topology) (q x y : Text) (p last : DeclaredQueue) → IsWellFormed t → Dies t q x p → Dies t q y last → p ≡ last
-one_death t q x y p last wf d e = one_queue p last t.queues wf.queues_apart (dies_in t q x p d) (dies_in t q y last e) (d.is_named ∙ sym e.is_named)
+one_death t q x y p last wf d e = one_queue p last t.queues wf.queues_distinct (dies_in t q x p d) (dies_in t q y last e) (d.is_named ∙ sym e.is_named)
 
 -- ---- whether it leads there
 

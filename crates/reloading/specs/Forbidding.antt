@@ -46,18 +46,18 @@ abbrev pub IsFixedFor : Topology → Text → List Visit → Type 0
 IsFixedFor t q visits = (key : Text) → IsExploredFor t q key visits
 
 -- the result is what a message with this key reaches once it dies in the queue `q`, or `None` if it goes nowhere
-abbrev pub TellsLetter : Topology → Text → Text → Option (List Visit) → Type 0
-TellsLetter t q key (Some visits) = IsExploredFor t q key visits
-TellsLetter t q key None = EndsHere t q
+abbrev pub ReturnsLetter : Topology → Text → Text → Option (List Visit) → Type 0
+ReturnsLetter t q key (Some visits) = IsExploredFor t q key visits
+ReturnsLetter t q key None = EndsHere t q
 
 -- none of the first `count` guarantees endangers a message of the queue `q`, whatever the message is
 abbrev pub NoneMay : Topology → List Guarantee → ℕ → Text → Type 0
 NoneMay t gs count q = (i : ℕ) (g : Guarantee) → i < count → slice_get gs i ≡ Some g → EndangersNone t g q
 
 -- no guarantee before index `least` endangers a message of the queue `q`; with `None`, no guarantee before index `bound` does
-abbrev pub TellsFirstMay : Topology → List Guarantee → ℕ → Text → Option ℕ → Type 0
-TellsFirstMay t gs bound q (Some least) = NoneMay t gs least q
-TellsFirstMay t gs bound q None = NoneMay t gs bound q
+abbrev pub ReturnsFirstMay : Topology → List Guarantee → ℕ → Text → Option ℕ → Type 0
+ReturnsFirstMay t gs bound q (Some least) = NoneMay t gs least q
+ReturnsFirstMay t gs bound q None = NoneMay t gs bound q
 
 -- none of the first `bound` guarantees endangers the message `m` in the queue `q`
 abbrev pub EndangersBelow : Topology → List Guarantee → ℕ → Text → Message → Type 0
@@ -72,6 +72,6 @@ pub record IsLeast (t : Topology) (gs : List Guarantee) (bound : ℕ) (q : Text)
   pub none_before : EndangersBelow t gs at q m
 
 -- the result is the first guarantee before index `bound` that endangers the message, if one does
-abbrev pub TellsLeast : Topology → List Guarantee → ℕ → Text → Message → Option ℕ → Type 0
-TellsLeast t gs bound q m (Some at) = IsLeast t gs bound q m at
-TellsLeast t gs bound q m None = EndangersBelow t gs bound q m
+abbrev pub ReturnsLeast : Topology → List Guarantee → ℕ → Text → Message → Option ℕ → Type 0
+ReturnsLeast t gs bound q m (Some at) = IsLeast t gs bound q m at
+ReturnsLeast t gs bound q m None = EndangersBelow t gs bound q m

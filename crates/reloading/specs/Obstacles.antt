@@ -3,7 +3,7 @@ use Rattle.std.specs.Prelude.{◌≡◌, ◌+◌, ℕ, List, [], Bool, true, Opt
 use Rattle.model.specs.Words.{Text}
 use Rattle.model.specs.Topology.{Topology, IsIn, queue_names}
 use Rattle.model.specs.Guarantee.{Guarantee}
-use Rattle.model.specs.Reloading.{Endangers, IsObstacle, NothingStands}
+use Rattle.model.specs.Reloading.{Endangers, IsObstacle, HasNoObstacle}
 use Rattle.model.specs.Message.{Message}
 use Rattle.model.specs.Broker.{Broker}
 use Rattle.model.specs.State.{Config}
@@ -11,7 +11,7 @@ use Rattle.model.specs.declared.messages.Entry.{Entry}
 use Rattle.model.specs.declared.obstacles.Obstacle.{Obstacle}
 use Rattle.model.specs.declared.obstacles.Obstacle.TheVariants.{InUse, Breaks}
 use Rattle.model.specs.declared.messages.User.{User}
-use Rattle.reloading.specs.First.{TellsFirst}
+use Rattle.reloading.specs.First.{ReportsFirst}
 use Rattle.reloading.specs.LiveQueues.{ShowsQueues}
 
 -- a queue with these entries is in use: it has one, or a consumer takes from it
@@ -19,14 +19,14 @@ abbrev pub IsUsed : List Entry → Bool → Type 0
 IsUsed entries consumed = (entries ≡ [] → ⊥) ⊎ (consumed ≡ true)
 
 -- the queue `q` is reported if it is in use
-abbrev pub TellsUse : List Entry → Bool → Text → Option Obstacle → Type 0
-TellsUse entries consumed q (Some o) = IsUsed entries consumed × (o ≡ InUse q)
-TellsUse entries consumed q None = IsUsed entries consumed → ⊥
+abbrev pub ReportsUse : List Entry → Bool → Text → Option Obstacle → Type 0
+ReportsUse entries consumed q (Some o) = IsUsed entries consumed × (o ≡ InUse q)
+ReportsUse entries consumed q None = IsUsed entries consumed → ⊥
 
 -- the queue `q` is reported if it is in use and the new topology lacks it
-abbrev pub TellsQueue : Topology → (ℕ → List Entry) → (ℕ → Bool) → ℕ → Text → Option Obstacle → Type 0
-TellsQueue new entries consumed p q (Some o) = (IsIn q (queue_names new.queues) → ⊥) × TellsUse (entries p) (consumed p) q (Some o)
-TellsQueue new entries consumed p q None = (IsIn q (queue_names new.queues) → ⊥) → TellsUse (entries p) (consumed p) q None
+abbrev pub ReportsQueue : Topology → (ℕ → List Entry) → (ℕ → Bool) → ℕ → Text → Option Obstacle → Type 0
+ReportsQueue new entries consumed p q (Some o) = (IsIn q (queue_names new.queues) → ⊥) × ReportsUse (entries p) (consumed p) q (Some o)
+ReportsQueue new entries consumed p q None = (IsIn q (queue_names new.queues) → ⊥) → ReportsUse (entries p) (consumed p) q None
 
 -- Two messages were first published to the same exchange with the same key, and have the same key now.
 pub record AreAlike (m o : Message) : Type 0 where
@@ -39,24 +39,24 @@ abbrev pub EndangersNone : Topology → Guarantee → Text → Type 0
 EndangersNone new g q = (m : Message) → Endangers new g q m → ⊥
 
 -- the guarantee `g`, number `number`, endangers the entry `e` of the queue `q`, and the obstacle says that; or, for `None`, it doesn't endanger it
-abbrev pub TellsEntry : Topology → Guarantee → ℕ → Text → ℕ → Entry → Option Obstacle → Type 0
-TellsEntry new g number q j e (Some o) = Endangers new g q e.message × (o ≡ Breaks q e.message.first_key number)
-TellsEntry new g number q j e None = Endangers new g q e.message → ⊥
+abbrev pub ReportsEntry : Topology → Guarantee → ℕ → Text → ℕ → Entry → Option Obstacle → Type 0
+ReportsEntry new g number q j e (Some o) = Endangers new g q e.message × (o ≡ Breaks q e.message.first_key number)
+ReportsEntry new g number q j e None = Endangers new g q e.message → ⊥
 
 -- of the queue's entries, the first that the guarantee endangers is reported; `None` if there is none
-abbrev pub TellsEntries : Topology → Guarantee → ℕ → (ℕ → List Entry) → ℕ → Text → Option Obstacle → Type 0
-TellsEntries new g number entries p q o = TellsFirst (TellsEntry new g number q) (entries p) o
+abbrev pub ReportsEntries : Topology → Guarantee → ℕ → (ℕ → List Entry) → ℕ → Text → Option Obstacle → Type 0
+ReportsEntries new g number entries p q o = ReportsFirst (ReportsEntry new g number q) (entries p) o
 
 -- the first entry that the guarantee endangers is reported, in the order of the queues `names` and of their entries; `None` if there is none
-abbrev pub TellsQueues : Topology → List Text → (ℕ → List Entry) → ℕ → Guarantee → Option Obstacle → Type 0
-TellsQueues new names entries i g o = TellsFirst (TellsEntries new g (i + 1) entries) names o
+abbrev pub ReportsQueues : Topology → List Text → (ℕ → List Entry) → ℕ → Guarantee → Option Obstacle → Type 0
+ReportsQueues new names entries i g o = ReportsFirst (ReportsEntries new g (i + 1) entries) names o
 
 -- the result is the first obstacle to the reload, or `None` if there is none
 abbrev pub Judges : Topology → Config → Broker → Option Obstacle → Type 0
 Judges old new b (Some o) = IsObstacle old new b o
-Judges old new b None = NothingStands old new b
+Judges old new b None = HasNoObstacle old new b
 
 -- the result is the first obstacle to the reload, or `None` if there is none, for each broker with these entries and consumers, whoever may log in
 abbrev pub JudgesReload : Topology → (ℕ → List Entry) → (ℕ → Bool) → Topology → List Guarantee → Option Obstacle → Type 0
-JudgesReload old entries consumed new gs told =
-    (b : Broker) (users : List User) → ShowsQueues old entries consumed b → Judges old (record { topology = new; guarantees = gs; users = users }) b told
+JudgesReload old entries consumed new gs reported =
+    (b : Broker) (users : List User) → ShowsQueues old entries consumed b → Judges old (record { topology = new; guarantees = gs; users = users }) b reported

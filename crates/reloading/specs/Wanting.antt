@@ -8,8 +8,8 @@ use Rattle.model.specs.Reloading.{NoneIsOrphaned, IsFirstOrphaned}
 use Rattle.model.specs.declared.messages.Entry.{Entry}
 use Rattle.model.specs.declared.obstacles.Obstacle.TheVariants.{InUse}
 use Rattle.model.specs.declared.topologies.Mode.TheVariants.{Never}
-use Rattle.reloading.specs.First.{TellsFirst}
-use Rattle.reloading.specs.Obstacles.{TellsQueue}
+use Rattle.reloading.specs.First.{ReportsFirst}
+use Rattle.reloading.specs.Obstacles.{ReportsQueue}
 
 -- a name of more than 22 bytes: putting it into a report may fail to allocate; a shorter one is copied without an allocation
 abbrev pub IsLong : Text → Type 0
@@ -23,7 +23,7 @@ pub data MayWant (old new : Topology) (b : Broker) : Type 0 where
 -- Of the queues with these names, the first that is in use and that the new topology lacks has a long name.
 pub record FirstIsLong (new : Topology) (names : List Text) (entries : ℕ → List Entry) (consumed : ℕ → Bool) : Type 0 where
   pub queue : Text
-  pub first : TellsFirst (TellsQueue new entries consumed) names (Some (InUse queue))
+  pub first : ReportsFirst (ReportsQueue new entries consumed) names (Some (InUse queue))
   pub long : IsLong queue
 
 -- One of the guarantees is a `never`.

@@ -5,10 +5,10 @@ ghost use Rattle.model.specs.Topology.{queue_names};
 ghost use Rattle.model.specs.declared.topologies.Mode.TheVariants.{Never};
 ghost use Rattle.model.specs.declared.obstacles.Obstacle.TheVariants.{Breaks};
 ghost use Rattle.paths.specs.Deaths.{AreDeaths};
-ghost use Rattle.reloading.specs.First.{TellsFirst};
+ghost use Rattle.reloading.specs.First.{ReportsFirst};
 ghost use Rattle.reloading.specs.Forbidding.{AreForbidding, EndangersBelow, IsFixedFor, NoneForbids, NoneMay};
-ghost use Rattle.reloading.specs.Obstacles.{AreAlike, TellsQueues};
-ghost use Rattle.reloading.specs.Narrowing.{EntriesTell, MessageTells, QueuesTell, TellsBelow};
+ghost use Rattle.reloading.specs.Obstacles.{AreAlike, ReportsQueues};
+ghost use Rattle.reloading.specs.Narrowing.{EntriesTell, ReportsMessage, QueuesTell, ReportsBelow};
 ghost use Rattle.reloading.specs.Wanting.{HasNever};
 
 use crate::danger::Danger;
@@ -47,7 +47,7 @@ fn endangered(
     requires bound { bound ≤ length guarantees.now }
     requires forbidding { AreForbidding topology.now guarantees.now (length guarantees.now) forbidding.now }
     requires fixed { IfSome fixed (λ explored. IsFixedFor topology.now queue.now explored.now) }
-    ensures { IfOk result (TellsBelow (MessageTells topology.now queue.now message.now) guarantees.now bound) }
+    ensures { IfOk result (ReportsBelow (ReportsMessage topology.now queue.now message.now) guarantees.now bound) }
 {
     let name = queue.as_bytes();
     let first = first_endangering(
@@ -62,7 +62,8 @@ fn endangered(
     }
 }
 
-/// Returns what [`endangered`] does, but `None` at once if there is a `like`: a message like `message` that none of these guarantees endangers.
+/// Returns what [`endangered`] does; `None` at once if there is a message `like`, which has the exchanges and keys of `message` and is endangered by
+/// none of these guarantees.
 fn endangered_next(
     alloc: Global,
     topology: &Topology,
@@ -74,12 +75,14 @@ fn endangered_next(
     like: Option<&Message>,
     message: &Message,
 ) -> Result<Option<Danger>, AllocError>
+    // What the caller knows: `forbidding` and `fixed` are of this topology and queue; `like` has the same keys and is not endangered.
     requires bound { bound ≤ length guarantees.now }
     requires forbidding { AreForbidding topology.now guarantees.now (length guarantees.now) forbidding.now }
     requires fixed { IfSome fixed (λ explored. IsFixedFor topology.now queue.now explored.now) }
     requires alike { IfSome like (λ m. AreAlike m.now message.now) }
     requires passed { IfSome like (λ m. EndangersBelow topology.now guarantees.now bound queue.now m.now) }
-    ensures { IfOk result (TellsBelow (MessageTells topology.now queue.now message.now) guarantees.now bound) }
+    // The first of these guarantees that endangers the message is reported, with the obstacle; with `None` there is none.
+    ensures { IfOk result (ReportsBelow (ReportsMessage topology.now queue.now message.now) guarantees.now bound) }
 {
     match like {
         Some(_) => Ok(None),
@@ -107,7 +110,7 @@ fn first_of_entries<S: LiveQueues>(
     requires forbidding { AreForbidding topology.now guarantees.now (length guarantees.now) forbidding.now }
     requires fixed { IfSome fixed (λ explored. IsFixedFor topology.now queue.now explored.now) }
     requires least { NoneMay topology.now guarantees.now least queue.now }
-    ensures { IfOk result (TellsBelow (EntriesTell topology.now (S.entries live.now) place queue.now) guarantees.now bound) }
+    ensures { IfOk result (ReportsBelow (EntriesTell topology.now (S.entries live.now) place queue.now) guarantees.now bound) }
 {
     let mut passed = none_passed();
     let mut slot = 0;
@@ -145,7 +148,7 @@ fn first_of_dying<S: LiveQueues>(
     requires bound { bound ≤ length guarantees.now }
     requires deaths { AreDeaths topology.now deaths.now }
     requires forbidding { AreForbidding topology.now guarantees.now (length guarantees.now) forbidding.now }
-    ensures { IfOk result (TellsBelow (EntriesTell topology.now (S.entries live.now) place queue.now) guarantees.now bound) }
+    ensures { IfOk result (ReportsBelow (EntriesTell topology.now (S.entries live.now) place queue.now) guarantees.now bound) }
 {
     let name = queue.as_bytes();
     let fixed = fixed_for(topology, deaths, name);
@@ -173,7 +176,7 @@ fn first_of_queue<S: LiveQueues>(
     requires bound { bound ≤ length guarantees.now }
     requires deaths { AreDeaths topology.now deaths.now }
     requires forbidding { AreForbidding topology.now guarantees.now (length guarantees.now) forbidding.now }
-    ensures { IfOk result (TellsBelow (EntriesTell topology.now (S.entries live.now) place queue.now) guarantees.now bound) }
+    ensures { IfOk result (ReportsBelow (EntriesTell topology.now (S.entries live.now) place queue.now) guarantees.now bound) }
 {
     match topology.dead_letter(queue.as_bytes(), &[]) {
         Some(_) => first_of_dying(
@@ -195,7 +198,7 @@ fn first_of_queues<S: LiveQueues>(
 ) -> Result<Option<Danger>, AllocError>
     requires deaths { AreDeaths topology.now deaths.now }
     requires forbidding { AreForbidding topology.now guarantees.now (length guarantees.now) forbidding.now }
-    ensures { IfOk result (TellsBelow (QueuesTell topology.now (queue_names old.now.queues) (S.entries live.now)) guarantees.now (length guarantees.now)) }
+    ensures { IfOk result (ReportsBelow (QueuesTell topology.now (queue_names old.now.queues) (S.entries live.now)) guarantees.now (length guarantees.now)) }
 {
     let mut found = None;
     for place in 0..old.queues().len() {
@@ -244,7 +247,7 @@ pub fn first_breach<S: LiveQueues>(
     topology: &Topology,
     guarantees: &[Guarantee],
 ) -> Result<Option<Obstacle>, AllocError>
-    ensures told { IfOk result (λ o. TellsFirst (TellsQueues topology.now (queue_names old.now.queues) (S.entries live.now)) guarantees.now o) }
+    ensures reported { IfOk result (λ o. ReportsFirst (ReportsQueues topology.now (queue_names old.now.queues) (S.entries live.now)) guarantees.now o) }
     ensures never { OnErr result (HasNever guarantees.now) }
 {
     if !some_forbid(guarantees) {

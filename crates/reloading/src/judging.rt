@@ -28,7 +28,7 @@ pub fn obstacle<S: LiveQueues>(
     topology: &Topology,
     guarantees: &[Guarantee],
 ) -> Result<Option<Obstacle>, AllocError>
-    ensures told { IfOk result (JudgesReload old.now (S.entries live.now) (S.consumed live.now) topology.now guarantees.now) }
+    ensures reported { IfOk result (JudgesReload old.now (S.entries live.now) (S.consumed live.now) topology.now guarantees.now) }
     // When it may fail to allocate: as `MayWant` says, and, if each queue in use is still declared, only with a `never` guarantee.
     ensures wants { OnErr result ((b : Broker) → ShowsQueues old.now (S.entries live.now) (S.consumed live.now) b → MayWant old.now topology.now b) }
     ensures never { OnErr result ((b : Broker) → ShowsQueues old.now (S.entries live.now) (S.consumed live.now) b

@@ -3,8 +3,8 @@
 ghost use Rattle.std.specs.Prelude.{◌≡◌, IfOk, OnErr, Decides, Some};
 ghost use Rattle.model.specs.Topology.{queue_names};
 ghost use Rattle.model.specs.declared.obstacles.Obstacle.TheVariants.{InUse};
-ghost use Rattle.reloading.specs.First.{TellsFirst};
-ghost use Rattle.reloading.specs.Obstacles.{IsUsed, TellsQueue, TellsUse};
+ghost use Rattle.reloading.specs.First.{ReportsFirst};
+ghost use Rattle.reloading.specs.Obstacles.{IsUsed, ReportsQueue, ReportsUse};
 ghost use Rattle.reloading.specs.Wanting.{FirstIsLong, IsLong};
 
 use crate::live_queues::LiveQueues;
@@ -23,7 +23,7 @@ fn is_used<S: LiveQueues>(live: &S, place: usize) -> bool
 }
 
 /// Returns a copy of a name. Fails only if the name has more than 22 bytes and the allocation fails.
-fn told_name(name: &Text) -> Result<Text, AllocError>
+fn copied_name(name: &Text) -> Result<Text, AllocError>
     ensures same { IfOk result (λ t. t ≡ name.now) }
     ensures wants { OnErr result (IsLong name.now) }
 {
@@ -39,12 +39,12 @@ fn gone_at<S: LiveQueues>(
     place: usize,
     queue: &Text,
 ) -> Result<Option<Obstacle>, AllocError>
-    ensures told { IfOk result (λ o. TellsUse (S.entries live.now place) (S.consumed live.now place) queue.now o) }
-    ensures used { OnErr result (TellsUse (S.entries live.now place) (S.consumed live.now place) queue.now (Some (InUse queue.now))) }
+    ensures reported { IfOk result (λ o. ReportsUse (S.entries live.now place) (S.consumed live.now place) queue.now o) }
+    ensures used { OnErr result (ReportsUse (S.entries live.now place) (S.consumed live.now place) queue.now (Some (InUse queue.now))) }
     ensures wants { OnErr result (IsLong queue.now) }
 {
     if is_used(live, place) {
-        return Ok(Some(Obstacle::InUse(told_name(queue)?)));
+        return Ok(Some(Obstacle::InUse(copied_name(queue)?)));
     }
     Ok(None)
 }
@@ -56,8 +56,8 @@ fn orphaned_at<S: LiveQueues>(
     place: usize,
     queue: &Text,
 ) -> Result<Option<Obstacle>, AllocError>
-    ensures told { IfOk result (λ o. TellsQueue topology.now (S.entries live.now) (S.consumed live.now) place queue.now o) }
-    ensures orphaned { OnErr result (TellsQueue topology.now (S.entries live.now) (S.consumed live.now) place queue.now (Some (InUse queue.now))) }
+    ensures reported { IfOk result (λ o. ReportsQueue topology.now (S.entries live.now) (S.consumed live.now) place queue.now o) }
+    ensures orphaned { OnErr result (ReportsQueue topology.now (S.entries live.now) (S.consumed live.now) place queue.now (Some (InUse queue.now))) }
     ensures wants { OnErr result (IsLong queue.now) }
 {
     match topology.queue_at(queue.as_bytes()) {
@@ -72,7 +72,7 @@ pub fn first_orphaned<S: LiveQueues>(
     old: &Topology,
     topology: &Topology,
 ) -> Result<Option<Obstacle>, AllocError>
-    ensures told { IfOk result (λ o. TellsFirst (TellsQueue topology.now (S.entries live.now) (S.consumed live.now)) (queue_names old.now.queues) o) }
+    ensures reported { IfOk result (λ o. ReportsFirst (ReportsQueue topology.now (S.entries live.now) (S.consumed live.now)) (queue_names old.now.queues) o) }
     ensures wants { OnErr result (FirstIsLong topology.now (queue_names old.now.queues) (S.entries live.now) (S.consumed live.now)) }
 {
     for place in 0..old.queues().len() {

@@ -1,5 +1,5 @@
 -- What is written down at the end is what was seen.
-use Rattle.runs.proofs.Names.{◌≡◌, ℕ, ◌+◌, ◌<◌, zero, suc, List, [], ◌∷◌, ◌++◌, length, slice_get, refl, sym, ap, subst, ◌∙◌, arith, Config, Occurrence, World, Seen, Shown, Shows, Plays, new_world, is_over, IsSound, Arrival, new_is_consistent, taken_at, AreFinished, Records, TellsEvents, PlaysAndTells, IsRunOf}
+use Rattle.runs.proofs.Names.{◌≡◌, ℕ, ◌+◌, ◌<◌, zero, suc, List, [], ◌∷◌, ◌++◌, length, slice_get, refl, sym, ap, subst, ◌∙◌, arith, Config, Occurrence, World, Seen, Shown, Shows, Plays, new_world, is_over, IsSound, Arrival, new_is_consistent, taken_at, AreFinished, Records, RecordsEvents, PlaysAndRecords, IsRunOf}
 use Rattle.std.proofs.Common.{Some}
 use Rattle.laws.proofs.Whole.{headline_holds}
 
@@ -21,13 +21,13 @@ shows_at_end os w s t r f n = record {
       f.each i x.0 x.1 ∙ ap (λ (z : List ℕ). Some (record { output = z; is_over = is_over w (i + 1) })) (ap (λ (z : List ℕ). z ++ (w.wire (i + 1)).output) (sym x.2) ∙ r.each i);
 }
 
-pub is_run : (start last : World) (arrivals : List (Arrival Config)) (none s t : Seen) → IsSound start.config → start ≡ new_world start.config → none ≡ record { connections = []; notes = [] } → PlaysAndTells start arrivals none last s
+pub is_run : (start last : World) (arrivals : List (Arrival Config)) (none s t : Seen) → IsSound start.config → start ≡ new_world start.config → none ≡ record { connections = []; notes = [] } → PlaysAndRecords start arrivals none last s
     → AreFinished last s.connections t.connections → t.notes ≡ s.notes → IsRunOf start.config arrivals last t
 is_run start last arrivals none s t sound fresh empty played f n =
     let os = played.0 in
     let plays : Plays (new_world start.config) arrivals os last = subst (λ (z : World). Plays z arrivals os last) fresh played.2 in
-    let tells : TellsEvents (new_world start.config) (record { connections = []; notes = [] }) os last s =
-    subst (λ (z : Seen). TellsEvents (new_world start.config) z os last s) empty (subst (λ (z : World). TellsEvents z none os last s) fresh played.3) in
+    let tells : RecordsEvents (new_world start.config) (record { connections = []; notes = [] }) os last s =
+    subst (λ (z : Seen). RecordsEvents (new_world start.config) z os last s) empty (subst (λ (z : World). RecordsEvents z none os last s) fresh played.3) in
     let shows : Shows os last t = shows_at_end os last s t (tells.keeps [] (no_records start.config sound)) f n in
     record {
       occurrences = os;

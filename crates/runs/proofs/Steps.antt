@@ -1,5 +1,5 @@
 -- What each happening adds to what is written down.
-use Rattle.runs.proofs.Names.{◌≡◌, ◌≢◌, ℕ, ◌+◌, ◌-◌, ◌≤◌, List, [], ◌∷◌, ◌++◌, Bool, true, false, cond, not, eqb, length, map, take, drop, refl, sym, ap, subst, ◌∙◌, arith, append-nil, append_assoc, eq-eqb, ne_eqb, inl, inr, ◌&&◌, is_some, Config, State, Session, no_session, is_running, with_one, Happening, notes_of, put_out, Occurrence, Of_event, events_of, noted_at, notes_over, Stream, World, Wire, Shown, Seen, is_over, is_paused, is_ended, Pauses, Happens, Puts, Turns, Waits, Same, with_heard, Takes_off, Opens, Delivers, delivers, Loses, Reloads, IsSound, consistent_same, turns_consistent, takes_consistent, pumps_consistent, loses_consistent, reloads_consistent, Note, taken_at, gathered, with_opened, AreUnopened, Records, TellsEvents}
+use Rattle.runs.proofs.Names.{◌≡◌, ◌≢◌, ℕ, ◌+◌, ◌-◌, ◌≤◌, List, [], ◌∷◌, ◌++◌, Bool, true, false, cond, not, eqb, length, map, take, drop, refl, sym, ap, subst, ◌∙◌, arith, append-nil, append_assoc, eq-eqb, ne_eqb, inl, inr, ◌&&◌, is_some, Config, State, Session, no_session, is_running, with_one, Happening, notes_of, put_out, Occurrence, Of_event, events_of, noted_at, notes_over, Stream, World, Wire, Shown, Seen, is_over, is_paused, is_ended, Pauses, Happens, Puts, Turns, Waits, Same, with_heard, Takes_off, Opens, Delivers, delivers, Loses, Reloads, IsSound, consistent_same, turns_consistent, takes_consistent, pumps_consistent, loses_consistent, reloads_consistent, Note, taken_at, gathered, with_opened, AreUnopened, Records, RecordsEvents}
 use Rattle.std.specs.List.{AllByRecursion}
 use Rattle.std.proofs.lemmas.Bool.{eqb-true, eqb-false, false≢true}
 use Rattle.std.proofs.lemmas.List.Concat.{flat_map-append}
@@ -28,12 +28,12 @@ put_out-append c hs ks = flat_map-append (λ (h : Happening). spelling h.frame_m
 
 -- ---- Tells
 
-pub tells_then : (a b d : World) (s t u : Seen) (os ps : List Occurrence) → TellsEvents a s os b t → TellsEvents b t ps d u → TellsEvents a s (os ++ ps) d u
+pub tells_then : (a b d : World) (s t u : Seen) (os ps : List Occurrence) → RecordsEvents a s os b t → RecordsEvents b t ps d u → RecordsEvents a s (os ++ ps) d u
 tells_then a b d s t u os ps p q = record {
   keeps = λ done r. subst (λ (z : List Occurrence). Records z d u) (append_assoc done os ps) (q.keeps (done ++ os) (p.keeps done r));
 }
 
-pub tells_not : (a : World) (s : Seen) → TellsEvents a s [] a s
+pub tells_not : (a : World) (s : Seen) → RecordsEvents a s [] a s
 tells_not a s = record { keeps = λ done r. subst (λ (z : List Occurrence). Records z a s) (sym (append-nil done)) r }
 
 tells_by : (old new : World) (seen after : Seen) (hs : List Happening)
@@ -43,7 +43,7 @@ tells_by : (old new : World) (seen after : Seen) (hs : List Happening)
     → (IsConsistent old → AreUnopened old → AreUnopened new)
     → ((i : ℕ) → length seen.connections ≡ old.given → AreUnopened old
     → taken_at after.connections i ++ (new.wire (i + 1)).output ≡ (taken_at seen.connections i ++ (old.wire (i + 1)).output) ++ put_out (i + 1) hs)
-    → TellsEvents old seen (map Of_event hs) new after
+    → RecordsEvents old seen (map Of_event hs) new after
 tells_by old new seen after hs noted counted consistent unopened local = record {
   keeps = λ done r. record {
     noted = noted ∙ ap (λ (z : List Note). z ++ notes_of hs) r.noted ∙ ap (λ (z : List Note). notes_over done ++ z) (sym (notes-mapped hs)) ∙ sym (notes-append done (map Of_event hs));
@@ -58,8 +58,8 @@ tells_by old new seen after hs noted counted consistent unopened local = record 
   };
 }
 
-pub tells_same : (a b : World) (s : Seen) → Same a b → TellsEvents a s [] b s
-tells_same a b s same = subst (λ (w : World). TellsEvents a s [] w s) (sym (world_same a b same)) (tells_not a s)
+pub tells_same : (a b : World) (s : Seen) → Same a b → RecordsEvents a s [] b s
+tells_same a b s same = subst (λ (w : World). RecordsEvents a s [] w s) (sym (world_same a b same)) (tells_not a s)
 
 -- ---- what puts nothing out
 
@@ -137,7 +137,7 @@ awake_apart false paused e o = false≢true o
 pub turns_apart : (a b : World) (c : ℕ) (hs : List Happening) (d : ℕ) → Turns a c hs b → is_over a d ≡ true → d ≢ c
 turns_apart a b c hs d t over e = awake_apart (is_over a c) (is_paused a c) t.awake (ap (is_over a) (sym e) ∙ over)
 
-pub tells_turns : (a b : World) (c : ℕ) (hs : List Happening) (s : Seen) (notes : List Note) → notes ≡ notes_of hs → Turns a c hs b → TellsEvents a s (map Of_event hs) b (record s { notes = s.notes ++ notes })
+pub tells_turns : (a b : World) (c : ℕ) (hs : List Happening) (s : Seen) (notes : List Note) → notes ≡ notes_of hs → Turns a c hs b → RecordsEvents a s (map Of_event hs) b (record s { notes = s.notes ++ notes })
 tells_turns a b c hs s notes noted t =
     tells_by a b s (record s { notes = s.notes ++ notes }) hs
     (ap (λ (z : List Note). s.notes ++ z) noted)
@@ -165,7 +165,7 @@ runs_apart b phase.Over is e over = false≢true (sym is ∙ e)
 pub delivers_apart : (a b : World) (c : ℕ) (hs : List Happening) (d : ℕ) → IsConsistent a → Delivers a c hs b → is_over a d ≡ true → d ≢ c
 delivers_apart a b c hs d k v over e = runs_apart _ (a.state.session c).phase (k.running c) (ap is_some v.puts.happens.stepped.acts.made.taker.runs) (ap (is_over a) (sym e) ∙ over)
 
-pub tells_delivers : (a b : World) (c : ℕ) (hs : List Happening) (s : Seen) (notes : List Note) → notes ≡ notes_of hs → Delivers a c hs b → TellsEvents a s (map Of_event hs) b (record s { notes = s.notes ++ notes })
+pub tells_delivers : (a b : World) (c : ℕ) (hs : List Happening) (s : Seen) (notes : List Note) → notes ≡ notes_of hs → Delivers a c hs b → RecordsEvents a s (map Of_event hs) b (record s { notes = s.notes ++ notes })
 tells_delivers a b c hs s notes noted v =
     tells_by a b s (record s { notes = s.notes ++ notes }) hs
     (ap (λ (z : List Note). s.notes ++ z) noted)
@@ -179,7 +179,7 @@ tells_delivers a b c hs s notes noted v =
 
 -- ---- nothing happens, and no output changes
 
-tells_idle : (a b : World) (s : Seen) → b.given ≡ a.given → b.config ≡ a.config → b.state ≡ a.state → ((d : ℕ) → (b.wire d).output ≡ (a.wire d).output) → TellsEvents a s [] b s
+tells_idle : (a b : World) (s : Seen) → b.given ≡ a.given → b.config ≡ a.config → b.state ≡ a.state → ((d : ℕ) → (b.wire d).output ≡ (a.wire d).output) → RecordsEvents a s [] b s
 tells_idle a b s given config state outputs =
     tells_by a b s s []
     (sym (append-nil s.notes))
@@ -188,14 +188,14 @@ tells_idle a b s given config state outputs =
     (λ k none i le. let was = none i (subst (λ (n : ℕ). n ≤ i) given le) in (outputs (i + 1) ∙ was.0, ap (λ (z : State). is_ended (z.session (i + 1)).phase) state ∙ was.1))
     (λ i n none. ap (λ (z : List ℕ). taken_at s.connections i ++ z) (outputs (i + 1)) ∙ sym (append-nil (taken_at s.connections i ++ (a.wire (i + 1)).output)))
 
-pub tells_waits : (a b : World) (c : ℕ) (s : Seen) → Waits a c b → TellsEvents a s [] b s
+pub tells_waits : (a b : World) (c : ℕ) (s : Seen) → Waits a c b → RecordsEvents a s [] b s
 tells_waits a b c s v = tells_idle a b s v.given v.config v.state (λ d. go d (eqb d c) refl)
   where
     go : (d : ℕ) (x : Bool) → eqb d c ≡ x → (b.wire d).output ≡ (a.wire d).output
     go d true q = subst (λ (n : ℕ). (b.wire n).output ≡ (a.wire n).output) (sym (eqb-true d c q)) v.output
     go d false q = ap (λ (w : Wire). w.output) (v.others d (eqb-false d c q))
 
-pub tells_heard : (a : World) (c : ℕ) (bytes : List ℕ) (s : Seen) → TellsEvents a s [] (with_heard a c bytes) s
+pub tells_heard : (a : World) (c : ℕ) (bytes : List ℕ) (s : Seen) → RecordsEvents a s [] (with_heard a c bytes) s
 tells_heard a c bytes s = tells_idle a (with_heard a c bytes) s refl refl refl (λ d. go d (eqb d c) refl)
   where
     go : (d : ℕ) (x : Bool) → eqb d c ≡ x → ((with_heard a c bytes).wire d).output ≡ (a.wire d).output
@@ -242,7 +242,7 @@ unopened_still a b c given here over there others none i le = go (eqb (i + 1) c)
         (ap (λ (n : ℕ). (b.wire n).output) e ∙ here (ap (λ (n : ℕ). (a.wire n).output) (sym e) ∙ was.0), ap (is_over b) e ∙ over (ap (is_over a) (sym e) ∙ was.1))
     go false q = let ne : i + 1 ≢ c = eqb-false (i + 1) c q in (there (i + 1) ne ∙ was.0, others (i + 1) ne ∙ was.1)
 
-pub tells_takes : (a b : World) (c n : ℕ) (hs : List Happening) (s : Seen) → Takes_off a c n hs b → TellsEvents a s (map Of_event hs) b (record s { connections = gathered s.connections c (take n (a.wire c).output) })
+pub tells_takes : (a b : World) (c n : ℕ) (hs : List Happening) (s : Seen) → Takes_off a c n hs b → RecordsEvents a s (map Of_event hs) b (record s { connections = gathered s.connections c (take n (a.wire c).output) })
 tells_takes a b c n hs s t =
     let out = (a.wire c).output in
     let after = settled a.config a.state b.state c _ _ hs t.pauses in
@@ -256,7 +256,7 @@ tells_takes a b c n hs s t =
     (λ k. unopened_still a b c t.given (λ e. here ∙ drop_nothing n out e) (λ e. over c ∙ e) there (λ d ne. over d))
     (gathered_each a b c (take n out) (drop n out) s.connections hs after.quiet (take_and_drop n out) (take_nothing n out) here there)
 
-pub tells_loses : (a b : World) (c : ℕ) (hs : List Happening) (s : Seen) → Loses a c hs b → TellsEvents a s (map Of_event hs) b (record s { connections = gathered s.connections c (a.wire c).output })
+pub tells_loses : (a b : World) (c : ℕ) (hs : List Happening) (s : Seen) → Loses a c hs b → RecordsEvents a s (map Of_event hs) b (record s { connections = gathered s.connections c (a.wire c).output })
 tells_loses a b c hs s l =
     let out = (a.wire c).output in
     let quiet : IsQuiet hs = quiet_one l.h hs l.all l.happens.stepped.acts.noted l.silent in
@@ -273,7 +273,7 @@ tells_loses a b c hs s l =
 
 -- an opening by an event that notes nothing, after which the new connection is in this session
 pub tells_opens : (a b : World) (e : Event) (st : Stream) (after : Session) (hs : List Happening) (s : Seen) (o : Opens a e st hs b) → o.h.notes ≡ [] → (IsConsistent a → IsConsistent b) → ((d : ℕ) → b.state.session d ≡ with_one a.state.session (a.given + 1) after d)
-    → TellsEvents a s (map Of_event hs) b (record s { connections = with_opened s.connections })
+    → RecordsEvents a s (map Of_event hs) b (record s { connections = with_opened s.connections })
 tells_opens a b e st after hs s o noted consistent sessions =
     let quiet : IsQuiet hs = quiet_one o.h hs o.all noted o.silent in
     let here : (b.wire (a.given + 1)).output ≡ [] = ap (λ (w : Wire). w.output) (o.wires (a.given + 1) ∙ with_here a.wire (a.given + 1) (a.given + 1) _ refl) in
@@ -310,7 +310,7 @@ reloads_sessions a b offered os p c = elim (state_left p.r p.decided) [
 ]
 
 -- what is noted at it is told, and nothing is put out
-pub tells_reloads : (a b : World) (offered : Config) (os : List Occurrence) (s : Seen) (notes : List Note) → IsSound offered → notes ≡ notes_over os → Reloads a offered os b → TellsEvents a s os b (record s { notes = s.notes ++ notes })
+pub tells_reloads : (a b : World) (offered : Config) (os : List Occurrence) (s : Seen) (notes : List Note) → IsSound offered → notes ≡ notes_over os → Reloads a offered os b → RecordsEvents a s os b (record s { notes = s.notes ++ notes })
 tells_reloads a b offered os s notes sound noted p = record {
   keeps = λ done r. record {
     noted = ap (λ (z : List Note). s.notes ++ z) noted ∙ ap (λ (z : List Note). z ++ notes_over os) r.noted ∙ sym (notes-append done os);

@@ -40,8 +40,8 @@ abbrev pub DidNothing : World → ℕ → World → Type 0
 DidNothing old c new = Rests old c × Waits old c new
 
 -- the next command or fault was performed, with the notes that `did` has, or nothing was left to perform
-abbrev pub TurnTells : World → ℕ → Option Noted → World → Type 0
-TurnTells old c did new = MatchOption did (DidNothing old c new) (λ notes. Did old c notes.items new)
+abbrev pub TurnMeans : World → ℕ → Option Noted → World → Type 0
+TurnMeans old c did new = MatchOption did (DidNothing old c new) (λ notes. Did old c notes.items new)
 
 -- one delivery was made, to connection `c`, and its notes are `notes`
 abbrev pub Pumped : World → ℕ → List Note → World → Type 0
@@ -52,8 +52,8 @@ abbrev pub Idles : World → World → Type 0
 Idles old new = NoneCanDeliver old × Same old new
 
 -- a delivery was made, to the connection and with the notes that `did` has, or none can be made
-abbrev pub PumpTells : World → Option Delivered → World → Type 0
-PumpTells old did new = MatchOption did (Idles old new) (λ d. Pumped old d.connection d.notes.items new)
+abbrev pub PumpMeans : World → Option Delivered → World → Type 0
+PumpMeans old did new = MatchOption did (Idles old new) (λ d. Pumped old d.connection d.notes.items new)
 
 -- `n` bytes of the output are taken, unless the connection is gone
 abbrev pub TakesAway : World → ℕ → ℕ → World → Type 0

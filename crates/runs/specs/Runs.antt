@@ -7,19 +7,19 @@ use Rattle.model.specs.Arrivals.{World, Answers, WorksOff, Plays, Shows, Seen, n
 use Rattle.model.specs.Headline.{KeepsPromises}
 use Rattle.model.specs.declared.events.Arrival.{Arrival}
 use Rattle.laws.specs.Reloading.{IsOffered, AreOffered}
-use Rattle.runs.specs.Told.{TellsEvents}
+use Rattle.runs.specs.Recorded.{RecordsEvents}
 
 -- all that is left to perform for a connection is performed, and recorded
-abbrev pub WorksAndTells : World → ℕ → Seen → World → Seen → Type 0
-WorksAndTells old c seen new after = (hs : List Happening) × WorksOff old c hs new × TellsEvents old seen (map Of_event hs) new after
+abbrev pub WorksAndRecords : World → ℕ → Seen → World → Seen → Type 0
+WorksAndRecords old c seen new after = (hs : List Happening) × WorksOff old c hs new × RecordsEvents old seen (map Of_event hs) new after
 
 -- all that one arrival brings is done, and recorded; if it is a reload, what it offers is sound
-abbrev pub AnswersAndTells : World → Arrival Config → Seen → World → Seen → Type 0
-AnswersAndTells old arrival seen new after = (os : List Occurrence) × IsOffered arrival × Answers old arrival os new × TellsEvents old seen os new after
+abbrev pub AnswersAndRecords : World → Arrival Config → Seen → World → Seen → Type 0
+AnswersAndRecords old arrival seen new after = (os : List Occurrence) × IsOffered arrival × Answers old arrival os new × RecordsEvents old seen os new after
 
 -- all that a list of arrivals brings is done, and recorded; what its reloads offer is sound
-abbrev pub PlaysAndTells : World → List (Arrival Config) → Seen → World → Seen → Type 0
-PlaysAndTells old arrivals seen new after = (os : List Occurrence) × AreOffered arrivals × Plays old arrivals os new × TellsEvents old seen os new after
+abbrev pub PlaysAndRecords : World → List (Arrival Config) → Seen → World → Seen → Type 0
+PlaysAndRecords old arrivals seen new after = (os : List Occurrence) × AreOffered arrivals × Plays old arrivals os new × RecordsEvents old seen os new after
 
 -- The arrivals were played one by one, from a world without connections to `last`, and what happened was recorded in `seen`.
 pub record IsRunOf (f : Config) (arrivals : List (Arrival Config)) (last : World) (seen : Seen) : Type 0 where

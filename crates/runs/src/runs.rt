@@ -1,9 +1,9 @@
 //! Runs arrivals on a machine, one after another, and records what is seen. Start with [`run_over`].
 
 ghost use Rattle.std.specs.Prelude.{◌≡◌, IfOk, OnOk, length, map, take};
-ghost use Rattle.model.specs.Arrivals.{new_world, is_gone, told};
+ghost use Rattle.model.specs.Arrivals.{new_world, is_gone, with_setup};
 ghost use Rattle.model.specs.declared.events.Arrival.TheVariants as arrival;
-ghost use Rattle.runs.specs.Runs.{WorksAndTells, AnswersAndTells, PlaysAndTells, IsRunOf};
+ghost use Rattle.runs.specs.Runs.{WorksAndRecords, AnswersAndRecords, PlaysAndRecords, IsRunOf};
 
 use crate::machine::Machine;
 use crate::transcript::Transcript;
@@ -18,7 +18,7 @@ pub fn run_over<M: Machine>(
     arrivals: &[Arrival<M::Setup>],
 ) -> Result<Transcript, AllocError>
     requires { M.world machine.old ≡ new_world (M.world machine.old).config }
-    ensures { IfOk result (λ t. IsRunOf (M.world machine.old).config (map (told M.config) arrivals.now) (M.world machine.new) t) }
+    ensures { IfOk result (λ t. IsRunOf (M.world machine.old).config (map (with_setup M.config) arrivals.now) (M.world machine.new) t) }
 {
     machine.ghost_is_sound();
     let mut transcript = Transcript::new(alloc);
@@ -33,7 +33,7 @@ fn play<M: Machine>(
     arrivals: &[Arrival<M::Setup>],
     transcript: &mut Transcript,
 ) -> Result<(), AllocError>
-    ensures { OnOk result (PlaysAndTells (M.world machine.old) (map (told M.config) arrivals.now) transcript.old (M.world machine.new) transcript.new) }
+    ensures { OnOk result (PlaysAndRecords (M.world machine.old) (map (with_setup M.config) arrivals.now) transcript.old (M.world machine.new) transcript.new) }
 {
     for arrival in arrivals {
         arrive(alloc, machine, arrival, transcript)?;
@@ -48,7 +48,7 @@ fn arrive<M: Machine>(
     arrival: &Arrival<M::Setup>,
     transcript: &mut Transcript,
 ) -> Result<(), AllocError>
-    ensures { OnOk result (AnswersAndTells (M.world machine.old) (told M.config arrival.now) transcript.old (M.world machine.new) transcript.new) }
+    ensures { OnOk result (AnswersAndRecords (M.world machine.old) (with_setup M.config arrival.now) transcript.old (M.world machine.new) transcript.new) }
 {
     match arrival {
         Arrival::Open => open(alloc, machine, transcript),
@@ -67,7 +67,7 @@ fn open<M: Machine>(
     machine: &mut M,
     transcript: &mut Transcript,
 ) -> Result<(), AllocError>
-    ensures { OnOk result (AnswersAndTells (M.world machine.old) arrival.Open transcript.old (M.world machine.new) transcript.new) }
+    ensures { OnOk result (AnswersAndRecords (M.world machine.old) arrival.Open transcript.old (M.world machine.new) transcript.new) }
 {
     match machine.open(alloc)? {
         Some(_) => transcript.add_connection(alloc),
@@ -82,7 +82,7 @@ fn open_ready<M: Machine>(
     k: u8,
     transcript: &mut Transcript,
 ) -> Result<(), AllocError>
-    ensures { OnOk result (AnswersAndTells (M.world machine.old) (arrival.Ready k) transcript.old (M.world machine.new) transcript.new) }
+    ensures { OnOk result (AnswersAndRecords (M.world machine.old) (arrival.Ready k) transcript.old (M.world machine.new) transcript.new) }
 {
     match machine.open_ready(alloc, k)? {
         Some(_) => transcript.add_connection(alloc),
@@ -98,7 +98,7 @@ fn hear<M: Machine>(
     bytes: &[u8],
     transcript: &mut Transcript,
 ) -> Result<(), AllocError>
-    ensures { OnOk result (AnswersAndTells (M.world machine.old) (arrival.In c bytes.now) transcript.old (M.world machine.new) transcript.new) }
+    ensures { OnOk result (AnswersAndRecords (M.world machine.old) (arrival.In c bytes.now) transcript.old (M.world machine.new) transcript.new) }
 {
     if machine.is_over(c) {
         return Ok(());
@@ -115,7 +115,7 @@ fn take<M: Machine>(
     n: u64,
     transcript: &mut Transcript,
 ) -> Result<(), AllocError>
-    ensures { OnOk result (AnswersAndTells (M.world machine.old) (arrival.Sent c n) transcript.old (M.world machine.new) transcript.new) }
+    ensures { OnOk result (AnswersAndRecords (M.world machine.old) (arrival.Sent c n) transcript.old (M.world machine.new) transcript.new) }
 {
     if is_gone(machine, c) {
         return Ok(());
@@ -131,7 +131,7 @@ fn pump<M: Machine>(
     machine: &mut M,
     transcript: &mut Transcript,
 ) -> Result<(), AllocError>
-    ensures { OnOk result (AnswersAndTells (M.world machine.old) arrival.Pump transcript.old (M.world machine.new) transcript.new) }
+    ensures { OnOk result (AnswersAndRecords (M.world machine.old) arrival.Pump transcript.old (M.world machine.new) transcript.new) }
 {
     match machine.pump(alloc)? {
         Some(delivered) => transcript.note(delivered.notes),
@@ -141,7 +141,7 @@ fn pump<M: Machine>(
 
 /// Drops connection `c`, unless it is gone. Its remaining output, which is never taken, is recorded before.
 fn lose<M: Machine>(machine: &mut M, c: u64, transcript: &mut Transcript) -> Result<(), AllocError>
-    ensures { OnOk result (AnswersAndTells (M.world machine.old) (arrival.Lose c) transcript.old (M.world machine.new) transcript.new) }
+    ensures { OnOk result (AnswersAndRecords (M.world machine.old) (arrival.Lose c) transcript.old (M.world machine.new) transcript.new) }
 {
     if is_gone(machine, c) {
         return Ok(());
@@ -158,7 +158,7 @@ fn reload<M: Machine>(
     setup: M::Setup,
     transcript: &mut Transcript,
 ) -> Result<(), AllocError>
-    ensures { OnOk result (AnswersAndTells (M.world machine.old) (arrival.Reload (M.config setup)) transcript.old (M.world machine.new) transcript.new) }
+    ensures { OnOk result (AnswersAndRecords (M.world machine.old) (arrival.Reload (M.config setup)) transcript.old (M.world machine.new) transcript.new) }
 {
     M::ghost_offers_sound(&setup);
     match machine.reload(alloc, setup) {
@@ -177,7 +177,7 @@ fn work<M: Machine>(
     c: u64,
     transcript: &mut Transcript,
 ) -> Result<(), AllocError>
-    ensures { OnOk result (WorksAndTells (M.world machine.old) c transcript.old (M.world machine.new) transcript.new) }
+    ensures { OnOk result (WorksAndRecords (M.world machine.old) c transcript.old (M.world machine.new) transcript.new) }
 {
     while let Some(notes) = machine.turn(alloc, c)? {
         transcript.note(notes)?;

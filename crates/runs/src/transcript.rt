@@ -1,7 +1,7 @@
 //! The record of a run.
 
 ghost use Rattle.std.specs.Prelude.{◌≡◌, ◌++◌, ◌∷◌, [], false, OnOk, OnErr, unwrap_or, option_copied};
-ghost use Rattle.runs.specs.Told.{never_given, shown_of, gathered, with_opened, AreFinished};
+ghost use Rattle.runs.specs.Recorded.{never_given, shown_of, gathered, with_opened, AreFinished};
 
 use crate::machine::Machine;
 use model::Note;

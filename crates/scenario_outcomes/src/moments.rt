@@ -10,11 +10,11 @@ pub fn earliest_end(rt: &HostRuntime, time: u64) -> Result<Instant, Unmet> {
         .ok_or(Unmet::Call("checked_add"))
 }
 
-/// Checks that `moment` has passed: a socket that was bidden farewell must not be ended before it.
+/// Checks that `moment` has passed: a socket for which `farewell` was called must not be ended before it.
 pub fn expect_past(rt: &HostRuntime, moment: Instant) -> Result<(), Unmet> {
     let now = value_of("Instant::now", Instant::now(rt))?;
     expect(
-        "a socket that was bidden farewell has its time",
+        "a socket is not ended before its time after `farewell`",
         now >= moment,
     )
 }

@@ -12,7 +12,7 @@ pub struct Sums {
 
 impl Sums {
     /// Counts a scenario and prints its line: its name with `ok`, or with the expectation that was not met.
-    pub fn tell(
+    pub fn record(
         &mut self,
         rt: &HostRuntime,
         name: &str,

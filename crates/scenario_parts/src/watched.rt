@@ -27,7 +27,7 @@ impl<W> Watched<W> {
 }
 
 impl<W: Wire> Wire for Watched<W> {
-    ghost told = { λ w. W.told w.sockets };
+    ghost past = { λ w. W.past w.sockets };
 
     fn accept(&mut self) -> Accept {
         self.accepts = self.accepts.saturating_add(1);

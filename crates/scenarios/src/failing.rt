@@ -1,7 +1,7 @@
 //! Two clients over a wire on which each accept, read and write fails in turn.
 
 use engine::Engine;
-use memory_wire::{Asked, Client, Failing, Logged, MemoryWire};
+use memory_wire::{Client, Failing, FailingCall, Logged, MemoryWire};
 use scenario_parts::{
     ACKED, OPENED, OPENING, PUBLISH, Unmet, expect_bytes, expect_number, joined, new_broker,
     value_of,
@@ -74,7 +74,7 @@ struct Run {
 
 impl Run {
     /// Sets the run up before any client has connected. The `count`th call of the kind `asked` fails, or none if `count` is 0.
-    fn new(alloc: Global, window: usize, asked: Asked, count: u64) -> Result<Run, Unmet> {
+    fn new(alloc: Global, window: usize, asked: FailingCall, count: u64) -> Result<Run, Unmet> {
         let mut clients = Vec::new(alloc);
         value_of(
             "push",
@@ -178,12 +178,12 @@ fn expect_first(alloc: Global, run: &mut Run, rounds: u64) -> Result<(), Unmet> 
 
 /// Checks that only a client whose read or write failed was lost.
 fn expect_others(alloc: Global, run: &mut Run, rounds: u64) -> Result<(), Unmet> {
-    let victim = run.wire.victim();
+    let failed_socket = run.wire.failed_socket();
     for client in 0..2u64 {
-        let expected = u64::from(victim == Some(client));
+        let expected = u64::from(failed_socket == Some(client));
         expect_number("the number of closes", run.closes(client), expected)?;
     }
-    match victim {
+    match failed_socket {
         None => expect_both(alloc, run, rounds),
         Some(0) => expect_second(alloc, run, rounds),
         Some(_) => expect_first(alloc, run, rounds),
@@ -192,13 +192,13 @@ fn expect_others(alloc: Global, run: &mut Run, rounds: u64) -> Result<(), Unmet>
 
 /// Checks a run in which no call fails.
 fn fail_none(alloc: Global, pace: Pace) -> Result<(), Unmet> {
-    let mut run = Run::new(alloc, pace.window, Asked::Accept, 0)?;
+    let mut run = Run::new(alloc, pace.window, FailingCall::Accept, 0)?;
     run.serve(alloc, pace.rounds);
     expect_others(alloc, &mut run, pace.rounds)
 }
 
 /// For each call of the kind `asked`, checks a run in which that call fails. Returns the number of runs.
-fn fail_each(alloc: Global, pace: Pace, asked: Asked) -> Result<u64, Unmet> {
+fn fail_each(alloc: Global, pace: Pace, asked: FailingCall) -> Result<u64, Unmet> {
     for count in 0..PATIENCE {
         let mut run = Run::new(alloc, pace.window, asked, count + 1)?;
         run.serve(alloc, pace.rounds);
@@ -214,8 +214,8 @@ fn fail_each(alloc: Global, pace: Pace, asked: Asked) -> Result<u64, Unmet> {
 pub(crate) fn each_call_of_a_wire_fails(alloc: Global, pace: Pace) -> Result<Calls, Unmet> {
     fail_none(alloc, pace)?;
     Ok(Calls {
-        accepts: fail_each(alloc, pace, Asked::Accept)?,
-        reads: fail_each(alloc, pace, Asked::Read)?,
-        writes: fail_each(alloc, pace, Asked::Write)?,
+        accepts: fail_each(alloc, pace, FailingCall::Accept)?,
+        reads: fail_each(alloc, pace, FailingCall::Read)?,
+        writes: fail_each(alloc, pace, FailingCall::Write)?,
     })
 }

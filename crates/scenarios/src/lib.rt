@@ -1,4 +1,4 @@
-//! The scenarios of runs and rounds. Start with [`tell_all`], which `cases` calls.
+//! The scenarios of runs and rounds. Start with [`run_all`], which `cases` calls.
 //!
 //! They cover a machine that refuses connections, a paused connection, more clients than a server takes, reloads of a new server, a wire on
 //! which each call fails in turn, and a machine on which each call that may allocate fails in turn.
@@ -17,24 +17,24 @@ use scenario_parts::Sums;
 use std::io;
 
 /// Runs the scenarios of runs in which events wait or do nothing, and of a reload before any event.
-fn tell_runs(sums: &mut Sums, rt: &HostRuntime) -> io::Result<()> {
+fn run_runs(sums: &mut Sums, rt: &HostRuntime) -> io::Result<()> {
     let alloc = rt.alloc();
-    sums.tell(
+    sums.record(
         rt,
         "a_paused_connection_performs_nothing_until_its_output_is_below_the_bound",
         pauses::a_paused_connection_performs_nothing_until_its_output_is_below_the_bound(alloc),
     )?;
-    sums.tell(
+    sums.record(
         rt,
         "a_publish_that_waited_goes_by_what_is_in_force_then",
         pauses::a_publish_that_waited_goes_by_what_is_in_force_then(alloc),
     )?;
-    sums.tell(
+    sums.record(
         rt,
         "arrivals_for_no_connection_do_nothing",
         shut::arrivals_for_no_connection_do_nothing(alloc),
     )?;
-    sums.tell(
+    sums.record(
         rt,
         "a_new_server_takes_any_reload",
         reloads::a_new_server_takes_any_reload(alloc),
@@ -42,19 +42,19 @@ fn tell_runs(sums: &mut Sums, rt: &HostRuntime) -> io::Result<()> {
 }
 
 /// Runs the scenarios of rounds of a machine that refuses connections.
-fn tell_rounds(sums: &mut Sums, rt: &HostRuntime) -> io::Result<()> {
+fn run_rounds(sums: &mut Sums, rt: &HostRuntime) -> io::Result<()> {
     let alloc = rt.alloc();
-    sums.tell(
+    sums.record(
         rt,
         "a_socket_that_is_refused_is_closed_and_quiet_rounds_rest",
         shut::a_socket_that_is_refused_is_closed_and_quiet_rounds_rest(alloc),
     )?;
-    sums.tell(
+    sums.record(
         rt,
         "want_of_memory_ends_the_pumps_of_a_round",
         shut::want_of_memory_ends_the_pumps_of_a_round(alloc),
     )?;
-    sums.tell(
+    sums.record(
         rt,
         "a_server_takes_1024_clients_and_closes_one_more",
         full::a_server_takes_1024_clients_and_closes_one_more(alloc),
@@ -62,36 +62,36 @@ fn tell_rounds(sums: &mut Sums, rt: &HostRuntime) -> io::Result<()> {
 }
 
 /// Runs a scenario over a wire on which each call fails in turn, and prints the number of calls.
-fn tell_failing(sums: &mut Sums, rt: &HostRuntime, name: &str, pace: Pace) -> io::Result<()> {
+fn run_failing(sums: &mut Sums, rt: &HostRuntime, name: &str, pace: Pace) -> io::Result<()> {
     let calls = match each_call_of_a_wire_fails(rt.alloc(), pace) {
         Ok(calls) => calls,
-        Err(unmet) => return sums.tell(rt, name, Err(unmet)),
+        Err(unmet) => return sums.record(rt, name, Err(unmet)),
     };
     println!(rt;
         "{} accepts, {} reads and {} writes fail, one in each run",
         calls.accepts, calls.reads, calls.writes
     )?;
-    sums.tell(rt, name, Ok(()))
+    sums.record(rt, name, Ok(()))
 }
 
 /// Runs the scenarios of a wire on which each call fails in turn, and of a machine on which each call that may allocate fails in turn.
-fn tell_failures(sums: &mut Sums, rt: &HostRuntime) -> io::Result<()> {
+fn run_failures(sums: &mut Sums, rt: &HostRuntime) -> io::Result<()> {
     let whole = Pace {
         window: usize::MAX,
         rounds: 8,
     };
-    tell_failing(sums, rt, "a_call_that_fails_loses_no_other_client", whole)?;
+    run_failing(sums, rt, "a_call_that_fails_loses_no_other_client", whole)?;
     let single = Pace {
         window: 1,
         rounds: 256,
     };
-    tell_failing(
+    run_failing(
         sums,
         rt,
         "a_call_that_fails_loses_no_other_client_where_writes_take_one_byte",
         single,
     )?;
-    sums.tell(
+    sums.record(
         rt,
         "a_call_that_is_refused_memory_loses_no_other_client",
         refused::a_call_that_is_refused_memory_loses_no_other_client(rt.alloc()),
@@ -99,8 +99,8 @@ fn tell_failures(sums: &mut Sums, rt: &HostRuntime) -> io::Result<()> {
 }
 
 /// Runs all scenarios of this crate, and prints a line for each.
-pub fn tell_all(sums: &mut Sums, rt: &HostRuntime) -> io::Result<()> {
-    tell_runs(sums, rt)?;
-    tell_rounds(sums, rt)?;
-    tell_failures(sums, rt)
+pub fn run_all(sums: &mut Sums, rt: &HostRuntime) -> io::Result<()> {
+    run_runs(sums, rt)?;
+    run_rounds(sums, rt)?;
+    run_failures(sums, rt)
 }

@@ -108,7 +108,7 @@ impl Wire for OneCaller {
     ghost use Rattle.std.specs.Prelude.{None};
 
     // its one socket is returned once
-    ghost told = { λ s. record { calls = None; failures = 0; is_given = λ n. s.has_come; totals = λ n. None } };
+    ghost past = { λ s. record { calls = None; failures = 0; is_given = λ n. s.has_come; totals = λ n. None } };
 
     fn accept(&mut self) -> Accept {
         if self.has_come {

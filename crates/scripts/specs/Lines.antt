@@ -10,9 +10,9 @@ LineRefused Malformed why = why
 LineRefused Memory why = Unit {0}
 
 -- the parser returns what `said` has, and calls a line malformed only if `said` is `None`
-abbrev pub TellsIfThere : {X : Type 0} → Result X BadLine → Option X → Type 0
-TellsIfThere (Ok x) said = said ≡ Some x
-TellsIfThere (Err e) said = LineRefused e (said ≡ None)
+abbrev pub ReturnsIfThere : {X : Type 0} → Result X BadLine → Option X → Type 0
+ReturnsIfThere (Ok x) said = said ≡ Some x
+ReturnsIfThere (Err e) said = LineRefused e (said ≡ None)
 
 -- `new` is `old` and the event of the line, if it has one, and `after` connections have been opened after the line
 abbrev pub TakesLine : Result ℕ BadLine → List ScriptArrival → List ScriptArrival → ℕ → Option (Option ScriptArrival) → Type 0

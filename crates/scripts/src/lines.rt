@@ -4,7 +4,7 @@ ghost use Rattle.std.specs.Prelude.{◌≡◌, ◌∷◌, ◌<◌, ◌≤◌, �
 ghost use Rattle.std.specs.Str.{is_utf8};
 ghost use Rattle.scripts.specs.Script.{cut, with_digit, digits_after, number, piece, file_name, opening, ready, connection, bytes_in, sent, lost};
 ghost use Rattle.scripts.specs.Script.{names_of, three_names, reload, by_word, arrival_of, line_of};
-ghost use Rattle.scripts.specs.Lines.{TellsIfThere};
+ghost use Rattle.scripts.specs.Lines.{ReturnsIfThere};
 
 use crate::reloads::ReloadFiles;
 use hex::FromHexError;
@@ -104,7 +104,7 @@ fn number(text: &[u8]) -> Option<u64>
 
 /// Decodes hex digits, at least one pair, in either case.
 fn piece(alloc: Global, text: &[u8]) -> Result<Text, BadLine>
-    ensures { TellsIfThere result (piece text.now) }
+    ensures { ReturnsIfThere result (piece text.now) }
 {
     if text.is_empty() {
         return Err(BadLine::Malformed);
@@ -174,7 +174,7 @@ fn connection(opened: u64, field: &[u8]) -> Option<u64>
 
 /// Parses the fields C and HEX of the line `in C HEX`.
 fn bytes_in(alloc: Global, opened: u64, c: &[u8], hex: &[u8]) -> Result<Arrival, BadLine>
-    ensures { TellsIfThere result (bytes_in opened (c.now, hex.now)) }
+    ensures { ReturnsIfThere result (bytes_in opened (c.now, hex.now)) }
 {
     match connection(opened, c) {
         Some(c) => Ok(Arrival::In(c, piece(alloc, hex)?)),
@@ -206,7 +206,7 @@ fn names_of(
     guarantees: &[u8],
     certificates: &[u8],
 ) -> Result<ReloadFiles, BadLine>
-    ensures { TellsIfThere result (names_of definitions.now guarantees.now certificates.now) }
+    ensures { ReturnsIfThere result (names_of definitions.now guarantees.now certificates.now) }
 {
     let definitions = file_name(definitions).ok_or(BadLine::Malformed)?;
     let guarantees = file_name(guarantees).ok_or(BadLine::Malformed)?;
@@ -216,7 +216,7 @@ fn names_of(
 
 /// Parses three files' names, separated by single spaces.
 fn three_names(alloc: Global, fields: &[u8]) -> Result<ReloadFiles, BadLine>
-    ensures { TellsIfThere result (three_names fields.now) }
+    ensures { ReturnsIfThere result (three_names fields.now) }
 {
     let (definitions, rest) = cut(fields).ok_or(BadLine::Malformed)?;
     let (guarantees, certificates) = cut(rest).ok_or(BadLine::Malformed)?;
@@ -225,14 +225,14 @@ fn three_names(alloc: Global, fields: &[u8]) -> Result<ReloadFiles, BadLine>
 
 /// Parses the fields of the line `reload DEFS GUARANTEES CERTS`.
 fn reload(alloc: Global, fields: &[u8]) -> Result<Arrival, BadLine>
-    ensures { TellsIfThere result (reload fields.now) }
+    ensures { ReturnsIfThere result (reload fields.now) }
 {
     Ok(Arrival::Reload(three_names(alloc, fields)?))
 }
 
 /// Parses a line of several fields, whose first is `word` and whose others are `rest`.
 fn by_word(alloc: Global, opened: u64, word: &[u8], rest: &[u8]) -> Result<Arrival, BadLine>
-    ensures { TellsIfThere result (by_word opened (word.now, rest.now)) }
+    ensures { ReturnsIfThere result (by_word opened (word.now, rest.now)) }
 {
     if word == b"ready".as_slice() {
         return ready(opened, rest).ok_or(BadLine::Malformed);
@@ -260,7 +260,7 @@ fn by_word(alloc: Global, opened: u64, word: &[u8], rest: &[u8]) -> Result<Arriv
 
 /// Parses a line that is not skipped.
 fn arrival_of(alloc: Global, opened: u64, line: &[u8]) -> Result<Arrival, BadLine>
-    ensures { TellsIfThere result (arrival_of opened line.now) }
+    ensures { ReturnsIfThere result (arrival_of opened line.now) }
 {
     if line == b"open".as_slice() {
         return opening(opened).ok_or(BadLine::Malformed);
@@ -276,7 +276,7 @@ fn arrival_of(alloc: Global, opened: u64, line: &[u8]) -> Result<Arrival, BadLin
 
 /// Parses a line, with `opened` connections opened before it. An empty line, or one that begins with `#`, brings nothing.
 pub fn line_of(alloc: Global, opened: u64, line: &[u8]) -> Result<Option<Arrival>, BadLine>
-    ensures { TellsIfThere result (line_of opened line.now) }
+    ensures { ReturnsIfThere result (line_of opened line.now) }
 {
     match line.first() {
         None => return Ok(None),

@@ -1,7 +1,7 @@
 //! Clients that are served in rounds, over sockets in memory and over sockets of the system.
 
 ghost use Rattle.std.specs.Prelude.{◌≡◌, [], IfOk, Some};
-ghost use Rattle.memory_wire.specs.Logs.{told_by};
+ghost use Rattle.memory_wire.specs.Logs.{logged_calls};
 
 use crate::served::{Served, new_server};
 use engine::Engine;
@@ -46,7 +46,7 @@ fn client(alloc: Global, first: &[u8], second: &[u8]) -> Result<Client, Unmet> {
 /// Returns two sockets. The first read of each is a whole opening. The second is a publish: of one socket it stops inside its body, of the other it
 /// is whole.
 fn two(alloc: Global) -> Result<MemoryWire, Unmet>
-    ensures { IfOk result (λ w. told_by w.log ≡ Some []) }
+    ensures { IfOk result (λ w. logged_calls w.log ≡ Some []) }
 {
     let mut clients = Vec::new(alloc);
     value_of("push", clients.push(client(alloc, OPENING, STOPPED)?))?;

@@ -1,5 +1,5 @@
--- A file that is refused by a cause is told by the cause's number.
-use Rattle.server.proofs.Names.{◌≡◌, ℕ, refl, sym, subst, Result, IsErrAnd, MatchResult, Text, IsCauseTold, IsLeastCause, FileRefusal, Known, HasText, IsWhyNot, IsWhyUncertified}
+-- A file that is refused by a cause is reported by the cause's number.
+use Rattle.server.proofs.Names.{◌≡◌, ℕ, refl, sym, subst, Result, IsErrAnd, MatchResult, Text, IsCauseReported, IsLeastCause, FileRefusal, Known, HasText, IsWhyNot, IsWhyUncertified}
 use Rattle.std.specs.Prelude.{Ok, Err}
 use Rattle.json_file.specs.Causes.{cause_number}
 use Rattle.json_file.specs.declared.causes.FileCause.{FileCause}
@@ -15,7 +15,7 @@ NamesLeast Clear n text = (cause : FileCause) × (n ≡ cause_number cause) × I
 
 -- by its least cause, or memory was wanting
 pub why_of_cause : (Clear : Text → FileCause → Type 0) (known : Known) (text : Text) (bad : FileCause) → HasText known text
-    → IsCauseTold (Clear text) bad → IsWhyNot (NamesLeast Clear) (of_cause bad) known
+    → IsCauseReported (Clear text) bad → IsWhyNot (NamesLeast Clear) (of_cause bad) known
 why_of_cause Clear known text Memory has h = tt
 why_of_cause Clear known text bad has h = (text, has, (bad, refl, h))
 

@@ -23,15 +23,15 @@ left_of_kept before after file (OfCertificate n fault) h = h
 left_of_kept before after file NotListening h = h
 left_of_kept before after file Memory h = h
 
--- the refusal of a file, as the command tells it
-pub told_as : (IsRefused : Text → FileRefusal → Type 0) (file told : Text) (cause : FileRefusal) (why : CommandRefusal)
-    → told ≡ file → why ≡ of_refused cause → IsRefused file cause → IsOfFile IsRefused told why
-told_as IsRefused file told cause why same is h = (cause, is, subst (λ (name : Text). IsRefused name cause) (sym same) h)
+-- the refusal of a file, as the command reports it
+pub refused_as : (IsRefused : Text → FileRefusal → Type 0) (file reported : Text) (cause : FileRefusal) (why : CommandRefusal)
+    → reported ≡ file → why ≡ of_refused cause → IsRefused file cause → IsOfFile IsRefused reported why
+refused_as IsRefused file reported cause why same is h = (cause, is, subst (λ (name : Text). IsRefused name cause) (sym same) h)
 
 -- the same of a certificates file, which is read after files that were kept
-pub told_uncertified : (a b : Text → Known) (named : Option Text) (file told : Text) (cause : FileRefusal) (why : CommandRefusal) → AreKept a b
-    → told ≡ file → why ≡ of_refused cause → FailsToCertify b named file cause → IsOfFile (FailsToCertify a named) told why
-told_uncertified a b named file told cause why k same is h = told_as (FailsToCertify a named) file told cause why same is (why_kept a b IsWhyUncertified named file cause k h)
+pub refused_uncertified : (a b : Text → Known) (named : Option Text) (file reported : Text) (cause : FileRefusal) (why : CommandRefusal) → AreKept a b
+    → reported ≡ file → why ≡ of_refused cause → FailsToCertify b named file cause → IsOfFile (FailsToCertify a named) reported why
+refused_uncertified a b named file reported cause why k same is h = refused_as (FailsToCertify a named) file reported cause why same is (why_kept a b IsWhyUncertified named file cause k h)
 
 -- what is known of files that are kept is the same
 pub same_known : (a b : Text → Known) → AreKept a b → b ≡ a

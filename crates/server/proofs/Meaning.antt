@@ -1,5 +1,5 @@
 -- What the statuses of verdicts and of outcomes mean.
-use Rattle.server.proofs.Names.{◌≡◌, ℕ, zero, suc, ◌+◌, ◌≤◌, List, [], ◌∷◌, ◌++◌, Bool, true, false, ltb, length, refl, sym, ◌∙◌, subst, inl, inr, Some, None, arith, slice_get, if◌then◌else◌, list_any, Topology, IsIn, Guarantee, Holds, AllHold, IsCertifiedAt, AreCertifiedBelow, AreCertified, FindsVerdict, Verdict, Yes, No, Undecided, EachWith, FindsVerdicts, IsMeant, is_no, is_undecided, status_by, status_of_verdicts, Outcome, TellsOutcome, AreOutcomes, of_too_many, is_fault, status_of_outcomes}
+use Rattle.server.proofs.Names.{◌≡◌, ℕ, zero, suc, ◌+◌, ◌≤◌, List, [], ◌∷◌, ◌++◌, Bool, true, false, ltb, length, refl, sym, ◌∙◌, subst, inl, inr, Some, None, arith, slice_get, if◌then◌else◌, list_any, Topology, IsIn, Guarantee, Holds, AllHold, IsCertifiedAt, AreCertifiedBelow, AreCertified, FindsVerdict, Verdict, Yes, No, Undecided, EachWith, FindsVerdicts, IsMeant, is_no, is_undecided, status_by, status_of_verdicts, Outcome, ReturnsOutcome, AreOutcomes, of_too_many, is_fault, status_of_outcomes}
 use Rattle.std.proofs.Common.{Ok, Err}
 use Rattle.std.proofs.lemmas.Bool.{ltb-false}
 use Rattle.model.specs.Certificates.{Certificate}
@@ -65,7 +65,7 @@ fewer gs cs false q h = let k = ltb-false (length gs) (length cs) q in omega (ar
 none_too_many : (gs : List Guarantee) (cs : List Certificate) → list_any is_fault (of_too_many gs cs) ≡ false → length cs ≤ length gs
 none_too_many gs cs e = fewer gs cs (ltb (length gs) (length cs)) refl e
 
-all_accepted : (t : Topology) (cs : List Certificate) (n : ℕ) (gs : List Guarantee) (os : List Outcome) → EachWith (TellsOutcome t cs) n gs os → list_any is_fault os ≡ false
+all_accepted : (t : Topology) (cs : List Certificate) (n : ℕ) (gs : List Guarantee) (os : List Outcome) → EachWith (ReturnsOutcome t cs) n gs os → list_any is_fault os ≡ false
     → (i : ℕ) (g : Guarantee) → slice_get gs i ≡ Some g → IsCertifiedAt t g cs (n + i)
 all_accepted t cs n [] os f a i g s = let z : None ≡ Some g = s in absurd (cc)
 all_accepted t cs n (h ∷ gs) [] f a i g s = absurd f
@@ -90,7 +90,7 @@ outcomes_certify : (t : Topology) (gs : List Guarantee) (cs : List Certificate) 
 outcomes_certify t gs cs os o a =
     let whole : list_any is_fault (o.own ++ of_too_many gs cs) ≡ false = subst (λ (z : List Outcome). list_any is_fault z ≡ false) o.all a in
     let few : length cs ≤ length gs = none_too_many gs cs (any_right o.own (of_too_many gs cs) whole) in
-    let below : AreCertifiedBelow t gs cs (length gs) = λ i g l s. (let none : 0 + i ≡ i = omega arith in subst (λ (k : ℕ). IsCertifiedAt t g cs k) none (all_accepted t cs 0 gs o.own o.told (any_left o.own (of_too_many gs cs) whole) i g s)) in
+    let below : AreCertifiedBelow t gs cs (length gs) = λ i g l s. (let none : 0 + i ≡ i = omega arith in subst (λ (k : ℕ). IsCertifiedAt t g cs k) none (all_accepted t cs 0 gs o.own o.each (any_left o.own (of_too_many gs cs) whole) i g s)) in
     certified_all t gs cs (length gs) (omega arith) few below
 
 pub outcomes_mean : (t : Topology) (gs : List Guarantee) (cs : List Certificate) (os : List Outcome) (status : ℕ) → AreOutcomes t gs cs os → status ≡ status_of_outcomes os

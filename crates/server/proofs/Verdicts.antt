@@ -20,7 +20,7 @@ found_next {A = A} P xs i x ys new y lt is h p e =
     let n : i ≡ 0 + length (take i xs) = (let h : length (take i xs) ≡ i = length-take-le i xs (omega (arith, lt)) in omega (arith, h)) in
     rw (more, e) (each_more P 0 i (take i xs) ys x y h n p)
 
--- ---- what is told of verdicts
+-- ---- what is reported of verdicts
 
 lines_more : (n : ℕ) (vs : List Verdict) (v : Verdict) → verdict_lines n (vs ++ v ∷ []) ≡ verdict_lines n vs ++ verdict_line (n + length vs) v
 lines_more n [] v = append-nil (verdict_line n v) ∙ ap (λ (k : ℕ). verdict_line k v) (omega arith)
@@ -63,7 +63,7 @@ adds_then (Some d) (Some e) (Some f) xs ys h k = λ done is. subst (λ (cs : Lis
 -- ---- all of it
 
 -- what is kept of the verdicts so far: their lines, whether some is a no and some undecided, and the draft
-pub record IsTold (t : Topology) (gs : List Guarantee) (before : Option Draft) (text : Text) (broken undecided : Bool) (after : Option Draft) (vs : List Verdict) : Type 0 where
+pub record IsReported (t : Topology) (gs : List Guarantee) (before : Option Draft) (text : Text) (broken undecided : Bool) (after : Option Draft) (vs : List Verdict) : Type 0 where
   pub found : FindsVerdicts t gs vs
   pub many : length vs ≡ length gs
   pub shown : text ≡ verdict_lines 1 vs
@@ -71,17 +71,17 @@ pub record IsTold (t : Topology) (gs : List Guarantee) (before : Option Draft) (
   pub undecided_is : undecided ≡ list_any is_undecided vs
   pub adds : Adds before after (certificates_in vs)
 
-abbrev pub Told : (t : Topology) (gs : List Guarantee) (before : Option Draft) (text : Text) (broken undecided : Bool) (after : Option Draft) → Type 0
-Told t gs before text broken undecided after = (vs : List Verdict) × IsTold t gs before text broken undecided after vs
+abbrev pub VerdictsReported : (t : Topology) (gs : List Guarantee) (before : Option Draft) (text : Text) (broken undecided : Bool) (after : Option Draft) → Type 0
+VerdictsReported t gs before text broken undecided after = (vs : List Verdict) × IsReported t gs before text broken undecided after vs
 
-pub told_nothing : (t : Topology) (gs : List Guarantee) (draft : Option Draft) (text : Text) → text ≡ [] → Told t (take 0 gs) draft text false false draft
-told_nothing t gs draft text e = ([], record { found = tt; many = refl; shown = e; broken_is = refl; undecided_is = refl; adds = adds_none draft })
+pub reported_nothing : (t : Topology) (gs : List Guarantee) (draft : Option Draft) (text : Text) → text ≡ [] → VerdictsReported t (take 0 gs) draft text false false draft
+reported_nothing t gs draft text e = ([], record { found = tt; many = refl; shown = e; broken_is = refl; undecided_is = refl; adds = adds_none draft })
 
-pub told_more : (t : Topology) (gs : List Guarantee) (i : ℕ) (g : Guarantee) (before after last : Option Draft) (text new : Text) (broken undecided breaks doubt : Bool) (number : ℕ) (v : Verdict)
-    → i < length gs → g ≡ get_or gs i g → Told t (take i gs) before text broken undecided after → FindsVerdict t g v → number ≡ i + 1
+pub reported_more : (t : Topology) (gs : List Guarantee) (i : ℕ) (g : Guarantee) (before after last : Option Draft) (text new : Text) (broken undecided breaks doubt : Bool) (number : ℕ) (v : Verdict)
+    → i < length gs → g ≡ get_or gs i g → VerdictsReported t (take i gs) before text broken undecided after → FindsVerdict t g v → number ≡ i + 1
     → new ≡ text ++ verdict_line number v → breaks ≡ is_no v → doubt ≡ is_undecided v → Adds after last (certificates_in (v ∷ []))
-    → Told t (take (i + 1) gs) before new (broken || breaks) (undecided || doubt) last
-told_more t gs i g before after last text new broken undecided breaks doubt number v lt is (vs, h) finds at shows fails doubts adds =
+    → VerdictsReported t (take (i + 1) gs) before new (broken || breaks) (undecided || doubt) last
+reported_more t gs i g before after last text new broken undecided breaks doubt number v lt is (vs, h) finds at shows fails doubts adds =
     let few : length (take i gs) ≡ i = length-take-le i gs (omega (arith, lt)) in
     let more : length (take (i + 1) gs) ≡ i + 1 = length-take-le (i + 1) gs (omega (arith, lt)) in
     let count : length (vs ++ v ∷ []) ≡ length vs + 1 = length-append vs (v ∷ []) in
@@ -103,9 +103,9 @@ take_past [] (suc i) h = refl
 take_past (g ∷ gs) zero h = absurd (omega (arith, h))
 take_past (g ∷ gs) (suc i) h = ap (λ (z : List Guarantee). g ∷ z) (take_past gs i (omega (arith, h)))
 
-pub told_all : (t : Topology) (gs : List Guarantee) (i : ℕ) (before after : Option Draft) (text : Text) (broken undecided : Bool) (status : ℕ)
-    → length gs ≤ i → Told t (take i gs) before text broken undecided after → status ≡ status_by broken undecided → Judges t gs before after text status
-told_all t gs i before after text broken undecided status past (vs, h) is =
+pub reported_all : (t : Topology) (gs : List Guarantee) (i : ℕ) (before after : Option Draft) (text : Text) (broken undecided : Bool) (status : ℕ)
+    → length gs ≤ i → VerdictsReported t (take i gs) before text broken undecided after → status ≡ status_by broken undecided → Judges t gs before after text status
+reported_all t gs i before after text broken undecided status past (vs, h) is =
     let found : FindsVerdicts t gs vs = subst (λ (z : List Guarantee). FindsVerdicts t z vs) (take_past gs i past) h.found in
     let status_is : status ≡ status_of_verdicts vs = is ∙ ap (λ (b : Bool). status_by b undecided) h.broken_is ∙ ap (λ (b : Bool). status_by (list_any is_no vs) b) h.undecided_is in
     record {

@@ -4,7 +4,7 @@ use Rattle.std.specs.Str.Parse.{IsNumeral, digits_value, without_leading_plus}
 use Rattle.model.specs.Words.{Text}
 use Rattle.model.specs.State.{Config}
 use Rattle.model.specs.Arrivals.{new_world}
-use Rattle.serving.specs.Wire.{Told}
+use Rattle.serving.specs.Wire.{Traffic}
 use Rattle.serving.specs.Story.{Served, served}
 use Rattle.serving.specs.Rounds.{Rounds}
 use Rattle.serving.specs.Whole.{IsServed}
@@ -40,7 +40,7 @@ pub record FailsToStart (holds : Text → Known) (definitions guarantees certifi
 
 -- Open sockets: what they have reported so far, and their address.
 pub record Opened : Type 0 where
-  pub told : Told
+  pub past : Traffic
   pub address : Text
 
 -- the outcomes that opening sockets may have: no sockets (`None`), or open ones
@@ -57,24 +57,24 @@ IsTaken s text true = GetsText s text
 IsTaken s text false = (done : Bool) × PutsOut s text done
 
 -- the address was reported, and nothing was reported on standard error
-abbrev pub IsTold : Text → OutputStream → OutputStream → Type 0
-IsTold address out err = GetsText out (listening_line address) × GetsNothing err
+abbrev pub IsReported : Text → OutputStream → OutputStream → Type 0
+IsReported address out err = GetsText out (listening_line address) × GetsNothing err
 
 -- Why the address was not reported: an allocation failed, which was reported instead, or the stream did not take the line.
-pub data IsUntold (address : Text) (out err : OutputStream) : ℕ → Type 0 where
-  wanting : {status : ℕ} → GetsNothing out → TriesPut err out_of_memory 4 status → IsUntold address out err status
-  untaken : (done : Bool) → PutsOut out (listening_line address) done → GetsNothing err → IsUntold address out err 4
+pub data IsUnreported (address : Text) (out err : OutputStream) : ℕ → Type 0 where
+  wanting : {status : ℕ} → GetsNothing out → TriesPut err out_of_memory 4 status → IsUnreported address out err status
+  untaken : (done : Bool) → PutsOut out (listening_line address) done → GetsNothing err → IsUnreported address out err 4
 
--- Sockets were opened, which have reported `told` so far, and their address was reported.
-pub record CanCome (may : Openings) (told : Told) (out err : OutputStream) : Type 0 where
+-- Sockets were opened, which have reported `traffic` so far, and their address was reported.
+pub record CanCome (may : Openings) (traffic : Traffic) (out err : OutputStream) : Type 0 where
   pub address : Text
-  pub opened : may (Some (record { told = told; address = address }))
-  pub is_told : IsTold address out err
+  pub opened : may (Some (record { past = traffic; address = address }))
+  pub is_reported : IsReported address out err
 
 -- No sockets were opened, or their address could not be reported, with this exit status.
 pub data NobodyComes (may : Openings) (out err : OutputStream) : ℕ → Type 0 where
   shut : {status : ℕ} → may None → GetsNothing out → RefusesWith err [] NotListening status → NobodyComes may out err status
-  untold : {status : ℕ} (opened : Opened) → may (Some opened) → IsUntold opened.address out err status → NobodyComes may out err status
+  unreported : {status : ℕ} (opened : Opened) → may (Some opened) → IsUnreported opened.address out err status → NobodyComes may out err status
 
 -- ---- `serve`
 
@@ -90,23 +90,23 @@ pub data EndsUnserved (holds : Text → Known) (definitions guarantees certifica
     (Unasked : Type 0) (may : Openings) (out err : OutputStream) : ℕ → Type 0 where
   refused : {file : Text} {status : ℕ} (why : CommandRefusal) → FailsToStart holds definitions guarantees certificates file why → Unasked
       → GetsNothing out → RefusesWith err file why status → EndsUnserved holds definitions guarantees certificates Unasked may out err status
-  unheard : {status : ℕ} (force : Config) → IsInForce holds (Some definitions) (Some guarantees) (Some certificates) force
+  no_clients : {status : ℕ} (force : Config) → IsInForce holds (Some definitions) (Some guarantees) (Some certificates) force
       → NobodyComes may out err status → EndsUnserved holds definitions guarantees certificates Unasked may out err status
 
 -- A broker without any connection was just started from these files, sockets were opened, and their address was reported.
 pub record Begins (holds : Text → Known) (definitions guarantees certificates : Text) (may : Openings) (out err : OutputStream) (start : Served) : Type 0 where
   pub force : Config
   pub in_force : IsInForce holds (Some definitions) (Some guarantees) (Some certificates) force
-  pub told : Told
-  pub can_come : CanCome may told out err
-  pub is : start ≡ served (new_world force) [] told
+  pub traffic : Traffic
+  pub can_come : CanCome may traffic out err
+  pub is : start ≡ served (new_world force) [] traffic
 
 -- Clients were served: by a broker just started from these files, in `count` rounds, after the address was reported.
 pub record ServesClients (holds : Text → Known) (definitions guarantees certificates : Text)
     (turns : Option Text) (may : Openings) (out err : OutputStream) (end : Served) : Type 0 where
   pub force : Config
   pub in_force : IsInForce holds (Some definitions) (Some guarantees) (Some certificates) force
-  pub start : Told
+  pub start : Traffic
   pub can_come : CanCome may start out err
   pub count : ℕ
   pub counted : IsTurns turns count

@@ -51,15 +51,15 @@ HasOther Absent text = ⊥
 HasOther (Holds known) text = text ≡ known → ⊥
 
 -- whether the file has this text; if it has, the text is no longer than `most_bytes`
-abbrev pub TellsSame : Known → Text → Bool → Type 0
-TellsSame known text true = IsFileRead known text
-TellsSame known text false = HasOther known text
+abbrev pub ReturnsSame : Known → Text → Bool → Type 0
+ReturnsSame known text true = IsFileRead known text
+ReturnsSame known text false = HasOther known text
 
 -- `same` is whether the rest of a reader is `text`, if the rest is known
-abbrev pub TellsLeft : Option Text → Text → Bool → Type 0
-TellsLeft None text same = ⊤
-TellsLeft (Some left) text true = text ≡ left
-TellsLeft (Some left) text false = text ≡ left → ⊥
+abbrev pub ReturnsSameRest : Option Text → Text → Bool → Type 0
+ReturnsSameRest None text same = ⊤
+ReturnsSameRest (Some left) text true = text ≡ left
+ReturnsSameRest (Some left) text false = text ≡ left → ⊥
 
 -- why a file could not be read; an allocation failure promises nothing
 abbrev pub IsUnread : Known → Unread → Type 0

@@ -28,18 +28,18 @@ abbrev pub Outcome : Type 0
 Outcome = Result Unit CertFault
 
 -- the outcome is one that is printed: any but an allocation failure
-abbrev pub IsOutcomeTold : Outcome → Type 0
-IsOutcomeTold (Ok u) = Unit {0}
-IsOutcomeTold (Err Start) = Unit {0}
-IsOutcomeTold (Err (Open at word)) = Unit {0}
-IsOutcomeTold (Err (Missed at)) = Unit {0}
-IsOutcomeTold (Err (Forbidden at)) = Unit {0}
-IsOutcomeTold (Err Form) = Unit {0}
-IsOutcomeTold (Err Memory) = ⊥
+abbrev pub IsOutcomePrinted : Outcome → Type 0
+IsOutcomePrinted (Ok u) = Unit {0}
+IsOutcomePrinted (Err Start) = Unit {0}
+IsOutcomePrinted (Err (Open at word)) = Unit {0}
+IsOutcomePrinted (Err (Missed at)) = Unit {0}
+IsOutcomePrinted (Err (Forbidden at)) = Unit {0}
+IsOutcomePrinted (Err Form) = Unit {0}
+IsOutcomePrinted (Err Memory) = ⊥
 
 -- `o` is the outcome for the guarantee `g` and the certificate at index `place`: accepted, or its first fault; a missing certificate is fault 5
-abbrev pub TellsOutcome : Topology → List Certificate → ℕ → Guarantee → Outcome → Type 0
-TellsOutcome t cs place g o = ChecksAt t g cs place o × IsOutcomeTold o
+abbrev pub ReturnsOutcome : Topology → List Certificate → ℕ → Guarantee → Outcome → Type 0
+ReturnsOutcome t cs place g o = ChecksAt t g cs place o × IsOutcomePrinted o
 
 -- one more fault 5 if there are more certificates than guarantees
 abbrev pub of_too_many : List Guarantee → List Certificate → List Outcome
@@ -48,7 +48,7 @@ of_too_many gs cs = if nat_lt (length gs) (length cs) then Err Form ∷ [] else 
 -- an outcome for each guarantee, and one for the first surplus certificate
 pub record AreOutcomes (t : Topology) (gs : List Guarantee) (cs : List Certificate) (outcomes : List Outcome) : Type 0 where
   pub own : List Outcome
-  pub told : EachWith (TellsOutcome t cs) 0 gs own
+  pub each : EachWith (ReturnsOutcome t cs) 0 gs own
   pub all : outcomes ≡ own ++ of_too_many gs cs
 
 -- whether the certificate is not accepted

@@ -20,7 +20,7 @@ use Rattle.guarantee_search.specs.declared.verdicts.Verdict.{Verdict}
 use Rattle.model.specs.Headline.{CertifiedDelivery}
 use Rattle.command_line.specs.CommandLine.{Wanted, Check, Verify, Replay, Serve, Route, AsksFor, AsksNothing}
 use Rattle.server.specs.declared.refusals.CommandRefusal.{CommandRefusal}
-use Rattle.server.specs.declared.refusals.Told.{Told}
+use Rattle.server.specs.declared.refusals.Report.{Report}
 use Rattle.server.specs.declared.replaying.BrokerFiles.{BrokerFiles}
 use Rattle.server.specs.declared.refusals.CommandRefusal.TheVariants.{Line, Refused, TooLong, Unread, NoDescriptor, Unwritten}
 use Rattle.server.specs.declared.refusals.CommandRefusal.TheVariants.{NoExchange, Certificate, NotListening, Memory}
@@ -30,7 +30,7 @@ use Rattle.scripts.specs.Script.{ScriptArrival, script}
 use Rattle.scripts.specs.Transcript.{transcript_text}
 use Rattle.server.specs.Routes.{ListsExchange}
 use Rattle.server.specs.Files.{Known, HasText, IsTooLong, IsUnreadable, AreKept, AreKeptBut, most_bytes}
-use Rattle.server.specs.Streams.{OutputStream, GetsNothing, PutsOut, TriesPut, tried}
+use Rattle.server.specs.Streams.{OutputStream, GetsNothing, PutsOut, TriesPut, status_after}
 use Rattle.server.specs.Stated.{file_named, States, HoldsCertificates, CertifiesAt, SetsUp, FailsToSetUp, FailsToCertify}
 use Rattle.server.specs.Verdicts.{JudgesAll, certificates_in, status_of_verdicts}
 use Rattle.server.specs.Outcomes.{Verifies, fault_number}
@@ -167,8 +167,8 @@ Drafts (Some file) (Some draft) cs = IsDraft draft cs
 -- ---- refusals
 
 -- the message about a file: `warren: FILE: ` and what is wrong with it
-abbrev pub told : Text → Text → Text
-told file what = codes "warren: " ++ (file ++ (codes ": " ++ (what ++ 10 ∷ [])))
+abbrev pub message_about : Text → Text → Text
+message_about file what = codes "warren: " ++ (file ++ (codes ": " ++ (what ++ 10 ∷ [])))
 
 -- the message for an allocation failure
 abbrev pub out_of_memory : Text
@@ -184,12 +184,12 @@ not_listening = codes "warren: cannot listen\n"
 
 -- the message of a refusal
 abbrev pub refusal_line : Text → CommandRefusal → Text
-refusal_line file (Line n) = told file (codes "line " ++ decimal n)
-refusal_line file (Refused n) = told file (codes "refused " ++ decimal n)
-refusal_line file TooLong = told file (codes "refused 10")
-refusal_line file Unread = told file (codes "cannot read")
-refusal_line file NoDescriptor = told file (codes "no descriptor is free")
-refusal_line file Unwritten = told file (codes "cannot write")
+refusal_line file (Line n) = message_about file (codes "line " ++ decimal n)
+refusal_line file (Refused n) = message_about file (codes "refused " ++ decimal n)
+refusal_line file TooLong = message_about file (codes "refused 10")
+refusal_line file Unread = message_about file (codes "cannot read")
+refusal_line file NoDescriptor = message_about file (codes "no descriptor is free")
+refusal_line file Unwritten = message_about file (codes "cannot write")
 refusal_line file NoExchange = no_exchange
 refusal_line file (Certificate n fault) = codes "warren: certificate " ++ (decimal n ++ (codes ": fault " ++ (decimal fault ++ 10 ∷ [])))
 refusal_line file NotListening = not_listening
@@ -300,10 +300,10 @@ IsAnsweredUnfiled before after (Replay script definitions guarantees certificate
 IsAnsweredUnfiled before after (Serve definitions guarantees certificates listen turns reload) text file why = ⊥
 IsAnsweredUnfiled before after (Route definitions exchange key) text file why = ⊥
 
--- a command is answered in full; or, if `told` is a report, in all but the file that the report names
-abbrev pub AnswersBut : (Text → Known) → (Text → Known) → Wanted → Text → ℕ → Option Told → Type 0
+-- a command is answered in full; or, if there is a report, in all but the file that the report names
+abbrev pub AnswersBut : (Text → Known) → (Text → Known) → Wanted → Text → ℕ → Option Report → Type 0
 AnswersBut before after wanted text status None = IsCommandAnswered before after wanted text status
-AnswersBut before after wanted text status (Some told) = IsAnsweredUnfiled before after wanted text told.file.now told.why
+AnswersBut before after wanted text status (Some report) = IsAnsweredUnfiled before after wanted text report.file.now report.why
 
 -- the definitions file that a command names
 abbrev pub definitions_of : Wanted → Option Text
@@ -393,7 +393,7 @@ pub data Fails (holds : Text → Known) : Wanted → Text → CommandRefusal →
   -- the exchange does not exist
   unrouted : {file exchange key : Text} → ListsFile (holds file) exchange key None → Fails holds (Route file exchange key) file NoExchange
   -- the command is `serve`, and the call can open no sockets
-  unheard : {definitions guarantees certificates listen file : Text} {turns reload : Option Text}
+  no_sockets : {definitions guarantees certificates listen file : Text} {turns reload : Option Text}
       → Fails holds (Serve definitions guarantees certificates listen turns reload) file NotListening
   -- an allocation failed
   wanting : {wanted : Wanted} {file : Text} → Fails holds wanted file Memory
@@ -405,8 +405,8 @@ IsNotAnswered before after wanted file why = Fails before wanted file why × Fil
 -- ---- the program
 
 -- the line was written, or, if there was no memory for it, the message for an allocation failure: all of it, or a proper prefix
-abbrev pub TellsLine : OutputStream → Text → Bool → Type 0
-TellsLine err line whole = PutsOut err line whole ⊎ PutsOut err out_of_memory whole
+abbrev pub WritesLine : OutputStream → Text → Bool → Type 0
+WritesLine err line whole = PutsOut err line whole ⊎ PutsOut err out_of_memory whole
 
 -- the refusal was reported, or an allocation failure in its place
 abbrev pub RefusesWith : OutputStream → Text → CommandRefusal → ℕ → Type 0
@@ -417,24 +417,24 @@ pub record IsUnplayed (holds : Text → Known) (script : Text) (err : OutputStre
   pub file : Text
   pub why : CommandRefusal
   pub fails : FailsToPlay holds script file why
-  pub told : RefusesWith err file why status
+  pub reported : RefusesWith err file why status
 
 -- the reason why a command prints nothing was reported, with this exit status; the command leaves the files as `after`
-pub record IsWhyTold (before after : Text → Known) (wanted : Wanted) (err : OutputStream) (status : ℕ) : Type 0 where
+pub record IsWhyReported (before after : Text → Known) (wanted : Wanted) (err : OutputStream) (status : ℕ) : Type 0 where
   pub file : Text
   pub why : CommandRefusal
   pub fails : IsNotAnswered before after wanted file why
-  pub told : RefusesWith err file why status
+  pub reported : RefusesWith err file why status
 
--- the text was written, with this exit status; then, if `told` is a report, its message
-abbrev pub PutsBoth : OutputStream → OutputStream → Text → ℕ → Option Told → ℕ → Type 0
+-- the text was written, with this exit status; then, if there is a report, its message
+abbrev pub PutsBoth : OutputStream → OutputStream → Text → ℕ → Option Report → ℕ → Type 0
 PutsBoth out err text wanted None status = TriesPut out text wanted status × GetsNothing err
-PutsBoth out err text wanted (Some told) status = (done : Bool) × PutsOut out text done × RefusesWith err told.file.now told.why status
+PutsBoth out err text wanted (Some report) status = (done : Bool) × PutsOut out text done × RefusesWith err report.file.now report.why status
 
 -- the refusal of a command line was reported: an allocation failure by our own message, any other by clap's text
 abbrev pub ShowsError : ErrorKind → OutputStream → ℕ → Type 0
 ShowsError kind err status = ((kind ≡ OutOfMemory) × TriesPut err out_of_memory 4 status)
-    ⊎ ((kind ≡ OutOfMemory → ⊥) × ((done : Bool) × (status ≡ tried done 3)))
+    ⊎ ((kind ≡ OutOfMemory → ⊥) × ((done : Bool) × (status ≡ status_after done 3)))
 
 -- How a call of the program ends: by its words, what is known about files before and after it, what standard output and standard error got, and the
 -- exit status. If a stream took only a part, `done` is false and the status is 4.
@@ -442,20 +442,20 @@ pub data RunsAs (words : List Text) (before after : Text → Known) (out err : O
   -- the command's answer was printed
   printed : (wanted : Wanted) (text : Text) (status : ℕ) (done : Bool) → AsksFor words wanted
       → IsCommandAnswered before after wanted text status → PutsOut out text done → GetsNothing err
-      → RunsAs words before after out err (tried done status)
+      → RunsAs words before after out err (status_after done status)
   -- the command's answer was printed, and then the reason why a file was not written
   put_unfiled : {status : ℕ} (wanted : Wanted) (text file : Text) (why : CommandRefusal) (done : Bool)
       → AsksFor words wanted → IsAnsweredUnfiled before after wanted text file why → PutsOut out text done
       → RefusesWith err file why status → RunsAs words before after out err status
   -- the command prints nothing, and the reason was reported
-  told_of : {wanted : Wanted} {file : Text} (why : CommandRefusal) (done : Bool) → AsksFor words wanted
+  reported : {wanted : Wanted} {file : Text} (why : CommandRefusal) (done : Bool) → AsksFor words wanted
       → IsNotAnswered before after wanted file why → GetsNothing out → PutsOut err (refusal_line file why) done
-      → RunsAs words before after out err (tried done (status_of why))
+      → RunsAs words before after out err (status_after done (status_of why))
   -- the command prints nothing, and an allocation failed when the reason was to be reported: `warren: memory` is reported instead
-  untold : {wanted : Wanted} {file : Text} (why : CommandRefusal) (done : Bool) → AsksFor words wanted
+  report_failed : {wanted : Wanted} {file : Text} (why : CommandRefusal) (done : Bool) → AsksFor words wanted
       → IsNotAnswered before after wanted file why → GetsNothing out → PutsOut err out_of_memory done
       → RunsAs words before after out err 4
   -- the words ask for no command, and clap's own text was printed
-  unasked : (done : Bool) → AsksNothing words → GetsNothing out → AreKept before after → RunsAs words before after out err (tried done 3)
+  unasked : (done : Bool) → AsksNothing words → GetsNothing out → AreKept before after → RunsAs words before after out err (status_after done 3)
   -- an allocation failed before the words were parsed
   unread : (done : Bool) → GetsNothing out → PutsOut err out_of_memory done → AreKept before after → RunsAs words before after out err 4

@@ -34,9 +34,9 @@ PutsOut s text true = GetsText s text
 PutsOut s text false = GetsBeginning s text
 
 -- the exit status: `status`, or 4 if a stream did not take all of its text
-abbrev pub tried : Bool → ℕ → ℕ
-tried done status = if done then status else 4
+abbrev pub status_after : Bool → ℕ → ℕ
+status_after done status = if done then status else 4
 
 -- the text was written to the stream, with exit status `wanted` if all of it was taken
 abbrev pub TriesPut : OutputStream → Text → ℕ → ℕ → Type 0
-TriesPut s text wanted status = (done : Bool) × PutsOut s text done × (status ≡ tried done wanted)
+TriesPut s text wanted status = (done : Bool) × PutsOut s text done × (status ≡ status_after done wanted)

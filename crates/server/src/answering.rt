@@ -7,17 +7,17 @@ ghost use Rattle.command_line.specs.CommandLine.{AsksFor, Check, Route, Verify, 
 ghost use Rattle.server.specs.Files.{AreKept};
 ghost use Rattle.server.specs.Stated.{FailsToState, file_named};
 ghost use Rattle.server.specs.Streams.{GetsNothing, change};
-ghost use Rattle.server.specs.Program.{AnswersBut, RunsAs, Fails, IsNotAnswered, IsRouted, IsVerified, IsWhyTold, ListsFile, PutsBoth, ShowsError};
+ghost use Rattle.server.specs.Program.{AnswersBut, RunsAs, Fails, IsNotAnswered, IsRouted, IsVerified, IsWhyReported, ListsFile, PutsBoth, ShowsError};
 
 use crate::file_refusals::RefusedFile;
 use crate::filing::{draft_for, write_out};
 use crate::judging::{Output, judge};
-use crate::refusals::{CommandRefusal, Told, refuse_memory, tell, told_of};
+use crate::refusals::{CommandRefusal, Report, refuse, refuse_memory, report_of};
 use crate::replaying::{BrokerFiles, replay};
 use crate::routes::routed;
 use crate::stated::{certificates_of, definitions_of, set_up};
 use crate::storage::Files;
-use crate::streams::{put, tried};
+use crate::streams::{put, status_after};
 use crate::verifying::verify;
 use clap::Error;
 use clap::error::ErrorKind;
@@ -30,7 +30,7 @@ use std::io::Write;
 #[derive(Drop)]
 struct Answered<'a> {
     output: Output,
-    unwritten: Option<Told<'a>>,
+    unwritten: Option<Report<'a>>,
 }
 
 impl<'a> From<Output> for Answered<'a> {
@@ -54,27 +54,27 @@ fn check<'a, F: Files>(
     guarantees: &'a str,
     out: Option<&'a str>,
     files: &mut F,
-) -> Result<Answered<'a>, Told<'a>>
+) -> Result<Answered<'a>, Report<'a>>
     ensures { MatchResult result
         (λ a. AnswersBut (F.holds files.old) (F.holds files.new)
         (Check definitions.now guarantees.now (file_named out.entry)) a.output.text.items a.output.status a.unwritten)
-        (λ told. IsNotAnswered (F.holds files.old) (F.holds files.new)
-        (Check definitions.now guarantees.now (file_named out.entry)) told.file.now told.why) }
+        (λ report. IsNotAnswered (F.holds files.old) (F.holds files.new)
+        (Check definitions.now guarantees.now (file_named out.entry)) report.file.now report.why) }
 {
     let setup = match set_up(alloc, Some(definitions), Some(guarantees), files) {
         Ok(setup) => setup,
-        Err(refused) => return Err(told_of(refused)),
+        Err(refused) => return Err(report_of(refused)),
     };
     let draft = draft_for(alloc, out);
     let (output, draft) = match judge(alloc, &setup.topology, setup.guarantees.as_slice(), draft) {
         Ok(judged) => judged,
-        Err(error) => return Err(Told::from(error)),
+        Err(error) => return Err(Report::from(error)),
     };
     match write_out(out, output.status, draft, files) {
         Ok(_) => Ok(Answered::from(output)),
-        Err(told) => Ok(Answered {
+        Err(report) => Ok(Answered {
             output,
-            unwritten: Some(told),
+            unwritten: Some(report),
         }),
     }
 }
@@ -86,20 +86,20 @@ fn verify_files<'a, F: Files>(
     guarantees: &'a str,
     certificates: &'a str,
     files: &mut F,
-) -> Result<Output, Told<'a>>
+) -> Result<Output, Report<'a>>
     ensures answers { MatchResult result
         (λ o. IsVerified (F.holds files.old) definitions.now guarantees.now certificates.now o.text.items o.status)
-        (λ told. Fails (F.holds files.old) (Verify definitions.now guarantees.now certificates.now)
-        told.file.now told.why) }
+        (λ report. Fails (F.holds files.old) (Verify definitions.now guarantees.now certificates.now)
+        report.file.now report.why) }
     ensures files { AreKept (F.holds files.old) (F.holds files.new) }
 {
     let setup = match set_up(alloc, Some(definitions), Some(guarantees), files) {
         Ok(setup) => setup,
-        Err(refused) => return Err(told_of(refused)),
+        Err(refused) => return Err(report_of(refused)),
     };
     let certificates = match certificates_of(alloc, Some(certificates), files) {
         Ok(certificates) => certificates,
-        Err(refused) => return Err(told_of(refused)),
+        Err(refused) => return Err(report_of(refused)),
     };
     match verify(
         alloc,
@@ -108,7 +108,7 @@ fn verify_files<'a, F: Files>(
         certificates.as_slice(),
     ) {
         Ok(output) => Ok(output),
-        Err(error) => Err(Told::from(error)),
+        Err(error) => Err(Report::from(error)),
     }
 }
 
@@ -148,19 +148,19 @@ fn route<'a, F: Files>(
     exchange: &str,
     key: &str,
     files: &mut F,
-) -> Result<Output, Told<'a>>
+) -> Result<Output, Report<'a>>
     ensures answers { MatchResult result
         (λ o. IsRouted (F.holds files.old) definitions.now exchange.now key.now o.text.items o.status)
-        (λ told. Fails (F.holds files.old) (Route definitions.now exchange.now key.now) told.file.now told.why) }
+        (λ report. Fails (F.holds files.old) (Route definitions.now exchange.now key.now) report.file.now report.why) }
     ensures files { AreKept (F.holds files.old) (F.holds files.new) }
 {
     match routed_file(alloc, definitions, exchange, key, files) {
         Ok(Some(text)) => Ok(Output { text, status: 0 }),
-        Ok(None) => Err(Told {
+        Ok(None) => Err(Report {
             file: definitions,
             why: CommandRefusal::NoExchange,
         }),
-        Err(refused) => Err(told_of(refused)),
+        Err(refused) => Err(report_of(refused)),
     }
 }
 
@@ -176,7 +176,7 @@ fn answer<'a, F: Files, E: Write>(
         (λ a. AnswersBut (F.holds files.old) (F.holds files.new) (wanted_of asked.entry)
         a.output.text.items a.output.status a.unwritten
         × GetsNothing (change (E.contents err.old) (E.contents err.new)))
-        (λ status. IsWhyTold (F.holds files.old) (F.holds files.new) (wanted_of asked.entry)
+        (λ status. IsWhyReported (F.holds files.old) (F.holds files.new) (wanted_of asked.entry)
         (change (E.contents err.old) (E.contents err.new)) status) }
 {
     match asked {
@@ -186,7 +186,7 @@ fn answer<'a, F: Files, E: Write>(
             out,
         } => match check(alloc, definitions, guarantees, out, files) {
             Ok(answered) => Ok(answered),
-            Err(told) => Err(tell(alloc, err, told)),
+            Err(report) => Err(refuse(alloc, err, report)),
         },
         Asked::Verify {
             definitions,
@@ -194,7 +194,7 @@ fn answer<'a, F: Files, E: Write>(
             certificates,
         } => match verify_files(alloc, definitions, guarantees, certificates, files) {
             Ok(output) => Ok(Answered::from(output)),
-            Err(told) => Err(tell(alloc, err, told)),
+            Err(report) => Err(refuse(alloc, err, report)),
         },
         Asked::Replay {
             script,
@@ -214,7 +214,7 @@ fn answer<'a, F: Files, E: Write>(
         }
         Asked::Serve { .. } => {
             let why = CommandRefusal::NotListening;
-            Err(tell(alloc, err, Told { file: "", why }))
+            Err(refuse(alloc, err, Report { file: "", why }))
         }
         Asked::Route {
             definitions,
@@ -222,7 +222,7 @@ fn answer<'a, F: Files, E: Write>(
             key,
         } => match route(alloc, definitions, exchange, key, files) {
             Ok(output) => Ok(Answered::from(output)),
-            Err(told) => Err(tell(alloc, err, told)),
+            Err(report) => Err(refuse(alloc, err, report)),
         },
     }
 }
@@ -239,10 +239,10 @@ fn put_answer<O: Write, E: Write>(
         answered.entry.unwritten result }
 {
     let Answered { output, unwritten } = answered;
-    let status = tried(put(out, output.text.as_slice()), output.status);
+    let status = status_after(put(out, output.text.as_slice()), output.status);
     match unwritten {
         None => status,
-        Some(told) => tell(alloc, err, told),
+        Some(report) => refuse(alloc, err, report),
     }
 }
 
@@ -252,7 +252,7 @@ pub fn refuse_words<E: Write>(err: &mut E, error: &Error) -> u8
 {
     match error.kind() {
         ErrorKind::OutOfMemory => refuse_memory(err),
-        _ => tried(write!(err, "{error}"), 3),
+        _ => status_after(write!(err, "{error}"), 3),
     }
 }
 

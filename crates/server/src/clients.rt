@@ -8,11 +8,11 @@ ghost use Rattle.server.specs.Files.{AreKept};
 ghost use Rattle.server.specs.Stated.{file_named};
 ghost use Rattle.serving.specs.Story.{served};
 ghost use Rattle.server.specs.Program.{IsStarted};
-ghost use Rattle.server.specs.Clients.{Begins, CanCome, EndsUnserved, FailsToStart, IsTaken, IsTold, IsTurns, IsUntold, NobodyComes, ServeEnds};
+ghost use Rattle.server.specs.Clients.{Begins, CanCome, EndsUnserved, FailsToStart, IsTaken, IsReported, IsTurns, IsUnreported, NobodyComes, ServeEnds};
 ghost use Rattle.server.specs.Clients.{listening_line};
 ghost use Rattle.server.specs.Streams.{change};
 
-use crate::refusals::{CommandRefusal, Told, refuse_memory, tell};
+use crate::refusals::{CommandRefusal, Report, refuse, refuse_memory};
 use crate::starting::started;
 use crate::storage::Files;
 use crate::streams::put;
@@ -52,7 +52,7 @@ pub trait Listener {
 
     /// Opens sockets at `address`. Returns `None` if it is no address, or if it can't listen there.
     fn listen(&mut self, alloc: Global, address: &str) -> Option<Listening<Self::Sockets>>
-        ensures { listens self.old address.now (option_map (λ l. record { told = Self.Sockets.told l.sockets; address = string_bytes l.address }) result) };
+        ensures { listens self.old address.now (option_map (λ l. record { past = Self.Sockets.past l.sockets; address = string_bytes l.address }) result) };
 }
 
 /// The server of a broker, with its sockets.
@@ -111,16 +111,16 @@ fn put_at_once<O: Write>(out: &mut O, text: &[u8]) -> bool
 }
 
 /// Reports the address at which clients can connect. Fails with the exit status.
-fn tell_address<O: Write, E: Write>(
+fn report_address<O: Write, E: Write>(
     alloc: Global,
     address: &str,
     out: &mut O,
     err: &mut E,
 ) -> Result<(), u8>
     ensures { MatchResult result
-        (λ _. IsTold address.now (change (O.contents out.old) (O.contents out.new))
+        (λ _. IsReported address.now (change (O.contents out.old) (O.contents out.new))
         (change (E.contents err.old) (E.contents err.new)))
-        (λ status. IsUntold address.now (change (O.contents out.old) (O.contents out.new))
+        (λ status. IsUnreported address.now (change (O.contents out.old) (O.contents out.new))
         (change (E.contents err.old) (E.contents err.new)) status) }
 {
     let Ok(line) = line_of(alloc, address) else {
@@ -142,16 +142,16 @@ fn open_sockets<L: Listener, O: Write, E: Write>(
     err: &mut E,
 ) -> Result<L::Sockets, u8>
     ensures { MatchResult result
-        (λ sockets. CanCome (L.listens listener.old address.now) (L.Sockets.told sockets)
+        (λ sockets. CanCome (L.listens listener.old address.now) (L.Sockets.past sockets)
         (change (O.contents out.old) (O.contents out.new)) (change (E.contents err.old) (E.contents err.new)))
         (λ status. NobodyComes (L.listens listener.old address.now) (change (O.contents out.old) (O.contents out.new))
         (change (E.contents err.old) (E.contents err.new)) status) }
 {
     let Some(Listening { sockets, address }) = listener.listen(alloc, address) else {
         let why = CommandRefusal::NotListening;
-        return Err(tell(alloc, err, Told { file: "", why }));
+        return Err(refuse(alloc, err, Report { file: "", why }));
     };
-    match tell_address(alloc, address.as_str(), out, err) {
+    match report_address(alloc, address.as_str(), out, err) {
         Ok(()) => Ok(sockets),
         Err(status) => Err(status),
     }
@@ -162,12 +162,12 @@ fn new_server<'a, F: Files>(
     alloc: Global,
     asked: ServeArguments<'a>,
     files: &mut F,
-) -> Result<Server<Engine>, Told<'a>>
+) -> Result<Server<Engine>, Report<'a>>
     ensures starts { MatchResult result
         (λ s. IsStarted (F.holds files.old) asked.entry.definitions.now asked.entry.guarantees.now
         asked.entry.certificates.now (world_of s.machine) × (s.peers ≡ []))
-        (λ told. FailsToStart (F.holds files.old) asked.entry.definitions.now asked.entry.guarantees.now
-        asked.entry.certificates.now told.file.now told.why) }
+        (λ report. FailsToStart (F.holds files.old) asked.entry.definitions.now asked.entry.guarantees.now
+        asked.entry.certificates.now report.file.now report.why) }
     ensures files { AreKept (F.holds files.old) (F.holds files.new) }
 {
     let engine = match started(
@@ -178,11 +178,11 @@ fn new_server<'a, F: Files>(
         files,
     ) {
         Ok(engine) => engine,
-        Err(told) => return Err(told),
+        Err(report) => return Err(report),
     };
     match Server::new(alloc, engine) {
         Ok(server) => Ok(server),
-        Err(error) => Err(Told::from(error)),
+        Err(error) => Err(Report::from(error)),
     }
 }
 
@@ -202,7 +202,7 @@ pub fn begin<L: Listener, F: Files, O: Write, E: Write>(
         (λ s. Begins (F.holds files.old) asked.entry.definitions.now asked.entry.guarantees.now
         asked.entry.certificates.now (L.listens listener.old asked.entry.listen.now)
         (change (O.contents out.old) (O.contents out.new)) (change (E.contents err.old) (E.contents err.new))
-        (served (world_of s.server.machine) s.server.peers (L.Sockets.told s.sockets)))
+        (served (world_of s.server.machine) s.server.peers (L.Sockets.past s.sockets)))
         (λ status. EndsUnserved (F.holds files.old) asked.entry.definitions.now asked.entry.guarantees.now
         asked.entry.certificates.now (listener.new ≡ listener.old)
         (L.listens listener.old asked.entry.listen.now) (change (O.contents out.old) (O.contents out.new))
@@ -211,7 +211,7 @@ pub fn begin<L: Listener, F: Files, O: Write, E: Write>(
 {
     let server = match new_server(alloc, asked, files) {
         Ok(server) => server,
-        Err(told) => return Err(tell(alloc, err, told)),
+        Err(report) => return Err(refuse(alloc, err, report)),
     };
     match open_sockets(alloc, asked.listen, listener, out, err) {
         Ok(sockets) => Ok(Service { server, sockets }),
@@ -234,7 +234,7 @@ pub fn serve_clients<L: Listener, F: Files, O: Write, E: Write>(
         asked.entry.certificates.now (file_named asked.entry.turns) (listener.new ≡ listener.old)
         (L.listens listener.old asked.entry.listen.now) (change (O.contents out.old) (O.contents out.new))
         (change (E.contents err.old) (E.contents err.new))
-        (option_map (λ s. served (world_of s.server.machine) s.server.peers (L.Sockets.told s.sockets))
+        (option_map (λ s. served (world_of s.server.machine) s.server.peers (L.Sockets.past s.sockets))
         result.service) result.status }
     ensures files { AreKept (F.holds files.old) (F.holds files.new) }
 {

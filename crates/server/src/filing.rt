@@ -8,7 +8,7 @@ ghost use Rattle.server.specs.Stated.{file_named};
 ghost use Rattle.server.specs.Program.{Drafts, IsFiled, IsUnfiled, IsUnwritten, ReadsBack, WritesOut};
 ghost use Rattle.server.specs.Verdicts.{certificates_in, status_of_verdicts};
 
-use crate::refusals::{CommandRefusal, Told};
+use crate::refusals::{CommandRefusal, Report};
 use crate::storage::Files;
 use certificate::{Draft, Unwritten};
 use std::alloc::Global;
@@ -58,13 +58,13 @@ pub fn write_out<'a, F: Files>(
     status: u8,
     draft: Option<Draft>,
     files: &mut F,
-) -> Result<(), Told<'a>>
+) -> Result<(), Report<'a>>
     ensures { (verdicts : List Verdict) → status ≡ status_of_verdicts verdicts
         → Drafts (file_named out.entry) draft (certificates_in verdicts)
         → MatchResult result
         (λ _. WritesOut (F.holds files.old) (F.holds files.new) (file_named out.entry) verdicts)
-        (λ told. (file_named out.entry ≡ Some told.file.now) × (status ≡ 0)
-        × IsUnfiled (F.holds files.old) (F.holds files.new) told.file.now told.why) }
+        (λ report. (file_named out.entry ≡ Some report.file.now) × (status ≡ 0)
+        × IsUnfiled (F.holds files.old) (F.holds files.new) report.file.now report.why) }
 {
     let file = match out {
         Some(file) => file,
@@ -79,6 +79,6 @@ pub fn write_out<'a, F: Files>(
     }
     match write_file(file, draft, files) {
         Ok(_) => Ok(()),
-        Err(why) => Err(Told { file, why }),
+        Err(why) => Err(Report { file, why }),
     }
 }

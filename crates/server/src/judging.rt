@@ -189,6 +189,6 @@ pub(crate) fn judge(
 ) -> Result<(Output, Option<Draft>), AllocError>
     ensures { IfOk result (λ r. Judges topology.now guarantees.now draft r.1 r.0.text.items r.0.status) }
 {
-    let deaths = deaths_for(alloc, topology, guarantees);
+    let deaths = deaths_for(alloc, topology, guarantees)?;
     judge_by(alloc, topology, deaths.as_ref(), guarantees, draft)
 }

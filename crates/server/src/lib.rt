@@ -25,7 +25,7 @@ pub use clients::{
 };
 pub use command_line::command;
 pub use parts::has_bytes_left;
-pub use refusals::{CommandRefusal, Told, put_out_of_memory, put_refusal};
+pub use refusals::{CommandRefusal, Report, put_out_of_memory, put_refusal};
 pub use replaying::{BrokerFiles, in_force};
 pub use routes::routed;
 pub use serving::{Server, Wire, serve};

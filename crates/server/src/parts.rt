@@ -2,7 +2,7 @@
 
 ghost use Rattle.std.specs.Prelude.{◌≡◌, ◌++◌, IfOk, MatchOption};
 ghost use Rattle.model.specs.Words.{Text};
-ghost use Rattle.server.specs.Files.{TellsLeft};
+ghost use Rattle.server.specs.Files.{ReturnsSameRest};
 
 use std::io;
 use std::io::{ErrorKind, Read};
@@ -25,7 +25,7 @@ fn behind<'a>(bytes: &'a [u8], part: &[u8]) -> Option<&'a [u8]>
 ///
 /// Reads parts of 16,384 bytes, and stops at the first part that differs. Retries interrupted reads. Never allocates.
 pub fn has_bytes_left<R: Read>(reader: &mut R, bytes: &[u8]) -> io::Result<bool>
-    ensures { IfOk result (TellsLeft (R.remaining reader.old) bytes.now) }
+    ensures { IfOk result (ReturnsSameRest (R.remaining reader.old) bytes.now) }
 {
     let mut part = [0; PART];
     let mut rest = bytes;

@@ -2,12 +2,12 @@
 
 ghost use Rattle.std.specs.Prelude.{◌≡◌, ◌++◌, ◌∷◌, [], codes, decimal, is_ok, IfOk, string_bytes};
 ghost use Rattle.server.specs.Refusals.{of_refused};
-ghost use Rattle.server.specs.Program.{refusal_line, out_of_memory, status_of, told, RefusesWith, TellsLine};
+ghost use Rattle.server.specs.Program.{refusal_line, out_of_memory, status_of, message_about, RefusesWith, WritesLine};
 ghost use Rattle.server.specs.Streams.{PutsOut, TriesPut, change};
 
 use crate::file_refusals::{FileRefusal, RefusedFile};
 use crate::storage::Unread;
-use crate::streams::{put, tried};
+use crate::streams::{put, status_after};
 use std::alloc::{AllocError, Global};
 use std::io;
 use std::io::Write;
@@ -49,7 +49,7 @@ pub enum CommandRefusal {
 
 /// Why a command prints nothing, or writes no file, and the file concerned.
 #[derive(Clone, Copy, PartialEq, Eq, Debug, Drop)]
-pub struct Told<'a> {
+pub struct Report<'a> {
     /// The name of the file; may be empty if the refusal concerns none.
     pub file: &'a str,
     pub why: CommandRefusal,
@@ -99,14 +99,14 @@ impl From<FileRefusal> for CommandRefusal {
     }
 }
 
-impl<'a> From<AllocError> for Told<'a> {
+impl<'a> From<AllocError> for Report<'a> {
     ghost use Rattle.std.specs.Prelude.{◌≡◌};
     ghost use Rattle.server.specs.declared.refusals.CommandRefusal.TheVariants.{Memory};
 
     ghost from_gives = { λ _ r. r.why ≡ Memory };
 
-    fn from(_: AllocError) -> Told<'a> {
-        Told {
+    fn from(_: AllocError) -> Report<'a> {
+        Report {
             file: "",
             why: CommandRefusal::Memory,
         }
@@ -114,11 +114,11 @@ impl<'a> From<AllocError> for Told<'a> {
 }
 
 /// Converts the refusal of a file to the refusal of the command that names it.
-pub(crate) fn told_of(refused: RefusedFile<'_>) -> Told<'_>
+pub(crate) fn report_of(refused: RefusedFile<'_>) -> Report<'_>
     ensures file { result.file.now ≡ refused.entry.file.now }
     ensures why { result.why ≡ of_refused refused.entry.why }
 {
-    Told {
+    Report {
         file: refused.file,
         why: CommandRefusal::from(refused.why),
     }
@@ -126,7 +126,7 @@ pub(crate) fn told_of(refused: RefusedFile<'_>) -> Told<'_>
 
 /// Returns the message that says `what` about `file`. Fails only if an allocation fails.
 fn file_message(alloc: Global, file: &str, what: &str) -> Result<String, AllocError>
-    ensures { IfOk result (λ text. string_bytes text ≡ told file.now what.now) }
+    ensures { IfOk result (λ text. string_bytes text ≡ message_about file.now what.now) }
 {
     format!(in alloc; "warren: {file}: {what}\n")
 }
@@ -190,10 +190,10 @@ pub fn put_out_of_memory<E: Write>(err: &mut E) -> io::Result<()>
 
 /// Writes the message of a refusal to `err`, or the message for an allocation failure if building the message fails. If a write
 /// fails, a proper prefix was written.
-pub fn put_refusal<E: Write>(alloc: Global, err: &mut E, told: Told<'_>) -> io::Result<()>
-    ensures { TellsLine (change (E.contents err.old) (E.contents err.new)) (refusal_line told.entry.file.now told.entry.why) (is_ok result) }
+pub fn put_refusal<E: Write>(alloc: Global, err: &mut E, report: Report<'_>) -> io::Result<()>
+    ensures { WritesLine (change (E.contents err.old) (E.contents err.new)) (refusal_line report.entry.file.now report.entry.why) (is_ok result) }
 {
-    match message(alloc, told.file, told.why) {
+    match message(alloc, report.file, report.why) {
         Ok(text) => put(err, text.as_bytes()),
         Err(_) => put_out_of_memory(err),
     }
@@ -203,15 +203,15 @@ pub fn put_refusal<E: Write>(alloc: Global, err: &mut E, told: Told<'_>) -> io::
 pub fn refuse_memory<E: Write>(err: &mut E) -> u8
     ensures { TriesPut (change (E.contents err.old) (E.contents err.new)) out_of_memory 4 result }
 {
-    tried(put_out_of_memory(err), 4)
+    status_after(put_out_of_memory(err), 4)
 }
 
 /// Reports why a command is refused, and returns the exit status.
-pub fn tell<E: Write>(alloc: Global, err: &mut E, told: Told<'_>) -> u8
-    ensures { RefusesWith (change (E.contents err.old) (E.contents err.new)) told.entry.file.now told.entry.why result }
+pub fn refuse<E: Write>(alloc: Global, err: &mut E, report: Report<'_>) -> u8
+    ensures { RefusesWith (change (E.contents err.old) (E.contents err.new)) report.entry.file.now report.entry.why result }
 {
-    match message(alloc, told.file, told.why) {
-        Ok(text) => tried(put(err, text.as_bytes()), status_of(told.why)),
+    match message(alloc, report.file, report.why) {
+        Ok(text) => status_after(put(err, text.as_bytes()), status_of(report.why)),
         Err(_) => refuse_memory(err),
     }
 }

@@ -7,12 +7,12 @@ ghost use Rattle.engine.specs.InForce.{in_force};
 ghost use Rattle.server.specs.Files.{AreKept};
 ghost use Rattle.server.specs.Outcomes.{fault_number};
 ghost use Rattle.server.specs.Program.{AreSetUp, FailsOver, FailsToReload, IsInForce, IsInForceBy, IsRefusalOf, IsReplayed, IsSetUp, IsWhyNotSetUp};
-ghost use Rattle.server.specs.Program.{IsWhyOfFile, IsWhyTold, IsWhyUnadmitted, IsUnplayed, OverNamed, PrintsFile, PrintsRun, ReadsScript};
+ghost use Rattle.server.specs.Program.{IsWhyOfFile, IsWhyReported, IsWhyUnadmitted, IsUnplayed, OverNamed, PrintsFile, PrintsRun, ReadsScript};
 ghost use Rattle.scripts.specs.Script.{script};
 ghost use Rattle.server.specs.Streams.{GetsNothing, change};
 
 use crate::judging::Output;
-use crate::refusals::{CommandRefusal, Told, refuse_memory, tell, told_of};
+use crate::refusals::{CommandRefusal, Report, refuse, refuse_memory, report_of};
 use crate::stated::{self, certificates_of, set_up};
 use crate::storage::Files;
 use certificate::{CertFault, Certificate, Checked, admit};
@@ -75,11 +75,11 @@ pub fn in_force<'a, F: Files>(
     alloc: Global,
     named: BrokerFiles<'a>,
     files: &mut F,
-) -> Result<(Checked, Vec<User>), Told<'a>>
+) -> Result<(Checked, Vec<User>), Report<'a>>
     ensures force { MatchResult result
         (λ force. OverNamed (λ d g c. IsInForce (F.holds files.old) d g c (in_force force.0 force.1.items))
         named.entry)
-        (λ told. OverNamed (λ d g c. FailsOver (F.holds files.old) d g c told.file.now told.why) named.entry) }
+        (λ report. OverNamed (λ d g c. FailsOver (F.holds files.old) d g c report.file.now report.why) named.entry) }
     ensures files { AreKept (F.holds files.old) (F.holds files.new) }
 {
     let stated::Setup {
@@ -88,15 +88,15 @@ pub fn in_force<'a, F: Files>(
         guarantees,
     } = match set_up(alloc, named.definitions, named.guarantees, files) {
         Ok(setup) => setup,
-        Err(refused) => return Err(told_of(refused)),
+        Err(refused) => return Err(report_of(refused)),
     };
     let certificates = match certificates_of(alloc, named.certificates, files) {
         Ok(certificates) => certificates,
-        Err(refused) => return Err(told_of(refused)),
+        Err(refused) => return Err(report_of(refused)),
     };
     match admitted(alloc, topology, guarantees, certificates.as_slice()) {
         Ok(checked) => Ok((checked, users)),
-        Err(why) => Err(Told { file: "", why }),
+        Err(why) => Err(Report { file: "", why }),
     }
 }
 
@@ -131,11 +131,11 @@ fn setup_of<'a, F: Files>(
     alloc: Global,
     names: &'a ReloadFiles,
     files: &mut F,
-) -> Result<Setup, Told<'a>>
+) -> Result<Setup, Report<'a>>
     ensures force { MatchResult result
         (λ force. IsInForceBy (F.holds files.old) names.now force)
-        (λ told. FailsOver (F.holds files.old) (Some names.now.definitions) (Some names.now.guarantees)
-        (Some names.now.certificates) told.file.now told.why) }
+        (λ report. FailsOver (F.holds files.old) (Some names.now.definitions) (Some names.now.guarantees)
+        (Some names.now.certificates) report.file.now report.why) }
     ensures files { AreKept (F.holds files.old) (F.holds files.new) }
 {
     let named = BrokerFiles {
@@ -145,7 +145,7 @@ fn setup_of<'a, F: Files>(
     };
     match in_force(alloc, named, files) {
         Ok((checked, users)) => Ok(Setup::new(checked, users)),
-        Err(told) => Err(told),
+        Err(report) => Err(report),
     }
 }
 
@@ -154,10 +154,10 @@ fn arrival_of<'a, F: Files>(
     alloc: Global,
     said: &'a scripts::Arrival,
     files: &mut F,
-) -> Result<Arrival<Setup>, Told<'a>>
+) -> Result<Arrival<Setup>, Report<'a>>
     ensures set_up { MatchResult result
         (λ arrival. IsSetUp (F.holds files.old) said.now arrival)
-        (λ told. IsWhyNotSetUp (F.holds files.old) said.now told.file.now told.why) }
+        (λ report. IsWhyNotSetUp (F.holds files.old) said.now report.file.now report.why) }
     ensures files { AreKept (F.holds files.old) (F.holds files.new) }
 {
     match said {
@@ -165,14 +165,14 @@ fn arrival_of<'a, F: Files>(
         Arrival::Ready(k) => Ok(Arrival::Ready(*k)),
         Arrival::In(c, bytes) => match bytes.clone() {
             Ok(bytes) => Ok(Arrival::In(*c, bytes)),
-            Err(error) => Err(Told::from(error)),
+            Err(error) => Err(Report::from(error)),
         },
         Arrival::Sent(c, n) => Ok(Arrival::Sent(*c, *n)),
         Arrival::Pump => Ok(Arrival::Pump),
         Arrival::Lose(c) => Ok(Arrival::Lose(*c)),
         Arrival::Reload(names) => match setup_of(alloc, names, files) {
             Ok(setup) => Ok(Arrival::Reload(setup)),
-            Err(told) => Err(told),
+            Err(report) => Err(report),
         },
     }
 }
@@ -182,20 +182,20 @@ fn arrivals_of<'a, F: Files>(
     alloc: Global,
     said: &'a [scripts::Arrival],
     files: &mut F,
-) -> Result<Vec<Arrival<Setup>>, Told<'a>>
+) -> Result<Vec<Arrival<Setup>>, Report<'a>>
     ensures set_up { MatchResult result
         (λ arrivals. AreSetUp (F.holds files.old) said.now arrivals.items)
-        (λ told. FailsToReload (F.holds files.old) said.now told.file.now told.why) }
+        (λ report. FailsToReload (F.holds files.old) said.now report.file.now report.why) }
     ensures files { AreKept (F.holds files.old) (F.holds files.new) }
 {
     let mut arrivals = Vec::new(alloc);
     for one in said {
         let arrival = match arrival_of(alloc, one, files) {
             Ok(arrival) => arrival,
-            Err(told) => return Err(told),
+            Err(report) => return Err(report),
         };
         if let Err(error) = arrivals.push(arrival) {
-            return Err(Told::from(AllocError::from(error)));
+            return Err(Report::from(AllocError::from(error)));
         }
     }
     Ok(arrivals)
@@ -232,11 +232,11 @@ fn played_file<F: Files, E: Write>(
 {
     let said = match script_of(alloc, script, files) {
         Ok(said) => said,
-        Err(why) => return Err(tell(alloc, err, Told { file: script, why })),
+        Err(why) => return Err(refuse(alloc, err, Report { file: script, why })),
     };
     let arrivals = match arrivals_of(alloc, said.as_slice(), files) {
         Ok(arrivals) => arrivals,
-        Err(told) => return Err(tell(alloc, err, told)),
+        Err(report) => return Err(refuse(alloc, err, report)),
     };
     drop(said);
     match played(alloc, checked, users, arrivals) {
@@ -259,13 +259,13 @@ pub fn replay<F: Files, E: Write>(
     ensures answers { MatchResult result
         (λ o. OverNamed (λ d g c. IsReplayed (F.holds files.old) script.now d g c o.text.items o.status) named.entry
         × GetsNothing (change (E.contents err.old) (E.contents err.new)))
-        (λ status. OverNamed (λ d g c. IsWhyTold (F.holds files.old) (F.holds files.new) (Replay script.now d g c)
+        (λ status. OverNamed (λ d g c. IsWhyReported (F.holds files.old) (F.holds files.new) (Replay script.now d g c)
         (change (E.contents err.old) (E.contents err.new)) status) named.entry) }
     ensures files { AreKept (F.holds files.old) (F.holds files.new) }
 {
     let (checked, users) = match in_force(alloc, named, files) {
         Ok(force) => force,
-        Err(told) => return Err(tell(alloc, err, told)),
+        Err(report) => return Err(refuse(alloc, err, report)),
     };
     match played_file(alloc, script, checked, users, files, err) {
         Ok(text) => Ok(Output { text, status: 0 }),

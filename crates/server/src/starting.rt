@@ -6,7 +6,7 @@ ghost use Rattle.server.specs.Files.{AreKept};
 ghost use Rattle.server.specs.Program.{IsStarted};
 ghost use Rattle.server.specs.Clients.{FailsToStart};
 
-use crate::refusals::Told;
+use crate::refusals::Report;
 use crate::replaying::{BrokerFiles, in_force};
 use crate::storage::Files;
 use engine::Engine;
@@ -20,11 +20,11 @@ pub fn started<'a, F: Files>(
     guarantees: &'a str,
     certificates: &'a str,
     files: &mut F,
-) -> Result<Engine, Told<'a>>
+) -> Result<Engine, Report<'a>>
     ensures started { MatchResult result
         (λ e. IsStarted (F.holds files.old) definitions.now guarantees.now certificates.now (world_of e))
-        (λ told. FailsToStart (F.holds files.old) definitions.now guarantees.now certificates.now
-        told.file.now told.why) }
+        (λ report. FailsToStart (F.holds files.old) definitions.now guarantees.now certificates.now
+        report.file.now report.why) }
     ensures files { AreKept (F.holds files.old) (F.holds files.new) }
 {
     let named = BrokerFiles {
@@ -34,13 +34,13 @@ pub fn started<'a, F: Files>(
     };
     let (checked, users) = match in_force(alloc, named, files) {
         Ok(force) => force,
-        Err(told) => return Err(told),
+        Err(report) => return Err(report),
     };
     match Engine::new(alloc, checked, users) {
         Ok(mut engine) => {
             engine.drop_notes();
             Ok(engine)
         }
-        Err(error) => Err(Told::from(error)),
+        Err(error) => Err(Report::from(error)),
     }
 }

@@ -1,7 +1,7 @@
 //! How the program reads and writes files. Start with [`Files`].
 
 ghost use Rattle.std.specs.Prelude.{◌≡◌, List, ℕ, MatchResult, OnOk};
-ghost use Rattle.server.specs.Files.{Known, IsFileRead, IsUnread, HasText, TellsSame};
+ghost use Rattle.server.specs.Files.{Known, IsFileRead, IsUnread, HasText, ReturnsSame};
 
 use std::alloc::Global;
 
@@ -36,7 +36,7 @@ pub trait Files {
     ///
     /// An implementation that reads in parts copies nothing, and stops reading where the file and `bytes` differ.
     fn has_bytes(&mut self, alloc: Global, name: &str, bytes: &[u8]) -> Result<bool, Unread>
-        ensures compared { MatchResult result (TellsSame (holds self.old name.now) bytes.now) (λ why. IsUnread (holds self.old name.now) why) }
+        ensures compared { MatchResult result (ReturnsSame (holds self.old name.now) bytes.now) (λ why. IsUnread (holds self.old name.now) why) }
         ensures stays { (other : List ℕ) → holds self.new other ≡ holds self.old other }
     {
         let found = self.read(alloc, name)?;

@@ -1,7 +1,7 @@
 //! Writes texts to streams.
 
 ghost use Rattle.std.specs.Prelude.{◌≡◌, is_ok};
-ghost use Rattle.server.specs.Streams.{PutsOut, change, tried};
+ghost use Rattle.server.specs.Streams.{PutsOut, change, status_after};
 
 use std::io;
 use std::io::{ErrorKind, Write};
@@ -32,8 +32,8 @@ pub fn put<W: Write>(stream: &mut W, text: &[u8]) -> io::Result<()>
 }
 
 /// Returns `status` if the write succeeded, and 4 if it failed.
-pub fn tried(put: io::Result<()>, status: u8) -> u8
-    ensures { result ≡ tried (is_ok put) status }
+pub fn status_after(put: io::Result<()>, status: u8) -> u8
+    ensures { result ≡ status_after (is_ok put) status }
 {
     match put {
         Ok(()) => status,

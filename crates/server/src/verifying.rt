@@ -4,7 +4,7 @@ ghost use Rattle.std.specs.Prelude.{◌≡◌, ◌++◌, ◌∷◌, [], codes, d
 ghost use Rattle.std.specs.List.{list_any};
 ghost use Rattle.paths.specs.Deaths.{AreDeaths};
 ghost use Rattle.scripts.specs.Transcript.{line};
-ghost use Rattle.server.specs.Outcomes.{AreOutcomes, is_fault, letter_word, outcome_line, outcome_lines, status_of_outcomes, TellsOutcome, Verifies};
+ghost use Rattle.server.specs.Outcomes.{AreOutcomes, is_fault, letter_word, outcome_line, outcome_lines, status_of_outcomes, ReturnsOutcome, Verifies};
 ghost use Rattle.server.specs.Verdicts.{EachWith};
 
 use crate::judging::Output;
@@ -29,7 +29,7 @@ fn outcome_at(
     place: usize,
 ) -> Result<Outcome, AllocError>
     requires { IfSome deaths (λ d. AreDeaths topology.now d.now) }
-    ensures { IfOk result (TellsOutcome topology.now certificates.now place guarantee.now) }
+    ensures { IfOk result (ReturnsOutcome topology.now certificates.now place guarantee.now) }
 {
     if place >= certificates.len() {
         return Ok(Err(CertFault::Form));
@@ -50,7 +50,7 @@ fn outcomes_by(
     certificates: &[Certificate],
 ) -> Result<Vec<Outcome>, AllocError>
     requires { IfSome deaths (λ d. AreDeaths topology.now d.now) }
-    ensures { IfOk result (λ outcomes. EachWith (TellsOutcome topology.now certificates.now) 0 guarantees.now outcomes.items) }
+    ensures { IfOk result (λ outcomes. EachWith (ReturnsOutcome topology.now certificates.now) 0 guarantees.now outcomes.items) }
 {
     let mut outcomes = Vec::new(alloc);
     for place in 0..guarantees.len() {
@@ -74,9 +74,9 @@ fn own_outcomes(
     guarantees: &[Guarantee],
     certificates: &[Certificate],
 ) -> Result<Vec<Outcome>, AllocError>
-    ensures { IfOk result (λ outcomes. EachWith (TellsOutcome topology.now certificates.now) 0 guarantees.now outcomes.items) }
+    ensures { IfOk result (λ outcomes. EachWith (ReturnsOutcome topology.now certificates.now) 0 guarantees.now outcomes.items) }
 {
-    let deaths = deaths_for(alloc, topology, guarantees);
+    let deaths = deaths_for(alloc, topology, guarantees)?;
     outcomes_by(alloc, topology, deaths.as_ref(), guarantees, certificates)
 }
 

@@ -1,5 +1,5 @@
 -- What a wire counts of a socket is what arrived for its connection.
-use Rattle.serving.proofs.Names.{◌≡◌, ◌≢◌, ◌+◌, ◌⊎◌, inl, inr, ℕ, List, [], ◌∷◌, ◌++◌, Bool, true, false, Option, Some, None, length, refl, sym, ap, subst, ◌∙◌, append_assoc, append-nil, flat_map, filter_map, arith, ◌==◌, if◌then◌else◌, sum_by, eq-eqb, ne_eqb, false≢true, cases_eq, none-some, same_Some, filter_map-append, sum_by-append, IsIn, Occurrence, in_front, in_back, Call, Accepted, Not_accepted, Accept_failed, Got, Nothing_got, Read_ended, Read_failed, Took, Nothing_taken, Write_failed, Closed, Welcomed, Parted, Rested, Totals, no_bytes, with_got, with_taken, total_after, totals_after, Told, Tells, Served, At, Deed, Enters, Leaves, Stays, Met, Turned_away, Met_no_one, Heard, Heard_partly, Heard_nothing, Heard_end, Gave, Gave_partly, Gave_nothing, Gave_up, Pumped_nothing, Pump_refused, Let_go, Paused, Reload_decided, Reload_undecided, calls, Table, DoesDeed, Story, got_of, count_of, met_by, all_met, AreCounted, Peer, Lacks}
+use Rattle.serving.proofs.Names.{◌≡◌, ◌≢◌, ◌+◌, ◌⊎◌, inl, inr, ℕ, List, [], ◌∷◌, ◌++◌, Bool, true, false, Option, Some, None, length, refl, sym, ap, subst, ◌∙◌, append_assoc, append-nil, flat_map, filter_map, arith, ◌==◌, if◌then◌else◌, sum_by, eq-eqb, ne_eqb, false≢true, cases_eq, none-some, same_Some, filter_map-append, sum_by-append, IsIn, Occurrence, in_front, in_back, Call, Accepted, Not_accepted, Accept_failed, Got, Nothing_got, Read_ended, Read_failed, Took, Nothing_taken, Write_failed, Closed, Welcomed, Farewell, Rested, Totals, no_bytes, with_got, with_taken, total_after, totals_after, Traffic, AddsCalls, Served, At, Deed, Enters, Leaves, Stays, Met, Turned_away, Met_no_one, Heard, Heard_partly, Heard_nothing, Heard_end, Gave, Gave_partly, Gave_nothing, Gave_up, Pumped_nothing, Pump_refused, Closed_gone, Paused, Reload_decided, Reload_undecided, calls, Table, DoesDeed, Story, got_of, count_of, met_by, all_met, AreCounted, Peer, Lacks}
 use Rattle.serving.specs.Story.{Pumped}
 use Rattle.serving.proofs.Onward.{in_either}
 use Rattle.serving.proofs.Pairs.{Knows, knows_none, goes}
@@ -78,7 +78,7 @@ adds_one s (Nothing_taken r offered) ne o t e = add_none s o t (Nothing_taken r 
 adds_one s (Write_failed r offered) ne o t e = add_none s o t (Write_failed r offered ∷ []) refl refl e
 adds_one s (Closed r) ne o t e = add_none s o t (Closed r ∷ []) refl refl e
 adds_one s (Welcomed r) ne o t e = add_none s o t (Welcomed r ∷ []) refl refl e
-adds_one s (Parted r) ne o t e = add_none s o t (Parted r ∷ []) refl refl e
+adds_one s (Farewell r) ne o t e = add_none s o t (Farewell r ∷ []) refl refl e
 adds_one s Rested ne o t e = add_none s o t (Rested ∷ []) refl refl e
 
 add_sums : (a b c d e f : ℕ) → a ≡ b + c → b ≡ d + e → f ≡ e + c → a ≡ d + f
@@ -103,13 +103,13 @@ abbrev pub NoBytes : ℕ → List Call → Type 0
 NoBytes s cs = (got_in s cs ≡ 0) × (taken_in s cs ≡ 0)
 
 -- after all calls so far
-record Counted (s : ℕ) (cs : List Call) (told : Told) : Type 0 where
-  given : IsIn (Accepted s) cs → told.is_given s ≡ true
-  none : told.is_given s ≡ false → NoBytes s cs
-  sums : IsIn (Accepted s) cs → (t : Totals) → told.totals s ≡ Some t → (t.got ≡ got_in s cs) × (t.taken ≡ taken_in s cs)
+record Counted (s : ℕ) (cs : List Call) (traffic : Traffic) : Type 0 where
+  given : IsIn (Accepted s) cs → traffic.is_given s ≡ true
+  none : traffic.is_given s ≡ false → NoBytes s cs
+  sums : IsIn (Accepted s) cs → (t : Totals) → traffic.totals s ≡ Some t → (t.got ≡ got_in s cs) × (t.taken ≡ taken_in s cs)
 
 -- a socket of this name is new, and nothing is read from it or written to it yet
-record Comes (s : ℕ) (more : List Call) (old : Told) : Type 0 where
+record Comes (s : ℕ) (more : List Call) (old : Traffic) : Type 0 where
   fresh : old.is_given s ≡ false
   zero : (t : Totals) → totals_after s (old.totals s) more ≡ Some t → (t.got ≡ 0) × (t.taken ≡ 0)
 
@@ -127,7 +127,7 @@ still_false : (x y : Bool) → (x ≡ true → y ≡ true) → y ≡ false → x
 still_false true y f e = absurd (false≢true (sym e ∙ f refl))
 still_false false y f e = refl
 
-counted_on : (s : ℕ) (cs more : List Call) (old new : Told) → Tells old more new → (old.is_given s ≡ false → NoBytes s more) → (IsIn (Accepted s) more → Comes s more old) → Counted s cs old → Counted s (cs ++ more) new
+counted_on : (s : ℕ) (cs more : List Call) (old new : Traffic) → AddsCalls old more new → (old.is_given s ≡ false → NoBytes s more) → (IsIn (Accepted s) more → Comes s more old) → Counted s cs old → Counted s (cs ++ more) new
 counted_on s cs more old new tells quiet comes k = record {
   given = λ i. given (in_either (Accepted s) cs more i);
   none = λ e. let was = still_false (old.is_given s) (new.is_given s) (tells.kept s) e in no_bytes_more s cs more (k.none was) (quiet was);
@@ -164,18 +164,18 @@ accepted_total s r o t is e =
     let at = sym (same_Some _ _ same) in
     (ap (λ (z : Totals). z.got) at, ap (λ (z : Totals). z.taken) at)
 
-comes_met : (s r : ℕ) (old : Told) → old.is_given r ≡ false → IsIn (Accepted s) (Accepted r ∷ []) → Comes s (Accepted r ∷ []) old
+comes_met : (s r : ℕ) (old : Traffic) → old.is_given r ≡ false → IsIn (Accepted s) (Accepted r ∷ []) → Comes s (Accepted r ∷ []) old
 comes_met s r old fresh (inl e) = let is = accepted_is s r e in record { fresh = subst (λ (n : ℕ). old.is_given n ≡ false) (sym is) fresh; zero = λ t f. accepted_total s r (old.totals s) t is f }
 comes_met s r old fresh (inr i) = absurd i
 
-comes_away : (s r : ℕ) (old : Told) → old.is_given r ≡ false → IsIn (Accepted s) (Accepted r ∷ Closed r ∷ []) → Comes s (Accepted r ∷ Closed r ∷ []) old
+comes_away : (s r : ℕ) (old : Traffic) → old.is_given r ≡ false → IsIn (Accepted s) (Accepted r ∷ Closed r ∷ []) → Comes s (Accepted r ∷ Closed r ∷ []) old
 comes_away s r old fresh (inl e) = let is = accepted_is s r e in record { fresh = subst (λ (n : ℕ). old.is_given n ≡ false) (sym is) fresh; zero = λ t f. accepted_total s r (old.totals s) t is f }
 comes_away s r old fresh (inr (inl e)) = absurd (cc e)
 comes_away s r old fresh (inr (inr i)) = absurd i
 
 -- one whose name is given is another than one whose name is not
-apart : (s r : ℕ) (old : Told) → old.is_given r ≡ true → old.is_given s ≡ false → (r == s) ≡ false
-apart s r old given not = ne_eqb r s (λ e. false≢true (sym not ∙ subst (λ (n : ℕ). old.is_given n ≡ true) e given))
+distinct : (s r : ℕ) (old : Traffic) → old.is_given r ≡ true → old.is_given s ≡ false → (r == s) ≡ false
+distinct s r old given not = ne_eqb r s (λ e. false≢true (sym not ∙ subst (λ (n : ℕ). old.is_given n ≡ true) e given))
 
 not_one : (s : ℕ) (c : Call) → (Accepted s ≡ c → ⊥) → IsIn (Accepted s) (c ∷ []) → ⊥
 not_one s c f (inl e) = f e
@@ -185,62 +185,62 @@ not_two : (s : ℕ) (c d : Call) → (Accepted s ≡ c → ⊥) → (Accepted s 
 not_two s c d f g (inl e) = f e
 not_two s c d f g (inr i) = not_one s d g i
 
-count_deed : {L : Lacks} (s : ℕ) (cs : List Call) (v w : Served) (d : Deed) (os : List Occurrence) → DoesDeed L v d os w → ((i : ℕ) (p : Peer) → At v.peers i p → v.told.is_given p.socket ≡ true) → Counted s cs v.told → Counted s (cs ++ calls d) w.told
-count_deed {L = L} s cs v w d os does names k = go d does.table does.told
+count_deed : {L : Lacks} (s : ℕ) (cs : List Call) (v w : Served) (d : Deed) (os : List Occurrence) → DoesDeed L v d os w → ((i : ℕ) (p : Peer) → At v.peers i p → v.traffic.is_given p.socket ≡ true) → Counted s cs v.traffic → Counted s (cs ++ calls d) w.traffic
+count_deed {L = L} s cs v w d os does names k = go d does.table does.traffic
   where
-    plain : (more : List Call) → NoBytes s more → (IsIn (Accepted s) more → ⊥) → Tells v.told more w.told → Counted s (cs ++ more) w.told
-    plain more none not t = counted_on s cs more v.told w.told t (λ e. none) (λ i. absurd (not i)) k
+    plain : (more : List Call) → NoBytes s more → (IsIn (Accepted s) more → ⊥) → AddsCalls v.traffic more w.traffic → Counted s (cs ++ more) w.traffic
+    plain more none not t = counted_on s cs more v.traffic w.traffic t (λ e. none) (λ i. absurd (not i)) k
 
-    go : (d : Deed) → Table L v d w.peers → Tells v.told (calls d) w.told → Counted s (cs ++ calls d) w.told
-    go (Met i p) t told = counted_on s cs _ v.told w.told told (λ e. (refl, refl)) (comes_met s p.socket v.told t.2) k
-    go (Turned_away r o) t told = counted_on s cs _ v.told w.told told (λ e. (refl, refl)) (comes_away s r v.told t.2) k
-    go (Met_no_one true) t told = plain _ (refl, refl) (not_one s Accept_failed (λ e. absurd (cc e))) told
-    go (Met_no_one false) t told = plain _ (refl, refl) (not_one s Not_accepted (λ e. absurd (cc e))) told
-    go (Heard i p room bytes Enters) t told =
-        counted_on s cs (Got p.socket _ bytes ∷ Welcomed p.socket ∷ []) v.told w.told told (λ e. (ap (λ (x : Bool). got_if x bytes) (apart s p.socket v.told (names i p t.1.0) e), refl))
+    go : (d : Deed) → Table L v d w.peers → AddsCalls v.traffic (calls d) w.traffic → Counted s (cs ++ calls d) w.traffic
+    go (Met i p) t traffic = counted_on s cs _ v.traffic w.traffic traffic (λ e. (refl, refl)) (comes_met s p.socket v.traffic t.2) k
+    go (Turned_away r o) t traffic = counted_on s cs _ v.traffic w.traffic traffic (λ e. (refl, refl)) (comes_away s r v.traffic t.2) k
+    go (Met_no_one true) t traffic = plain _ (refl, refl) (not_one s Accept_failed (λ e. absurd (cc e))) traffic
+    go (Met_no_one false) t traffic = plain _ (refl, refl) (not_one s Not_accepted (λ e. absurd (cc e))) traffic
+    go (Heard i p room bytes Enters) t traffic =
+        counted_on s cs (Got p.socket _ bytes ∷ Welcomed p.socket ∷ []) v.traffic w.traffic traffic (λ e. (ap (λ (x : Bool). got_if x bytes) (distinct s p.socket v.traffic (names i p t.1.0) e), refl))
         (λ j. absurd (not_two s _ _ (λ e. absurd (cc e)) (λ e. absurd (cc e)) j)) k
-    go (Heard i p room bytes Leaves) t told =
-        counted_on s cs (Got p.socket _ bytes ∷ Parted p.socket ∷ []) v.told w.told told (λ e. (ap (λ (x : Bool). got_if x bytes) (apart s p.socket v.told (names i p t.1.0) e), refl))
+    go (Heard i p room bytes Leaves) t traffic =
+        counted_on s cs (Got p.socket _ bytes ∷ Farewell p.socket ∷ []) v.traffic w.traffic traffic (λ e. (ap (λ (x : Bool). got_if x bytes) (distinct s p.socket v.traffic (names i p t.1.0) e), refl))
         (λ j. absurd (not_two s _ _ (λ e. absurd (cc e)) (λ e. absurd (cc e)) j)) k
-    go (Heard i p room bytes Stays) t told =
-        counted_on s cs (Got p.socket _ bytes ∷ []) v.told w.told told (λ e. (ap (λ (x : Bool). got_if x bytes) (apart s p.socket v.told (names i p t.1.0) e), refl))
+    go (Heard i p room bytes Stays) t traffic =
+        counted_on s cs (Got p.socket _ bytes ∷ []) v.traffic w.traffic traffic (λ e. (ap (λ (x : Bool). got_if x bytes) (distinct s p.socket v.traffic (names i p t.1.0) e), refl))
         (λ j. absurd (not_one s _ (λ e. absurd (cc e)) j)) k
-    go (Heard_partly i p room bytes) t told =
-        counted_on s cs (Got p.socket _ bytes ∷ Closed p.socket ∷ []) v.told w.told told (λ e. (ap (λ (x : Bool). got_if x bytes) (apart s p.socket v.told (names i p t.1.0) e), refl))
+    go (Heard_partly i p room bytes) t traffic =
+        counted_on s cs (Got p.socket _ bytes ∷ Closed p.socket ∷ []) v.traffic w.traffic traffic (λ e. (ap (λ (x : Bool). got_if x bytes) (distinct s p.socket v.traffic (names i p t.1.0) e), refl))
         (λ j. absurd (not_two s _ _ (λ e. absurd (cc e)) (λ e. absurd (cc e)) j)) k
-    go (Heard_nothing i p room) t told = plain _ (refl, refl) (not_one s _ (λ e. absurd (cc e))) told
-    go (Heard_end i p room true) t told = plain _ (refl, refl) (not_two s _ _ (λ e. absurd (cc e)) (λ e. absurd (cc e))) told
-    go (Heard_end i p room false) t told = plain _ (refl, refl) (not_two s _ _ (λ e. absurd (cc e)) (λ e. absurd (cc e))) told
-    go (Gave i p offered taken Enters) t told =
-        counted_on s cs (Took p.socket offered taken ∷ Welcomed p.socket ∷ []) v.told w.told told (λ e. (refl, ap (λ (x : Bool). taken_if x (length taken)) (apart s p.socket v.told (names i p t.2.0) e)))
+    go (Heard_nothing i p room) t traffic = plain _ (refl, refl) (not_one s _ (λ e. absurd (cc e))) traffic
+    go (Heard_end i p room true) t traffic = plain _ (refl, refl) (not_two s _ _ (λ e. absurd (cc e)) (λ e. absurd (cc e))) traffic
+    go (Heard_end i p room false) t traffic = plain _ (refl, refl) (not_two s _ _ (λ e. absurd (cc e)) (λ e. absurd (cc e))) traffic
+    go (Gave i p offered taken Enters) t traffic =
+        counted_on s cs (Took p.socket offered taken ∷ Welcomed p.socket ∷ []) v.traffic w.traffic traffic (λ e. (refl, ap (λ (x : Bool). taken_if x (length taken)) (distinct s p.socket v.traffic (names i p t.2.0) e)))
         (λ j. absurd (not_two s _ _ (λ e. absurd (cc e)) (λ e. absurd (cc e)) j)) k
-    go (Gave i p offered taken Leaves) t told =
-        counted_on s cs (Took p.socket offered taken ∷ Parted p.socket ∷ []) v.told w.told told (λ e. (refl, ap (λ (x : Bool). taken_if x (length taken)) (apart s p.socket v.told (names i p t.2.0) e)))
+    go (Gave i p offered taken Leaves) t traffic =
+        counted_on s cs (Took p.socket offered taken ∷ Farewell p.socket ∷ []) v.traffic w.traffic traffic (λ e. (refl, ap (λ (x : Bool). taken_if x (length taken)) (distinct s p.socket v.traffic (names i p t.2.0) e)))
         (λ j. absurd (not_two s _ _ (λ e. absurd (cc e)) (λ e. absurd (cc e)) j)) k
-    go (Gave i p offered taken Stays) t told =
-        counted_on s cs (Took p.socket offered taken ∷ []) v.told w.told told (λ e. (refl, ap (λ (x : Bool). taken_if x (length taken)) (apart s p.socket v.told (names i p t.2.0) e)))
+    go (Gave i p offered taken Stays) t traffic =
+        counted_on s cs (Took p.socket offered taken ∷ []) v.traffic w.traffic traffic (λ e. (refl, ap (λ (x : Bool). taken_if x (length taken)) (distinct s p.socket v.traffic (names i p t.2.0) e)))
         (λ j. absurd (not_one s _ (λ e. absurd (cc e)) j)) k
-    go (Gave_partly i p offered taken) t told =
-        counted_on s cs (Took p.socket offered taken ∷ Closed p.socket ∷ []) v.told w.told told (λ e. (refl, ap (λ (x : Bool). taken_if x (length taken)) (apart s p.socket v.told (names i p t.2.0) e)))
+    go (Gave_partly i p offered taken) t traffic =
+        counted_on s cs (Took p.socket offered taken ∷ Closed p.socket ∷ []) v.traffic w.traffic traffic (λ e. (refl, ap (λ (x : Bool). taken_if x (length taken)) (distinct s p.socket v.traffic (names i p t.2.0) e)))
         (λ j. absurd (not_two s _ _ (λ e. absurd (cc e)) (λ e. absurd (cc e)) j)) k
-    go (Gave_nothing i p offered) t told = plain _ (refl, refl) (not_one s _ (λ e. absurd (cc e))) told
-    go (Gave_up i p offered) t told = plain _ (refl, refl) (not_two s _ _ (λ e. absurd (cc e)) (λ e. absurd (cc e))) told
-    go Pumped t told = plain [] (refl, refl) (λ i. i) told
-    go Pumped_nothing t told = plain [] (refl, refl) (λ i. i) told
-    go Pump_refused t told = plain [] (refl, refl) (λ i. i) told
-    go (Let_go i p) t told = plain _ (refl, refl) (not_one s _ (λ e. absurd (cc e))) told
-    go Paused t told = plain _ (refl, refl) (not_one s _ (λ e. absurd (cc e))) told
-    go (Reload_decided g) t told = plain [] (refl, refl) (λ i. i) told
-    go (Reload_undecided g) t told = plain [] (refl, refl) (λ i. i) told
+    go (Gave_nothing i p offered) t traffic = plain _ (refl, refl) (not_one s _ (λ e. absurd (cc e))) traffic
+    go (Gave_up i p offered) t traffic = plain _ (refl, refl) (not_two s _ _ (λ e. absurd (cc e)) (λ e. absurd (cc e))) traffic
+    go Pumped t traffic = plain [] (refl, refl) (λ i. i) traffic
+    go Pumped_nothing t traffic = plain [] (refl, refl) (λ i. i) traffic
+    go Pump_refused t traffic = plain [] (refl, refl) (λ i. i) traffic
+    go (Closed_gone i p) t traffic = plain _ (refl, refl) (not_one s _ (λ e. absurd (cc e))) traffic
+    go Paused t traffic = plain _ (refl, refl) (not_one s _ (λ e. absurd (cc e))) traffic
+    go (Reload_decided g) t traffic = plain [] (refl, refl) (λ i. i) traffic
+    go (Reload_undecided g) t traffic = plain [] (refl, refl) (λ i. i) traffic
 
 -- ---- whole stories
 
-count_story : (L : Lacks) (s : ℕ) (ds : List Deed) (known : List Peer) (cs : List Call) (v w : Served) (os : List Occurrence) → Story L v ds os w → Knows known v → Counted s cs v.told → Counted s (cs ++ flat_map calls ds) w.told
-count_story L s [] known cs v w os story k c = subst (λ (z : List Call). Counted s z w.told) (sym (append-nil cs)) (subst (λ (z : Served). Counted s cs z.told) (sym story.1) c)
+count_story : (L : Lacks) (s : ℕ) (ds : List Deed) (known : List Peer) (cs : List Call) (v w : Served) (os : List Occurrence) → Story L v ds os w → Knows known v → Counted s cs v.traffic → Counted s (cs ++ flat_map calls ds) w.traffic
+count_story L s [] known cs v w os story k c = subst (λ (z : List Call). Counted s z w.traffic) (sym (append-nil cs)) (subst (λ (z : Served). Counted s cs z.traffic) (sym story.1) c)
 count_story L s (d ∷ ds) known cs v w os (mid, first, rest, e, does, story) k c =
     let one = goes known v mid d first does k in
     let here = count_deed s cs v mid d first does (λ i p at. k.named p (k.slots i p at)) c in
-    subst (λ (z : List Call). Counted s z w.told) (append_assoc cs (calls d) (flat_map calls ds)) (count_story L s ds (met_by d ++ known) (cs ++ calls d) mid w rest story one.knows here)
+    subst (λ (z : List Call). Counted s z w.traffic) (append_assoc cs (calls d) (flat_map calls ds)) (count_story L s ds (met_by d ++ known) (cs ++ calls d) mid w rest story one.knows here)
 
 met_accepts : (d : Deed) (p : Peer) → IsIn p (met_by d) → IsIn (Accepted p.socket) (calls d)
 met_accepts (Met i q) p (inl e) = inl (ap (λ (z : Peer). Accepted z.socket) e)
@@ -258,7 +258,7 @@ met_accepts (Gave_up i q offered) p x = absurd x
 met_accepts Pumped p x = absurd x
 met_accepts Pumped_nothing p x = absurd x
 met_accepts Pump_refused p x = absurd x
-met_accepts (Let_go i q) p x = absurd x
+met_accepts (Closed_gone i q) p x = absurd x
 met_accepts Paused p x = absurd x
 met_accepts (Reload_decided g) p x = absurd x
 met_accepts (Reload_undecided g) p x = absurd x
@@ -272,9 +272,9 @@ all_accepted (d ∷ ds) p x = go (all_accepted ds p) (in_either p (met_by d) (al
     go rest (inr i) = in_back (Accepted p.socket) (calls d) (flat_map calls ds) (rest i)
 
 -- from a server with no socket
-pub are_counted : (L : Lacks) (ds : List Deed) (v w : Served) (os : List Occurrence) → v.peers ≡ [] → Story L v ds os w → AreCounted ds w.told
+pub are_counted : (L : Lacks) (ds : List Deed) (v w : Served) (os : List Occurrence) → v.peers ≡ [] → Story L v ds os w → AreCounted ds w.traffic
 are_counted L ds v w os none story p i t e =
-    let start : Counted p.socket [] v.told = record { given = λ x. absurd x; none = λ x. (refl, refl); sums = λ x. absurd x } in
+    let start : Counted p.socket [] v.traffic = record { given = λ x. absurd x; none = λ x. (refl, refl); sums = λ x. absurd x } in
     let all = count_story L p.socket ds [] [] v w os story (knows_none v none) start in
     let sums = all.sums (all_accepted ds p i) t e in
     let joined = are_joined L ds v w os none story p i in

@@ -1,5 +1,5 @@
 -- However a server goes on, each slot has a connection of its own.
-use Rattle.serving.proofs.Names.{◌≡◌, ◌≢◌, ◌≤◌, ◌<◌, ℕ, suc, zero, ◌+◌, List, [], ◌∷◌, Bool, true, false, Option, None, length, refl, sym, ap, subst, ◌∙◌, ◌⊎◌, inl, inr, slice_set, slice_index_or, arith, false≢true, cases_eq, same_Some, MatchBool, Config, Happening, Occurrence, World, Works, none_more, one_more, Waits, WorksOff, Answers, ByEvents, Same, with_heard, is_over, is_gone, can_open, Opens, Loses, TakesAndWorks, Pumps, delivers, idles, Arrival, Ask, Attempt, whole, FallsShort, Attempts, Served, At, Filled, Deed, Met, Turned_away, Met_no_one, Heard, Heard_partly, Heard_nothing, Heard_end, Gave, Gave_partly, Gave_nothing, Gave_up, Pumped_nothing, Pump_refused, Let_go, Paused, Reload_decided, Reload_undecided, attempts, Table, DoesDeed, Story, Serves, IsFit, AreSeated, AreQuiet, Peer, Lacks}
+use Rattle.serving.proofs.Names.{◌≡◌, ◌≢◌, ◌≤◌, ◌<◌, ℕ, suc, zero, ◌+◌, List, [], ◌∷◌, Bool, true, false, Option, None, length, refl, sym, ap, subst, ◌∙◌, ◌⊎◌, inl, inr, slice_set, slice_index_or, arith, false≢true, cases_eq, same_Some, MatchBool, Config, Happening, Occurrence, World, Works, none_more, one_more, Waits, WorksOff, Answers, ByEvents, Same, with_heard, is_over, is_gone, can_open, Opens, Loses, TakesAndWorks, Pumps, delivers, idles, Arrival, Ask, Attempt, whole, FallsShort, Attempts, Served, At, Filled, Deed, Met, Turned_away, Met_no_one, Heard, Heard_partly, Heard_nothing, Heard_end, Gave, Gave_partly, Gave_nothing, Gave_up, Pumped_nothing, Pump_refused, Closed_gone, Paused, Reload_decided, Reload_undecided, attempts, Table, DoesDeed, Story, Serves, IsFit, AreInSlots, AreQuiet, Peer, Lacks}
 use Rattle.model.specs.declared.events.Arrival.TheVariants as arrival
 use Rattle.serving.specs.Story.{Pumped}
 
@@ -78,7 +78,7 @@ slot_within (q ∷ ps) (suc i) p at = let lt = slot_within ps i p at in omega (a
 
 pub fit_within : (a b : World) (ps qs : List (Option Peer)) → a.given ≤ b.given → ((j : ℕ) (p : Peer) → At qs j p → At ps j p) → IsFit a ps → IsFit b qs
 fit_within a b ps qs le sub f = record {
-  apart = λ i j p q x y e. f.apart i j p q (sub i p x) (sub j q y) e;
+  distinct = λ i j p q x y e. f.distinct i j p q (sub i p x) (sub j q y) e;
   numbered = λ i p x. f.numbered i p (sub i p x);
   given = λ i p x. let g = f.given i p (sub i p x) in omega (arith, g, le);
 }
@@ -99,16 +99,16 @@ filled_at ps qs i p f j q at = go (cases_eq j i)
 
 fit_filled : (a b : World) (ps qs : List (Option Peer)) (i : ℕ) (p : Peer) → p.connection ≡ a.given + 1 → b.given ≡ a.given + 1 → Filled ps i p qs → IsFit a ps → IsFit b qs
 fit_filled a b ps qs i p is more filled f = record {
-  apart = λ j k q r x y e. apart j k q r (filled_at ps qs i p filled j q x) (filled_at ps qs i p filled k r y) e;
+  distinct = λ j k q r x y e. distinct j k q r (filled_at ps qs i p filled j q x) (filled_at ps qs i p filled k r y) e;
   numbered = λ j q x. numbered j q (filled_at ps qs i p filled j q x);
   given = λ j q x. given j q (filled_at ps qs i p filled j q x);
 }
   where
-    apart : (j k : ℕ) (q r : Peer) → ((j ≡ i) × (q ≡ p)) ⊎ At ps j q → ((k ≡ i) × (r ≡ p)) ⊎ At ps k r → q.connection ≡ r.connection → j ≡ k
-    apart j k q r (inl x) (inl y) e = x.0 ∙ sym y.0
-    apart j k q r (inl x) (inr y) e = let g = f.given k r y in let n = ap (λ (z : Peer). z.connection) x.1 in absurd (omega (arith, g, n, is, e))
-    apart j k q r (inr x) (inl y) e = let g = f.given j q x in let n = ap (λ (z : Peer). z.connection) y.1 in absurd (omega (arith, g, n, is, e))
-    apart j k q r (inr x) (inr y) e = f.apart j k q r x y e
+    distinct : (j k : ℕ) (q r : Peer) → ((j ≡ i) × (q ≡ p)) ⊎ At ps j q → ((k ≡ i) × (r ≡ p)) ⊎ At ps k r → q.connection ≡ r.connection → j ≡ k
+    distinct j k q r (inl x) (inl y) e = x.0 ∙ sym y.0
+    distinct j k q r (inl x) (inr y) e = let g = f.given k r y in let n = ap (λ (z : Peer). z.connection) x.1 in absurd (omega (arith, g, n, is, e))
+    distinct j k q r (inr x) (inl y) e = let g = f.given j q x in let n = ap (λ (z : Peer). z.connection) y.1 in absurd (omega (arith, g, n, is, e))
+    distinct j k q r (inr x) (inr y) e = f.distinct j k q r x y e
 
     numbered : (j : ℕ) (q : Peer) → ((j ≡ i) × (q ≡ p)) ⊎ At ps j q → 0 < q.connection
     numbered j q (inl x) = let n = ap (λ (z : Peer). z.connection) x.1 in omega (arith, n, is)
@@ -136,7 +136,7 @@ fit_does {L = L} a b d os does f = go d does.table (attempts_le L (attempts d) a
     go Pumped t le br = fit_same a b le t.1 f
     go Pumped_nothing t le br = fit_same a b le t.1 f
     go Pump_refused t le br = fit_same a b le t f
-    go (Let_go i p) t le br = fit_freed a b i le t.1.1 f
+    go (Closed_gone i p) t le br = fit_freed a b i le t.1.1 f
     go Paused t le br = fit_same a b le t f
     go (Reload_decided g) t le br = fit_same a b le t.1 f
     go (Reload_undecided g) t le br = fit_same a b le t.1 f
@@ -148,14 +148,14 @@ fit_story L (d ∷ ds) a b os (mid, first, rest, e, does, s) f = fit_story L ds 
 pub serves_fit : {L : Lacks} (a b : Served) (xs : List Ask) (p : Bool) → Serves L a xs p b → IsFit a.world a.peers → IsFit b.world b.peers
 serves_fit {L = L} a b xs p s f = fit_story L s.deeds a b s.occurrences s.story f
 
--- what was seated stays so, where the marks are still of what is quiet
-pub seated_on : {L : Lacks} (a b : Served) (xs : List Ask) (p : Bool) (ms ns : List Bool) → Serves L a xs p b → AreSeated a.world a.peers ms → AreQuiet b.world b.peers ns → AreSeated b.world b.peers ns
-seated_on a b xs p ms ns s k quiet = record { fit = serves_fit a b xs p s k.fit; quiet = quiet }
+-- what was in its slots stays so, where the marks are still of what is quiet
+pub in_slots_on : {L : Lacks} (a b : Served) (xs : List Ask) (p : Bool) (ms ns : List Bool) → Serves L a xs p b → AreInSlots a.world a.peers ms → AreQuiet b.world b.peers ns → AreInSlots b.world b.peers ns
+in_slots_on a b xs p ms ns s k quiet = record { fit = serves_fit a b xs p s k.fit; quiet = quiet }
 
 -- if no further number is given the slots fit as they did
 pub fit_on : (a b : World) (ps : List (Option Peer)) → b.given ≡ a.given → IsFit a ps → IsFit b ps
-fit_on a b ps e fit = record { apart = fit.apart; numbered = fit.numbered; given = λ i p at. let le = fit.given i p at in omega (arith, le, e) }
+fit_on a b ps e fit = record { distinct = fit.distinct; numbered = fit.numbered; given = λ i p at. let le = fit.given i p at in omega (arith, le, e) }
 
 -- with no slot every server fits
 pub fit_none : (w : World) → IsFit w []
-fit_none w = record { apart = λ i j p q at. absurd (cc at); numbered = λ i p at. absurd (cc at); given = λ i p at. absurd (cc at) }
+fit_none w = record { distinct = λ i j p q at. absurd (cc at); numbered = λ i p at. absurd (cc at); given = λ i p at. absurd (cc at) }

@@ -1,5 +1,5 @@
 -- What was taken of an output, with what waits there, is what was put out; of one that is gone it is a beginning.
-use Rattle.serving.proofs.Names.{◌≡◌, ◌≢◌, ◌<◌, ℕ, ◌+◌, List, [], ◌∷◌, ◌++◌, Bool, true, false, eqb, length, take, drop, map, refl, sym, ap, subst, ◌∙◌, append_assoc, append-nil, flat_map, ◌⊎◌, inl, inr, Some, arith, eqb-true, eqb-false, false≢true, lt-ltb, length-take-le, flat_map-append, ◌==◌, ◌&&◌, nat_lt, if◌then◌else◌, MatchBool, AllByRecursion, Session, no_session, running_session, with_one, Stream, IsSound, Config, State, Happening, put_out, Occurrence, Of_event, IsDecided, events_of, World, Wire, new_world, is_over, is_gone, is_ended, can_open, Turns, Works, none_more, one_more, Waits, WorksOff, Same, with_heard, Takes_off, TakesAndWorks, Opens, Loses, Puts, Pumps, delivers, idles, Answers, ByEvents, Reloads, IsConsistent, Arrival, Told, Attempt, whole, short, FallsShort, Attempts, Served, served, Deed, Enters, Leaves, Stays, Met, Turned_away, Met_no_one, Heard, Heard_partly, Heard_nothing, Heard_end, Gave, Gave_partly, Gave_nothing, Gave_up, Pumped_nothing, Pump_refused, Let_go, Paused, Reload_decided, Reload_undecided, calls, IsFront, DoesDeed, Story, written_to, AreBeginnings, Peer, IsOffered, new_is_consistent, events-append, events-mapped, Lacks}
+use Rattle.serving.proofs.Names.{◌≡◌, ◌≢◌, ◌<◌, ℕ, ◌+◌, List, [], ◌∷◌, ◌++◌, Bool, true, false, eqb, length, take, drop, map, refl, sym, ap, subst, ◌∙◌, append_assoc, append-nil, flat_map, ◌⊎◌, inl, inr, Some, arith, eqb-true, eqb-false, false≢true, lt-ltb, length-take-le, flat_map-append, ◌==◌, ◌&&◌, nat_lt, if◌then◌else◌, MatchBool, AllByRecursion, Session, no_session, running_session, with_one, Stream, IsSound, Config, State, Happening, put_out, Occurrence, Of_event, IsDecided, events_of, World, Wire, new_world, is_over, is_gone, is_ended, can_open, Turns, Works, none_more, one_more, Waits, WorksOff, Same, with_heard, Takes_off, TakesAndWorks, Opens, Loses, Puts, Pumps, delivers, idles, Answers, ByEvents, Reloads, IsConsistent, Arrival, Traffic, Attempt, whole, short, FallsShort, Attempts, Served, served, Deed, Enters, Leaves, Stays, Met, Turned_away, Met_no_one, Heard, Heard_partly, Heard_nothing, Heard_end, Gave, Gave_partly, Gave_nothing, Gave_up, Pumped_nothing, Pump_refused, Closed_gone, Paused, Reload_decided, Reload_undecided, calls, IsFront, DoesDeed, Story, written_to, AreBeginnings, Peer, IsOffered, new_is_consistent, events-append, events-mapped, Lacks}
 use Rattle.std.specs.Prelude.{not}
 use Rattle.model.specs.Opening.{new_session}
 use Rattle.model.specs.Spelling.{sends_to, spelling}
@@ -71,7 +71,7 @@ nothing_left xs ys zs e none nil = ap (λ (z : List ℕ). z ++ zs) (sym nil) ∙
 
 -- what is put out for c, where nothing is for one that is over
 flows_puts : (d c : ℕ) (a b : World) (e : Event) (hs : List Happening) → Puts a e c hs b → b.given ≡ a.given → (is_over a d ≡ true → d ≢ c) → Flows d a [] hs b
-flows_puts d c a b e hs p given apart = record { keeps = λ bytes put acc. record { fits = fits bytes put acc.fits; unopened = λ lt. unopened bytes put lt (acc.unopened (subst (λ (n : ℕ). n < d) given lt)) } }
+flows_puts d c a b e hs p given distinct = record { keeps = λ bytes put acc. record { fits = fits bytes put acc.fits; unopened = λ lt. unopened bytes put lt (acc.unopened (subst (λ (n : ℕ). n < d) given lt)) } }
   where
     each : (b.wire d).output ≡ (a.wire d).output ++ put_out d hs
     each = puts_each a b e c hs d p
@@ -79,7 +79,7 @@ flows_puts d c a b e hs p given apart = record { keeps = λ bytes put acc. recor
     -- one that is over is another
     stays : is_over a d ≡ true → (a.wire d).output ≡ [] → ((b.wire d).output ≡ []) × (is_over b d ≡ true) × (put_out d hs ≡ [])
     stays over none =
-        let ne : d ≢ c = apart over in
+        let ne : d ≢ c = distinct over in
         let left : (b.wire d).output ≡ [] = ap (λ (w : Wire). w.output) (p.others d ne) ∙ none in
         (left, ap (λ (s : Session). is_ended s.phase) (p.rests d ne) ∙ over, nothing_left (b.wire d).output (a.wire d).output (put_out d hs) each left none)
 
@@ -363,7 +363,7 @@ flows_deed {L = L} p v w (Gave_up i q offered) os k does pair = flows_one L p.co
 flows_deed {L = L} p v w Pumped os k does pair = flows_one L p.connection v.world w.world (whole arrival.Pump) os k does.brings
 flows_deed {L = L} p v w Pumped_nothing os k does pair = flows_one L p.connection v.world w.world (whole arrival.Pump) os k does.brings
 flows_deed {L = L} p v w Pump_refused os k does pair = flows_one L p.connection v.world w.world (short arrival.Pump) os k does.brings
-flows_deed {L = L} p v w (Let_go i q) os k does pair = flows_none p.connection v.world w.world os does.brings
+flows_deed {L = L} p v w (Closed_gone i q) os k does pair = flows_none p.connection v.world w.world os does.brings
 flows_deed {L = L} p v w Paused os k does pair = flows_none p.connection v.world w.world os does.brings
 flows_deed {L = L} p v w (Reload_decided g) os k does pair = flows_one L p.connection v.world w.world (whole (arrival.Reload g)) os k does.brings
 flows_deed {L = L} p v w (Reload_undecided g) os k does pair = flows_one L p.connection v.world w.world (short (arrival.Reload g)) os k does.brings
@@ -387,10 +387,10 @@ new_accounts : (f : Config) (d : ℕ) → Accounts d [] [] (new_world f)
 new_accounts f d = record { fits = inl refl; unopened = λ lt. (refl, refl, refl) }
 
 -- of all that a server did after that
-pub story_accounts : (L : Lacks) (f : Config) (p : Peer) (ds : List Deed) (told : Told) (new : Served) (os : List Occurrence) → IsSound f → Story L (served (new_world f) [] told) ds os new → AllByRecursion (λ d. PairsWith p (peer_of d)) ds
+pub story_accounts : (L : Lacks) (f : Config) (p : Peer) (ds : List Deed) (traffic : Traffic) (new : Served) (os : List Occurrence) → IsSound f → Story L (served (new_world f) [] traffic) ds os new → AllByRecursion (λ d. PairsWith p (peer_of d)) ds
     → Accounts p.connection (flat_map (written_to p.socket) (flat_map calls ds)) (put_out p.connection (events_of os)) new.world
-story_accounts L f p ds told new os sound s pairs = (flows_story L p ds (served (new_world f) [] told) new os (new_is_consistent f sound) s pairs).keeps [] [] (new_accounts f p.connection)
+story_accounts L f p ds traffic new os sound s pairs = (flows_story L p ds (served (new_world f) [] traffic) new os (new_is_consistent f sound) s pairs).keeps [] [] (new_accounts f p.connection)
 
-pub are_beginnings : (L : Lacks) (f : Config) (ds : List Deed) (told : Told) (new : Served) (os : List Occurrence) → IsSound f → Story L (served (new_world f) [] told) ds os new → AreBeginnings ds os
-are_beginnings L f ds told new os sound s p i =
-    beginning p.connection _ (put_out p.connection (events_of os)) new.world (story_accounts L f p ds told new os sound s (pairs_in L ds (served (new_world f) [] told) new os refl s p i))
+pub are_beginnings : (L : Lacks) (f : Config) (ds : List Deed) (traffic : Traffic) (new : Served) (os : List Occurrence) → IsSound f → Story L (served (new_world f) [] traffic) ds os new → AreBeginnings ds os
+are_beginnings L f ds traffic new os sound s p i =
+    beginning p.connection _ (put_out p.connection (events_of os)) new.world (story_accounts L f p ds traffic new os sound s (pairs_in L ds (served (new_world f) [] traffic) new os refl s p i))

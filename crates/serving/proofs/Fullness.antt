@@ -1,9 +1,9 @@
 -- A slot that is marked as full holds a connection that is paused, and what comes for other connections leaves it so.
-use Rattle.serving.proofs.Names.{◌≡◌, ◌≢◌, ◌≤◌, ◌<◌, ◌+◌, ◌-◌, ◌⊎◌, ◌++◌, ℕ, suc, zero, List, [], ◌∷◌, Bool, true, false, Option, Some, None, length, drop, flat_map, refl, sym, ap, subst, ◌∙◌, inl, inr, slice_set, slice_index_or, arith, false≢true, cases_eq, cases_lt, lt-ltb, ltb-true, ltb-false, le-ltb, same_Some, nat_le, nat_lt, ◌&&◌, if◌then◌else◌, count_by, is_some, cond, To_read, Happening, World, Wire, Same, Delivers, is_over, is_gone, is_awake, is_paused, is_past_bound, has_output, Ask, At, Filled, ApartFrom, IsFit, StaysOrFrees, AreQuiet, IsMarkedAt, IsNextLoud, HasEnded, read_of, write_of, Peer}
+use Rattle.serving.proofs.Names.{◌≡◌, ◌≢◌, ◌≤◌, ◌<◌, ◌+◌, ◌-◌, ◌⊎◌, ◌++◌, ℕ, suc, zero, List, [], ◌∷◌, Bool, true, false, Option, Some, None, length, drop, flat_map, refl, sym, ap, subst, ◌∙◌, inl, inr, slice_set, slice_index_or, arith, false≢true, cases_eq, cases_lt, lt-ltb, ltb-true, ltb-false, le-ltb, same_Some, nat_le, nat_lt, ◌&&◌, if◌then◌else◌, count_by, is_some, cond, To_read, Happening, World, Wire, Same, Delivers, is_over, is_gone, is_awake, is_paused, is_past_bound, has_output, Ask, At, Filled, OthersStay, IsFit, StaysOrFrees, AreQuiet, IsMarkedAt, IsNextLoud, HasEnded, read_of, write_of, Peer}
 use Rattle.std.proofs.Common.{not, length-append}
 use Rattle.model.specs.Spelling.{spelling}
 use Rattle.serving.specs.Quiet.{AreFull, HoldsPaused}
-use Rattle.serving.proofs.Apart.{StaysFor, others_stay, same_stays}
+use Rattle.serving.proofs.Others.{StaysFor, others_stay, same_stays}
 use Rattle.serving.proofs.Quieting.{marked_ended}
 use Rattle.serving.proofs.Seating.{taken_from}
 
@@ -66,12 +66,12 @@ pub full_idle : (a b : World) (ps : List (Option Peer)) (fs : List Bool) → Sam
 full_idle a b ps fs same full = full_stays a b ps fs (λ c. same_stays a b same c) full
 
 -- something happened for the connection of one slot, which is not marked now
-pub full_apart : (a b : World) (ps qs : List (Option Peer)) (i : ℕ) (p : Peer) (fs gs : List Bool) → IsFit a ps → At ps i p → ApartFrom p.connection a b → StaysOrFrees ps i qs
+pub full_apart : (a b : World) (ps qs : List (Option Peer)) (i : ℕ) (p : Peer) (fs gs : List Bool) → IsFit a ps → At ps i p → OthersStay p.connection a b → StaysOrFrees ps i qs
     → ((j : ℕ) → IsMarkedAt gs j → (j ≢ i) × IsMarkedAt fs j) → AreFull a ps fs → AreFull b qs gs
-full_apart a b ps qs i p fs gs fit here apart slots marks full = λ j m.
+full_apart a b ps qs i p fs gs fit here distinct slots marks full = λ j m.
     let old = marks j m in
     let was = full j old.1 in
-    (was.0, at_after ps qs i j was.0 slots old.0 was.1, paused_stays a b was.0.connection (others_stay p.connection a b apart was.0.connection (λ e. old.0 (fit.apart j i was.0 p was.1 here e))) ∙ was.2)
+    (was.0, at_after ps qs i j was.0 slots old.0 was.1, paused_stays a b was.0.connection (others_stay p.connection a b distinct was.0.connection (λ e. old.0 (fit.distinct j i was.0 p was.1 here e))) ∙ was.2)
 
 -- a slot was freed, or stayed, which is not marked
 pub full_frees : (w : World) (ps qs : List (Option Peer)) (i : ℕ) (fs : List Bool) → StaysOrFrees ps i qs → ((j : ℕ) → IsMarkedAt fs j → (j ≢ i) × IsMarkedAt fs j) → AreFull w ps fs → AreFull w qs fs
@@ -93,10 +93,10 @@ awake_short true true e = absurd (false≢true e)
 awake_short false true e = absurd (false≢true e)
 
 -- something happened for a connection that was awake
-pub full_read : (a b : World) (ps qs : List (Option Peer)) (i : ℕ) (p : Peer) (fs : List Bool) → IsFit a ps → At ps i p → is_awake a p.connection ≡ true → ApartFrom p.connection a b → StaysOrFrees ps i qs
+pub full_read : (a b : World) (ps qs : List (Option Peer)) (i : ℕ) (p : Peer) (fs : List Bool) → IsFit a ps → At ps i p → is_awake a p.connection ≡ true → OthersStay p.connection a b → StaysOrFrees ps i qs
     → AreFull a ps fs → AreFull b qs fs
-full_read a b ps qs i p fs fit here awake apart slots full =
-    full_apart a b ps qs i p fs fs fit here apart slots (other_full a ps i p fs here (awake_short (is_over a p.connection) (is_paused a p.connection) awake) full) full
+full_read a b ps qs i p fs fit here awake distinct slots full =
+    full_apart a b ps qs i p fs fs fit here distinct slots (other_full a ps i p fs here (awake_short (is_over a p.connection) (is_paused a p.connection) awake) full) full
 
 short_output : (n : ℕ) → nat_lt 0 n ≡ false → nat_le 1048576 n ≡ false
 short_output n e = let none : n ≤ 0 = ltb-false 0 n e in le-ltb 1048575 n (omega (arith, none))
@@ -106,8 +106,8 @@ pub full_silent : (w : World) (ps qs : List (Option Peer)) (i : ℕ) (p : Peer) 
 full_silent w ps qs i p fs here silent slots full = full_frees w ps qs i fs slots (other_full w ps i p fs here (short_output (length (w.wire p.connection).output) silent) full) full
 
 -- a slot was filled by a connection that was opened
-pub full_met : (a b : World) (ps qs : List (Option Peer)) (i : ℕ) (p : Peer) (fs : List Bool) → IsFit a ps → ApartFrom (a.given + 1) a b → Filled ps i p qs → AreFull a ps fs → AreFull b qs fs
-full_met a b ps qs i p fs fit apart filled full = λ j m.
+pub full_met : (a b : World) (ps qs : List (Option Peer)) (i : ℕ) (p : Peer) (fs : List Bool) → IsFit a ps → OthersStay (a.given + 1) a b → Filled ps i p qs → AreFull a ps fs → AreFull b qs fs
+full_met a b ps qs i p fs fit distinct filled full = λ j m.
     let was = full j m in
     let q = was.0 in
     let at : At ps j q = was.1 in
@@ -115,14 +115,14 @@ full_met a b ps qs i p fs fit apart filled full = λ j m.
     let ne : j ≢ i = λ e.
     let none : None ≡ Some q = sym filled.free ∙ ap (λ (k : ℕ). slice_index_or ps k None) (sym e) ∙ at in
     cc none in
-    (q, filled.others j ne ∙ at, paused_stays a b q.connection (others_stay (a.given + 1) a b apart q.connection (λ e. omega (arith, given, e))) ∙ was.2)
+    (q, filled.others j ne ∙ at, paused_stays a b q.connection (others_stay (a.given + 1) a b distinct q.connection (λ e. omega (arith, given, e))) ∙ was.2)
 
 -- a delivery to a connection that is paused leaves it so
-pub full_delivered : (a b : World) (ps : List (Option Peer)) (c : ℕ) (hs : List Happening) (fs : List Bool) → Delivers a c hs b → ApartFrom c a b → AreFull a ps fs → AreFull b ps fs
-full_delivered a b ps c hs fs d apart full = λ i m. let was = full i m in (was.0, was.1, go was.0.connection (cases_eq was.0.connection c) was.2)
+pub full_delivered : (a b : World) (ps : List (Option Peer)) (c : ℕ) (hs : List Happening) (fs : List Bool) → Delivers a c hs b → OthersStay c a b → AreFull a ps fs → AreFull b ps fs
+full_delivered a b ps c hs fs d distinct full = λ i m. let was = full i m in (was.0, was.1, go was.0.connection (cases_eq was.0.connection c) was.2)
   where
     go : (x : ℕ) → (x ≡ c) ⊎ (x ≡ c → ⊥) → is_paused a x ≡ true → is_paused b x ≡ true
-    go x (inr ne) is = paused_stays a b x (others_stay c a b apart x ne) ∙ is
+    go x (inr ne) is = paused_stays a b x (others_stay c a b distinct x ne) ∙ is
     go x (inl e) is =
         let more = length-append (a.wire c).output (spelling d.puts.h.frame_max d.puts.h.sends) in
         let len : length (b.wire c).output ≡ length ((a.wire c).output ++ spelling d.puts.h.frame_max d.puts.h.sends) = ap length d.puts.output in

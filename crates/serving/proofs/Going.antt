@@ -1,13 +1,13 @@
 -- What one call does goes on from the server as the call found it.
-use Rattle.serving.proofs.Names.{ℕ, List, [], refl, sym, inl, inr, AllByRecursion, IsIn, Config, IsConsistent, new_world, new_is_consistent, Lacks, Told, Served, served, Rounds, arrived, IsServed, IsOf, TakesOn, GoesOn, Peer}
+use Rattle.serving.proofs.Names.{ℕ, List, [], refl, sym, inl, inr, AllByRecursion, IsIn, Config, IsConsistent, new_world, new_is_consistent, Lacks, Traffic, Served, served, Rounds, arrived, IsServed, IsOf, TakesOn, GoesOn, Peer}
 use Rattle.serving.proofs.Staying.{attempts_stay, story_offered}
 use Rattle.serving.proofs.Pairs.{peer_of, PairsWith, AllGo, known_after, stays_known, met_known, all_go, pairs_each, knows_none}
 use Rattle.serving.proofs.Joining.{joined_all}
 use Rattle.serving.proofs.Flowing.{Accounts, flows_story, story_accounts, beginning}
 use Rattle.serving.proofs.Keeping.{Went, story_arrives, story_asked, went_rounds}
 
-goes_on : {L : Lacks} (f : Config) (told : Told) (old new : Served) → IsServed L f told old → Went L old new → GoesOn L old new
-goes_on {L = L} f told old new was (es, ps, t) = record {
+goes_on : {L : Lacks} (f : Config) (traffic : Traffic) (old new : Served) → IsServed L f traffic old → Went L old new → GoesOn L old new
+goes_on {L = L} f traffic old new was (es, ps, t) = record {
   deeds = es;
   occurrences = ps;
   story = t;
@@ -18,7 +18,7 @@ goes_on {L = L} f told old new was (es, ps, t) = record {
 }
   where
     start : Served
-    start = served (new_world f) [] told
+    start = served (new_world f) [] traffic
 
     before : AllGo [] was.deeds old
     before = all_go L was.deeds [] start old was.occurrences was.story (knows_none start refl)
@@ -45,11 +45,11 @@ goes_on {L = L} f told old new was (es, ps, t) = record {
     -- what waits is all that is put out, and nothing of it is taken
     found : (p : Peer) → IsIn p (known_after known es) → Accounts p.connection [] (old.world.wire p.connection).output old.world
     found p i =
-        let acc = story_accounts L f p was.deeds told old was.occurrences was.sound was.story (pairs_before p i) in
+        let acc = story_accounts L f p was.deeds traffic old was.occurrences was.sound was.story (pairs_before p i) in
         record { fits = inl refl; unopened = λ lt. let u = acc.unopened lt in (u.0, u.1, sym u.0) }
 
     takes_on : (p : Peer) → IsIn p (known_after known es) → TakesOn old es ps p
     takes_on p i = beginning p.connection _ _ new.world ((flows_story L p es old new ps consistent t (pairs_now p i)).keeps [] (old.world.wire p.connection).output (found p i))
 
-pub rounds_go_on : {L : Lacks} (f : Config) (told : Told) (n : ℕ) (old new : Served) → Rounds L n old new → IsServed L f told old → GoesOn L old new
-rounds_go_on {L = L} f told n old new rs was = goes_on f told old new was (went_rounds L n old new rs)
+pub rounds_go_on : {L : Lacks} (f : Config) (traffic : Traffic) (n : ℕ) (old new : Served) → Rounds L n old new → IsServed L f traffic old → GoesOn L old new
+rounds_go_on {L = L} f traffic n old new rs was = goes_on f traffic old new was (went_rounds L n old new rs)

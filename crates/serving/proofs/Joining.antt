@@ -1,5 +1,5 @@
 -- What arrived for a connection is what its socket gave and took, deed by deed.
-use Rattle.serving.proofs.Names.{◌≡◌, ◌+◌, ℕ, List, [], ◌∷◌, ◌++◌, Bool, true, false, Option, Some, None, length, refl, sym, ap, subst, ◌∙◌, flat_map, filter_map, count_by, arith, filter_map-append, sum_by-append, ◌==◌, if◌then◌else◌, AllByRecursion, Config, Occurrence, Call, Attempt, Served, Deed, Enters, Leaves, Stays, Met, Turned_away, Met_no_one, Heard, Heard_partly, Heard_nothing, Heard_end, Gave, Gave_partly, Gave_nothing, Gave_up, Pumped_nothing, Pump_refused, Let_go, Paused, Reload_decided, Reload_undecided, calls, attempts, DoesDeed, Story, piece_for, amount_for, is_loss_of, is_short_for, got_of, count_of, is_end_of, IsJoined, AreJoined, Arrival, Peer, Lacks}
+use Rattle.serving.proofs.Names.{◌≡◌, ◌+◌, ℕ, List, [], ◌∷◌, ◌++◌, Bool, true, false, Option, Some, None, length, refl, sym, ap, subst, ◌∙◌, flat_map, filter_map, count_by, arith, filter_map-append, sum_by-append, ◌==◌, if◌then◌else◌, AllByRecursion, Config, Occurrence, Call, Attempt, Served, Deed, Enters, Leaves, Stays, Met, Turned_away, Met_no_one, Heard, Heard_partly, Heard_nothing, Heard_end, Gave, Gave_partly, Gave_nothing, Gave_up, Pumped_nothing, Pump_refused, Closed_gone, Paused, Reload_decided, Reload_undecided, calls, attempts, DoesDeed, Story, piece_for, amount_for, is_loss_of, is_short_for, got_of, count_of, is_end_of, IsJoined, AreJoined, Arrival, Peer, Lacks}
 use Rattle.serving.specs.Story.{Pumped}
 use Rattle.model.specs.declared.events.Arrival.TheVariants as arrival
 use Rattle.serving.proofs.Pairs.{peer_of, PairsWith, pairs_in}
@@ -71,7 +71,7 @@ joined_one p v w (Gave_up i q offered) os does pair = record { pieces = refl; am
 joined_one p v w Pumped os does pair = record { pieces = refl; amounts = refl; losses = refl }
 joined_one p v w Pumped_nothing os does pair = record { pieces = refl; amounts = refl; losses = refl }
 joined_one p v w Pump_refused os does pair = record { pieces = refl; amounts = refl; losses = refl }
-joined_one p v w (Let_go i q) os does pair = record { pieces = refl; amounts = refl; losses = refl }
+joined_one p v w (Closed_gone i q) os does pair = record { pieces = refl; amounts = refl; losses = refl }
 joined_one p v w Paused os does pair = record { pieces = refl; amounts = refl; losses = refl }
 joined_one p v w (Reload_decided g) os does pair = record { pieces = refl; amounts = refl; losses = refl }
 joined_one p v w (Reload_undecided g) os does pair = record { pieces = refl; amounts = refl; losses = refl }

@@ -1,5 +1,5 @@
 -- What a server did is one story, in which the promises are kept.
-use Rattle.serving.proofs.Names.{◌≡◌, ◌<◌, ℕ, zero, suc, ◌+◌, List, [], ◌∷◌, ◌++◌, Bool, true, false, Option, Some, length, slice_get, refl, sym, ap, subst, ◌∙◌, append_assoc, append-nil, flat_map, map, inl, inr, arith, MatchBool, AllByRecursion, Config, Happening, Occurrence, Of_event, events_of, notes_over, World, new_world, Answers, ByEvents, Same, Shows, shown, Plays, with_heard, IsConsistent, IsSound, Arrival, linked, new_is_consistent, IsOffered, ToldOver, over_told, over_at, over-append, over_plays, events-append, events-mapped, Ask, Told, Tells, Attempt, WorksPartly, FallsShort, Attempts, IsWhole, Served, served, Deed, Paused, calls, attempts, DoesDeed, Story, Serves, PumpsUp, RestsUnless, IsRound, Rounds, arrived, arrivals_of, seen_after, seen_of, IsServed, Peer, Lacks}
+use Rattle.serving.proofs.Names.{◌≡◌, ◌<◌, ℕ, zero, suc, ◌+◌, List, [], ◌∷◌, ◌++◌, Bool, true, false, Option, Some, length, slice_get, refl, sym, ap, subst, ◌∙◌, append_assoc, append-nil, flat_map, map, inl, inr, arith, MatchBool, AllByRecursion, Config, Happening, Occurrence, Of_event, events_of, notes_over, World, new_world, Answers, ByEvents, Same, Shows, shown, Plays, with_heard, IsConsistent, IsSound, Arrival, linked, new_is_consistent, IsOffered, ToldOver, over_told, over_at, over-append, over_plays, events-append, events-mapped, Ask, Traffic, AddsCalls, Attempt, WorksPartly, FallsShort, Attempts, IsWhole, Served, served, Deed, Paused, calls, attempts, DoesDeed, Story, Serves, PumpsUp, RestsUnless, IsRound, Rounds, arrived, arrivals_of, seen_after, seen_of, IsServed, Peer, Lacks}
 use Rattle.model.specs.declared.events.Arrival.TheVariants as arrival
 use Rattle.laws.proofs.Plays.{Told as ToldOf, told-append, told_at, told_same, told_works, told_waits, told_heard, told_taken}
 use Rattle.laws.proofs.Spoken.{Speaks, speaks_same, speaks_append, speaks_at, works_speaks, waits_speaks, takes_speaks, answer_speaks, spoken_from_start}
@@ -104,9 +104,9 @@ story_arrives L [] v w os s = (s.0, ap (λ (z : Served). z.world) s.1)
 story_arrives L (d ∷ ds) v w os (mid, first, rest, e, does, s) =
     subst (λ (z : List Occurrence). Attempts L v.world (attempts d ++ arrived ds) z w.world) (sym e) (attempts-append L (attempts d) (arrived ds) v.world mid.world w.world first rest does.brings (story_arrives L ds mid w rest s))
 
-pub story_asked : (L : Lacks) (ds : List Deed) (v w : Served) (os : List Occurrence) → Story L v ds os w → Tells v.told (flat_map calls ds) w.told
-story_asked L [] v w os s = subst (λ (z : Served). Tells v.told [] z.told) (sym s.1) (tells_none v.told)
-story_asked L (d ∷ ds) v w os (mid, first, rest, e, does, s) = tells_then v.told mid.told w.told (calls d) (flat_map calls ds) does.told (story_asked L ds mid w rest s)
+pub story_asked : (L : Lacks) (ds : List Deed) (v w : Served) (os : List Occurrence) → Story L v ds os w → AddsCalls v.traffic (flat_map calls ds) w.traffic
+story_asked L [] v w os s = subst (λ (z : Served). AddsCalls v.traffic [] z.traffic) (sym s.1) (tells_none v.traffic)
+story_asked L (d ∷ ds) v w os (mid, first, rest, e, does, s) = tells_then v.traffic mid.traffic w.traffic (calls d) (flat_map calls ds) does.traffic (story_asked L ds mid w rest s)
 
 -- ---- rounds
 
@@ -129,7 +129,7 @@ went_pumps n a b p s = (s.deeds, s.occurrences, s.story)
 went_rests : (L : Lacks) (v w : Served) (acted : Bool) → RestsUnless v acted w → Went L v w
 went_rests L v w true e = subst (λ (z : Served). Went L v z) (sym e) (went v v [] false (serves_not v))
 went_rests L v w false (e, t) =
-    went_one v w Paused [] (record { table = ap (λ (z : Served). z.peers) e; brings = (refl, ap (λ (z : Served). z.world) e); greets = tt; told = t })
+    went_one v w Paused [] (record { table = ap (λ (z : Served). z.peers) e; brings = (refl, ap (λ (z : Served). z.world) e); greets = tt; traffic = t })
 
 went_round : {L : Lacks} (a b : Served) → IsRound L a b → Went L a b
 went_round {L = L} a b r =
@@ -145,9 +145,9 @@ pub went_rounds : (L : Lacks) (n : ℕ) (a b : Served) → Rounds L n a b → We
 went_rounds L zero a b e = subst (λ (z : Served). Went L a z) (sym e) (went a a [] false (serves_not a))
 went_rounds L (suc n) a b (mid, rs, r) = went_then L a mid b (went_rounds L n a mid rs) (went_round mid b r)
 
-is_served : {L : Lacks} (f : Config) (told : Told) (new : Served) → IsSound f → Went L (served (new_world f) [] told) new → IsServed L f told new
-is_served {L = L} f told new sound (ds, os, s) =
-    let start = served (new_world f) [] told in
+is_served : {L : Lacks} (f : Config) (traffic : Traffic) (new : Served) → IsSound f → Went L (served (new_world f) [] traffic) new → IsServed L f traffic new
+is_served {L = L} f traffic new sound (ds, os, s) =
+    let start = served (new_world f) [] traffic in
     let arrives = story_arrives L ds start new os s in
     let offered = story_offered L ds start new os s in
     record {
@@ -162,7 +162,7 @@ is_served {L = L} f told new sound (ds, os, s) =
           (told_attempts L (arrived ds) (new_world f) new.world os offered arrives)
           (spoken_from_start f (events_of os) new.world (attempts_speak L (arrived ds) (new_world f) new.world os offered (new_is_consistent f sound) arrives)) (shows_all os new.world);
       joined = are_joined L ds start new os refl s;
-      written = are_beginnings L f ds told new os sound s;
+      written = are_beginnings L f ds traffic new os sound s;
       counted = are_counted L ds start new os refl s;
     }
 
@@ -171,15 +171,15 @@ pub rounds_more : {L : Lacks} (n : ℕ) (a b c : Served) → Rounds L n a b → 
 rounds_more {L = L} n a b c rs r = let next : suc n ≡ n + 1 = omega arith in subst (λ (m : ℕ). Rounds L m a c) next (b, rs, r)
 
 -- what was served before is served after
-pub went_on : {L : Lacks} (f : Config) (told : Told) (old new : Served) → Went L old new → IsServed L f told old → IsServed L f told new
-went_on {L = L} f told old new w was = is_served f told new was.sound (went_then L (served (new_world f) [] told) old new (was.deeds, was.occurrences, was.story) w)
+pub went_on : {L : Lacks} (f : Config) (traffic : Traffic) (old new : Served) → Went L old new → IsServed L f traffic old → IsServed L f traffic new
+went_on {L = L} f traffic old new w was = is_served f traffic new was.sound (went_then L (served (new_world f) [] traffic) old new (was.deeds, was.occurrences, was.story) w)
 
-pub served_on : {L : Lacks} (f : Config) (told : Told) (n : ℕ) (old new : Served) → Rounds L n old new → IsServed L f told old → IsServed L f told new
-served_on {L = L} f told n old new rs was = went_on f told old new (went_rounds L n old new rs) was
+pub served_on : {L : Lacks} (f : Config) (traffic : Traffic) (n : ℕ) (old new : Served) → Rounds L n old new → IsServed L f traffic old → IsServed L f traffic new
+served_on {L = L} f traffic n old new rs was = went_on f traffic old new (went_rounds L n old new rs) was
 
 -- a new server is served
-pub new_served : {L : Lacks} (f : Config) (w : World) (ps : List (Option Peer)) (told : Told) → IsSound f → w ≡ new_world f → ps ≡ [] → IsServed L f told (served w ps told)
-new_served {L = L} f w ps told sound fresh none =
-    let start = served (new_world f) [] told in
-    subst (λ (z : World). IsServed L f told (served z ps told)) (sym fresh)
-    (subst (λ (z : List (Option Peer)). IsServed L f told (served (new_world f) z told)) (sym none) (is_served f told start sound (went start start [] false (serves_not start))))
+pub new_served : {L : Lacks} (f : Config) (w : World) (ps : List (Option Peer)) (traffic : Traffic) → IsSound f → w ≡ new_world f → ps ≡ [] → IsServed L f traffic (served w ps traffic)
+new_served {L = L} f w ps traffic sound fresh none =
+    let start = served (new_world f) [] traffic in
+    subst (λ (z : World). IsServed L f traffic (served z ps traffic)) (sym fresh)
+    (subst (λ (z : List (Option Peer)). IsServed L f traffic (served (new_world f) z traffic)) (sym none) (is_served f traffic start sound (went start start [] false (serves_not start))))

@@ -4,7 +4,7 @@ pub mod Onward
 pub mod Deeds
 pub mod Pumping
 pub mod Staying
-pub mod Apart
+pub mod Others
 pub mod Fits
 pub mod Quieting
 pub mod Fullness

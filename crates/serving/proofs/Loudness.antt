@@ -3,7 +3,7 @@ use Rattle.serving.proofs.Names.{◌≡◌, ◌≤◌, ◌<◌, ◌+◌, ◌-◌
 use Rattle.std.proofs.Common.{not}
 use Rattle.std.proofs.Math.Nat.{max-eq_left, max-eq_right}
 use Rattle.marks.specs.Places.{Differs, IsNextMark, bit_of}
-use Rattle.serving.proofs.Apart.{due_at, later_on}
+use Rattle.serving.proofs.Others.{due_at, later_on}
 use Rattle.serving.proofs.Quieting.{marked_ended, marked_silent}
 
 -- ---- marks and the set

@@ -1,9 +1,9 @@
 -- One more deed, and what a server does after what it did.
-use Rattle.serving.proofs.Names.{◌≡◌, ◌+◌, ◌⊎◌, inl, inr, ℕ, List, [], ◌∷◌, ◌++◌, length, Bool, true, false, Option, Some, None, flat_map, count_by, refl, sym, ap, subst, ◌∙◌, append_assoc, append-nil, arith, ◌==◌, ◌||◌, if◌then◌else◌, MatchBool, none-some, list_any, flat_map-append, filter_map-append, list_any-append, sum_by-append, IsIn, Occurrence, World, Call, Accepted, Not_accepted, Accept_failed, Got, Nothing_got, Read_ended, Read_failed, Took, Nothing_taken, Write_failed, Closed, Welcomed, Parted, Rested, Ask, ask, asks, Totals, no_bytes, with_got, with_taken, total_after, totals_after, Told, Tells, Follows, is_failed, Attempt, Brings, Attempts, Served, served, Deed, calls, is_done, is_unasked, DoesDeed, Story, Serves, RestsUnless, Lacks, Peer}
+use Rattle.serving.proofs.Names.{◌≡◌, ◌+◌, ◌⊎◌, inl, inr, ℕ, List, [], ◌∷◌, ◌++◌, length, Bool, true, false, Option, Some, None, flat_map, count_by, refl, sym, ap, subst, ◌∙◌, append_assoc, append-nil, arith, ◌==◌, ◌||◌, if◌then◌else◌, MatchBool, none-some, list_any, flat_map-append, filter_map-append, list_any-append, sum_by-append, IsIn, Occurrence, World, Call, Accepted, Not_accepted, Accept_failed, Got, Nothing_got, Read_ended, Read_failed, Took, Nothing_taken, Write_failed, Closed, Welcomed, Farewell, Rested, Ask, ask, asks, Totals, no_bytes, with_got, with_taken, total_after, totals_after, Traffic, AddsCalls, Follows, is_failed, Attempt, Brings, Attempts, Served, served, Deed, calls, is_done, is_unasked, DoesDeed, Story, Serves, RestsUnless, Lacks, Peer}
 
 -- ---- what a wire tells
 
-follows_none : (told : Option (List Call)) → Follows told [] told
+follows_none : (traffic : Option (List Call)) → Follows traffic [] traffic
 follows_none None = tt
 follows_none (Some xs) = (xs, refl, sym (append-nil xs))
 
@@ -53,19 +53,19 @@ totals_any s o (Nothing_taken r offered ∷ ys) t e = totals_any s o ys t e
 totals_any s o (Write_failed r offered ∷ ys) t e = totals_any s o ys t e
 totals_any s o (Closed r ∷ ys) t e = totals_any s o ys t e
 totals_any s o (Welcomed r ∷ ys) t e = totals_any s o ys t e
-totals_any s o (Parted r ∷ ys) t e = totals_any s o ys t e
+totals_any s o (Farewell r ∷ ys) t e = totals_any s o ys t e
 totals_any s o (Rested ∷ ys) t e = totals_any s o ys t e
 
 totals_then : (s : ℕ) (a b c : Option Totals) (xs ys : List Call) (t : Totals) → ((u : Totals) → b ≡ Some u → totals_after s a xs ≡ Some u) → (c ≡ Some t → totals_after s b ys ≡ Some t) → c ≡ Some t → totals_after s a (xs ++ ys) ≡ Some t
 totals_then s a None c xs ys t f g e = totals-append s a xs ys ∙ totals_any s (totals_after s a xs) ys t (g e)
 totals_then s a (Some u) c xs ys t f g e = totals-append s a xs ys ∙ ap (λ (o : Option Totals). totals_after s o ys) (f u refl) ∙ g e
 
-pub tells_none : (told : Told) → Tells told [] told
-tells_none told =
-    let none : told.failures ≡ told.failures + 0 = omega arith in
-    record { calls = follows_none told.calls; failures = none; kept = λ s e. e; given = λ s i. absurd i; totals = λ s t e. e }
+pub tells_none : (traffic : Traffic) → AddsCalls traffic [] traffic
+tells_none traffic =
+    let none : traffic.failures ≡ traffic.failures + 0 = omega arith in
+    record { calls = follows_none traffic.calls; failures = none; kept = λ s e. e; given = λ s i. absurd i; totals = λ s t e. e }
 
-pub tells_then : (a b c : Told) (xs ys : List Call) → Tells a xs b → Tells b ys c → Tells a (xs ++ ys) c
+pub tells_then : (a b c : Traffic) (xs ys : List Call) → AddsCalls a xs b → AddsCalls b ys c → AddsCalls a (xs ++ ys) c
 tells_then a b c xs ys s t = record {
   calls = follows_then a.calls b.calls c.calls xs ys s.calls t.calls;
   failures = t.failures ∙ ap (λ (n : ℕ). n + count_by is_failed ys) s.failures ∙ failed_then a.failures xs ys;
@@ -90,9 +90,9 @@ story-append L (d ∷ ds) es a b c os ps (mid, first, rest, e, does, s) t =
     (mid, first, rest ++ ps, ap (λ (z : List Occurrence). z ++ ps) e ∙ append_assoc first rest ps, does, story-append L ds es mid b c rest ps s t)
 
 -- the same, of slots that are so
-pub serves_at : {L : Lacks} (old : Served) (asked : List Ask) (acted : Bool) (w : World) (ps qs : List (Option Peer)) (told : Told) → qs ≡ ps
-    → Serves L old asked acted (served w ps told) → Serves L old asked acted (served w qs told)
-serves_at {L} old asked acted w ps qs told e s = subst (λ (zs : List (Option Peer)). Serves L old asked acted (served w zs told)) (sym e) s
+pub serves_at : {L : Lacks} (old : Served) (asked : List Ask) (acted : Bool) (w : World) (ps qs : List (Option Peer)) (traffic : Traffic) → qs ≡ ps
+    → Serves L old asked acted (served w ps traffic) → Serves L old asked acted (served w qs traffic)
+serves_at {L} old asked acted w ps qs traffic e s = subst (λ (zs : List (Option Peer)). Serves L old asked acted (served w zs traffic)) (sym e) s
 
 pub serves_then : {L : Lacks} (a b c : Served) (xs ys : List Ask) (p q : Bool) → Serves L a xs p b → Serves L b ys q c → Serves L a (xs ++ ys) (p || q) c
 serves_then {L = L} a b c xs ys p q s t = record {
@@ -127,10 +127,10 @@ attempt_two L a b c t u os ps br cr = (b, os, ps, refl, br, attempt_one L b c u 
 
 -- ---- rests
 
-pub rests_once : (v : Served) (acted : Bool) (now : Told) → acted ≡ false → Tells v.told (Rested ∷ []) now → RestsUnless v acted (served v.world v.peers now)
+pub rests_once : (v : Served) (acted : Bool) (now : Traffic) → acted ≡ false → AddsCalls v.traffic (Rested ∷ []) now → RestsUnless v acted (served v.world v.peers now)
 rests_once v acted now quiet t =
     let w = served v.world v.peers now in
-    subst (λ (x : Bool). MatchBool x (w ≡ v) ((w ≡ record v { told = now }) × Tells v.told (Rested ∷ []) now)) (sym quiet) (refl, t)
+    subst (λ (x : Bool). MatchBool x (w ≡ v) ((w ≡ record v { traffic = now }) × AddsCalls v.traffic (Rested ∷ []) now)) (sym quiet) (refl, t)
 
 pub rests_not : (v : Served) (acted : Bool) → acted ≡ true → RestsUnless v acted v
-rests_not v acted busy = subst (λ (x : Bool). MatchBool x (v ≡ v) ((v ≡ v) × Tells v.told (Rested ∷ []) v.told)) (sym busy) refl
+rests_not v acted busy = subst (λ (x : Bool). MatchBool x (v ≡ v) ((v ≡ v) × AddsCalls v.traffic (Rested ∷ []) v.traffic)) (sym busy) refl

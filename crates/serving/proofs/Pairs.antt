@@ -1,5 +1,5 @@
 -- In every story a connection has one socket, and a socket one connection.
-use Rattle.serving.proofs.Names.{◌≡◌, ◌≢◌, ◌≤◌, true, ℕ, ◌+◌, List, [], ◌∷◌, ◌++◌, Option, Some, None, refl, sym, ap, subst, ◌∙◌, ◌⊎◌, inl, inr, slice_set, arith, eq-eqb, ne_eqb, false≢true, ◌==◌, AllByRecursion, IsIn, Occurrence, in_back, Call, Accepted, Tells, IsFresh, Served, At, Filled, Deed, Met, Turned_away, Met_no_one, Heard, Heard_partly, Heard_nothing, Heard_end, Gave, Gave_partly, Gave_nothing, Gave_up, Pumped_nothing, Pump_refused, Let_go, Paused, Reload_decided, Reload_undecided, attempts, Table, DoesDeed, Story, met_by, all_met, Peer, Lacks}
+use Rattle.serving.proofs.Names.{◌≡◌, ◌≢◌, ◌≤◌, true, ℕ, ◌+◌, List, [], ◌∷◌, ◌++◌, Option, Some, None, refl, sym, ap, subst, ◌∙◌, ◌⊎◌, inl, inr, slice_set, arith, eq-eqb, ne_eqb, false≢true, ◌==◌, AllByRecursion, IsIn, Occurrence, in_back, Call, Accepted, AddsCalls, IsFresh, Served, At, Filled, Deed, Met, Turned_away, Met_no_one, Heard, Heard_partly, Heard_nothing, Heard_end, Gave, Gave_partly, Gave_nothing, Gave_up, Pumped_nothing, Pump_refused, Closed_gone, Paused, Reload_decided, Reload_undecided, attempts, Table, DoesDeed, Story, met_by, all_met, Peer, Lacks}
 use Rattle.serving.specs.Story.{Pumped}
 use Rattle.serving.proofs.Fits.{freed_at, filled_at, attempts_le, met_given}
 
@@ -19,7 +19,7 @@ peer_of (Gave_up i p offered) = Some p
 peer_of Pumped = None
 peer_of Pumped_nothing = None
 peer_of Pump_refused = None
-peer_of (Let_go i p) = Some p
+peer_of (Closed_gone i p) = Some p
 peer_of Paused = None
 peer_of (Reload_decided g) = None
 peer_of (Reload_undecided g) = None
@@ -31,10 +31,10 @@ SamePair p q = (q.connection == p.connection) ≡ (q.socket == p.socket)
 pub record Knows (known : List Peer) (v : Served) : Type 0 where
   pub slots : (i : ℕ) (p : Peer) → At v.peers i p → IsIn p known
   pub given : (p : Peer) → IsIn p known → p.connection ≤ v.world.given
-  pub named : (p : Peer) → IsIn p known → v.told.is_given p.socket ≡ true
+  pub named : (p : Peer) → IsIn p known → v.traffic.is_given p.socket ≡ true
   pub pairs : (p q : Peer) → IsIn p known → IsIn q known → SamePair p q
 
-knows_on : (known : List Peer) (v w : Served) (more : List Call) → ((i : ℕ) (p : Peer) → At w.peers i p → At v.peers i p) → v.world.given ≤ w.world.given → Tells v.told more w.told → Knows known v → Knows known w
+knows_on : (known : List Peer) (v w : Served) (more : List Call) → ((i : ℕ) (p : Peer) → At w.peers i p → At v.peers i p) → v.world.given ≤ w.world.given → AddsCalls v.traffic more w.traffic → Knows known v → Knows known w
 knows_on known v w more sub le t k = record {
   slots = λ i p at. k.slots i p (sub i p at);
   given = λ p i. let g = k.given p i in omega (arith, g, le);
@@ -42,17 +42,17 @@ knows_on known v w more sub le t k = record {
   pairs = k.pairs;
 }
 
-knows_same : (known : List Peer) (v w : Served) (more : List Call) → w.peers ≡ v.peers → v.world.given ≤ w.world.given → Tells v.told more w.told → Knows known v → Knows known w
+knows_same : (known : List Peer) (v w : Served) (more : List Call) → w.peers ≡ v.peers → v.world.given ≤ w.world.given → AddsCalls v.traffic more w.traffic → Knows known v → Knows known w
 knows_same known v w more same le e k = knows_on known v w more (λ i p at. subst (λ (z : List (Option Peer)). At z i p) same at) le e k
 
-knows_freed : (known : List Peer) (v w : Served) (j : ℕ) (more : List Call) → w.peers ≡ slice_set v.peers j None → v.world.given ≤ w.world.given → Tells v.told more w.told → Knows known v → Knows known w
+knows_freed : (known : List Peer) (v w : Served) (j : ℕ) (more : List Call) → w.peers ≡ slice_set v.peers j None → v.world.given ≤ w.world.given → AddsCalls v.traffic more w.traffic → Knows known v → Knows known w
 knows_freed known v w j more freed le e k = knows_on known v w more (λ i p at. freed_at v.peers j i p (subst (λ (z : List (Option Peer)). At z i p) freed at)) le e k
 
 -- one whose connection and socket both are new is paired with none before it
 new_pair : (p q : Peer) → q.connection ≢ p.connection → q.socket ≢ p.socket → SamePair p q
 new_pair p q c s = ne_eqb q.connection p.connection c ∙ sym (ne_eqb q.socket p.socket s)
 
-knows_met : (known : List Peer) (v w : Served) (i : ℕ) (p : Peer) → p.connection ≡ v.world.given + 1 → w.world.given ≡ v.world.given + 1 → IsFresh p.socket v.told → Filled v.peers i p w.peers → Tells v.told (Accepted p.socket ∷ []) w.told → Knows known v
+knows_met : (known : List Peer) (v w : Served) (i : ℕ) (p : Peer) → p.connection ≡ v.world.given + 1 → w.world.given ≡ v.world.given + 1 → IsFresh p.socket v.traffic → Filled v.peers i p w.peers → AddsCalls v.traffic (Accepted p.socket ∷ []) w.traffic → Knows known v
     → Knows (p ∷ known) w
 knows_met known v w i p number more fresh filled t k = record {
   slots = λ j q at. slot j q (filled_at v.peers w.peers i p filled j q at);
@@ -69,12 +69,12 @@ knows_met known v w i p number more fresh filled t k = record {
     given q (inl is) = let n = ap (λ (z : Peer). z.connection) is in omega (arith, n, number, more)
     given q (inr x) = let g = k.given q x in omega (arith, g, more)
 
-    named : (q : Peer) → IsIn q (p ∷ known) → w.told.is_given q.socket ≡ true
+    named : (q : Peer) → IsIn q (p ∷ known) → w.traffic.is_given q.socket ≡ true
     named q (inl is) = t.given q.socket (inl (ap (λ (z : Peer). Accepted z.socket) is))
     named q (inr x) = t.kept q.socket (k.named q x)
 
     other : (q : Peer) → IsIn q known → (q.connection ≢ p.connection) × (q.socket ≢ p.socket)
-    other q x = (λ same. let g = k.given q x in omega (arith, g, number, same), λ same. false≢true (sym fresh ∙ subst (λ (s : ℕ). v.told.is_given s ≡ true) same (k.named q x)))
+    other q x = (λ same. let g = k.given q x in omega (arith, g, number, same), λ same. false≢true (sym fresh ∙ subst (λ (s : ℕ). v.traffic.is_given s ≡ true) same (k.named q x)))
 
     pairs : (q r : Peer) → IsIn q (p ∷ known) → IsIn r (p ∷ known) → SamePair q r
     pairs q r (inl x) (inl y) =
@@ -99,24 +99,24 @@ pub goes : {L : Lacks} (known : List Peer) (v w : Served) (d : Deed) (os : List 
 goes {L = L} known v w d os does k = go d does.table (attempts_le L (attempts d) v.world w.world os does.brings) does
   where
     go : (d : Deed) → Table L v d w.peers → v.world.given ≤ w.world.given → DoesDeed L v d os w → Goes known d w
-    go (Met i p) t le does = record { knows = knows_met known v w i p t.1 (met_given L v.world w.world os t.0 does.brings) t.2 t.3 does.told k; mine = inl refl }
-    go (Turned_away s o) t le does = record { knows = knows_same known v w _ t.3 le does.told k; mine = tt }
-    go (Met_no_one x) t le does = record { knows = knows_same known v w _ t le does.told k; mine = tt }
-    go (Heard i p room bytes passage) t le does = record { knows = knows_same known v w _ t.1.1 le does.told k; mine = k.slots i p t.1.0 }
-    go (Heard_partly i p room bytes) t le does = record { knows = knows_freed known v w i _ t.1.1 le does.told k; mine = k.slots i p t.1.0 }
-    go (Heard_nothing i p room) t le does = record { knows = knows_same known v w _ t.1.1 le does.told k; mine = k.slots i p t.1.0 }
-    go (Heard_end i p room x) t le does = record { knows = knows_freed known v w i _ t.1.1 le does.told k; mine = k.slots i p t.1.0 }
-    go (Gave i p offered taken passage) t le does = record { knows = knows_same known v w _ t.2.1 le does.told k; mine = k.slots i p t.2.0 }
-    go (Gave_partly i p offered taken) t le does = record { knows = knows_freed known v w i _ t.2.1 le does.told k; mine = k.slots i p t.2.0 }
-    go (Gave_nothing i p offered) t le does = record { knows = knows_same known v w _ t.1.1 le does.told k; mine = k.slots i p t.1.0 }
-    go (Gave_up i p offered) t le does = record { knows = knows_freed known v w i _ t.1.1 le does.told k; mine = k.slots i p t.1.0 }
-    go Pumped t le does = record { knows = knows_same known v w _ t.1 le does.told k; mine = tt }
-    go Pumped_nothing t le does = record { knows = knows_same known v w _ t.1 le does.told k; mine = tt }
-    go Pump_refused t le does = record { knows = knows_same known v w _ t le does.told k; mine = tt }
-    go (Let_go i p) t le does = record { knows = knows_freed known v w i _ t.1.1 le does.told k; mine = k.slots i p t.1.0 }
-    go Paused t le does = record { knows = knows_same known v w _ t le does.told k; mine = tt }
-    go (Reload_decided g) t le does = record { knows = knows_same known v w _ t.1 le does.told k; mine = tt }
-    go (Reload_undecided g) t le does = record { knows = knows_same known v w _ t.1 le does.told k; mine = tt }
+    go (Met i p) t le does = record { knows = knows_met known v w i p t.1 (met_given L v.world w.world os t.0 does.brings) t.2 t.3 does.traffic k; mine = inl refl }
+    go (Turned_away s o) t le does = record { knows = knows_same known v w _ t.3 le does.traffic k; mine = tt }
+    go (Met_no_one x) t le does = record { knows = knows_same known v w _ t le does.traffic k; mine = tt }
+    go (Heard i p room bytes passage) t le does = record { knows = knows_same known v w _ t.1.1 le does.traffic k; mine = k.slots i p t.1.0 }
+    go (Heard_partly i p room bytes) t le does = record { knows = knows_freed known v w i _ t.1.1 le does.traffic k; mine = k.slots i p t.1.0 }
+    go (Heard_nothing i p room) t le does = record { knows = knows_same known v w _ t.1.1 le does.traffic k; mine = k.slots i p t.1.0 }
+    go (Heard_end i p room x) t le does = record { knows = knows_freed known v w i _ t.1.1 le does.traffic k; mine = k.slots i p t.1.0 }
+    go (Gave i p offered taken passage) t le does = record { knows = knows_same known v w _ t.2.1 le does.traffic k; mine = k.slots i p t.2.0 }
+    go (Gave_partly i p offered taken) t le does = record { knows = knows_freed known v w i _ t.2.1 le does.traffic k; mine = k.slots i p t.2.0 }
+    go (Gave_nothing i p offered) t le does = record { knows = knows_same known v w _ t.1.1 le does.traffic k; mine = k.slots i p t.1.0 }
+    go (Gave_up i p offered) t le does = record { knows = knows_freed known v w i _ t.1.1 le does.traffic k; mine = k.slots i p t.1.0 }
+    go Pumped t le does = record { knows = knows_same known v w _ t.1 le does.traffic k; mine = tt }
+    go Pumped_nothing t le does = record { knows = knows_same known v w _ t.1 le does.traffic k; mine = tt }
+    go Pump_refused t le does = record { knows = knows_same known v w _ t le does.traffic k; mine = tt }
+    go (Closed_gone i p) t le does = record { knows = knows_freed known v w i _ t.1.1 le does.traffic k; mine = k.slots i p t.1.0 }
+    go Paused t le does = record { knows = knows_same known v w _ t le does.traffic k; mine = tt }
+    go (Reload_decided g) t le does = record { knows = knows_same known v w _ t.1 le does.traffic k; mine = tt }
+    go (Reload_undecided g) t le does = record { knows = knows_same known v w _ t.1 le does.traffic k; mine = tt }
 
 -- ---- whole stories
 

@@ -1,8 +1,8 @@
 -- A slot that is marked is quiet, and what comes for other connections leaves it so.
-use Rattle.serving.proofs.Names.{◌≡◌, ◌≢◌, ◌≤◌, ◌+◌, ◌⊎◌, ℕ, suc, zero, List, [], ◌∷◌, Bool, true, false, Option, Some, None, length, refl, sym, ap, subst, ◌∙◌, inl, inr, slice_set, slice_index_or, arith, false≢true, le-ltb, ltb-false, same_Some, nat_le, nat_lt, ◌&&◌, if◌then◌else◌, World, Same, is_over, is_gone, is_paused, has_output, To_write, At, Filled, ApartFrom, IsFit, StaysOrFrees, IsQuiet, IsMarkedAt, AreQuiet, AreSeated, IsOther, Wakes, HasEnded, write_of, Peer}
+use Rattle.serving.proofs.Names.{◌≡◌, ◌≢◌, ◌≤◌, ◌+◌, ◌⊎◌, ℕ, suc, zero, List, [], ◌∷◌, Bool, true, false, Option, Some, None, length, refl, sym, ap, subst, ◌∙◌, inl, inr, slice_set, slice_index_or, arith, false≢true, le-ltb, ltb-false, same_Some, nat_le, nat_lt, ◌&&◌, if◌then◌else◌, World, Same, is_over, is_gone, is_paused, has_output, To_write, At, Filled, OthersStay, IsFit, StaysOrFrees, IsQuiet, IsMarkedAt, AreQuiet, AreInSlots, IsOther, Wakes, HasEnded, write_of, Peer}
 use Rattle.std.proofs.Common.{not}
 use Rattle.serving.proofs.Turning.{awake_stands}
-use Rattle.serving.proofs.Apart.{StaysFor, others_stay, same_stays, output_stays, awake_stays, gone_stays}
+use Rattle.serving.proofs.Others.{StaysFor, others_stay, same_stays, output_stays, awake_stays, gone_stays}
 use Rattle.serving.proofs.Fits.{freed_at, fit_on}
 
 -- ---- marks
@@ -96,27 +96,27 @@ pub quiet_idle : (a b : World) (ps qs : List (Option Peer)) (i : ℕ) (ms ns : L
 quiet_idle a b ps qs i ms ns same slots marks quiet = still_quiet a b ps qs ms ns quiet (λ j q at m. (at_before ps qs i slots j q at, sym (marks j) ∙ m, same_stays a b same q.connection))
 
 -- something happened for the connection of one slot, which is not marked now
-pub seated_idle : (a b : World) (ps : List (Option Peer)) (ms : List Bool) → Same a b → AreSeated a ps ms → AreSeated b ps ms
-seated_idle a b ps ms same k = record { fit = fit_on a b ps same.given k.fit; quiet = quiet_idle a b ps ps 0 ms ms same (inl refl) (λ j. refl) k.quiet }
+pub in_slots_idle : (a b : World) (ps : List (Option Peer)) (ms : List Bool) → Same a b → AreInSlots a ps ms → AreInSlots b ps ms
+in_slots_idle a b ps ms same k = record { fit = fit_on a b ps same.given k.fit; quiet = quiet_idle a b ps ps 0 ms ms same (inl refl) (λ j. refl) k.quiet }
 
-pub quiet_apart : (a b : World) (ps qs : List (Option Peer)) (i : ℕ) (p : Peer) (ms ns : List Bool) → IsFit a ps → At ps i p → ApartFrom p.connection a b → StaysOrFrees ps i qs
+pub quiet_apart : (a b : World) (ps qs : List (Option Peer)) (i : ℕ) (p : Peer) (ms ns : List Bool) → IsFit a ps → At ps i p → OthersStay p.connection a b → StaysOrFrees ps i qs
     → ((j : ℕ) → IsMarkedAt ns j → (j ≢ i) × IsMarkedAt ms j) → AreQuiet a ps ms → AreQuiet b qs ns
-quiet_apart a b ps qs i p ms ns fit here apart slots marks quiet = still_quiet a b ps qs ms ns quiet (λ j q at m.
+quiet_apart a b ps qs i p ms ns fit here distinct slots marks quiet = still_quiet a b ps qs ms ns quiet (λ j q at m.
     let before : At ps j q = at_before ps qs i slots j q at in
     let old = marks j m in
-    (before, old.1, others_stay p.connection a b apart q.connection (λ e. old.0 (fit.apart j i q p before here e))))
+    (before, old.1, others_stay p.connection a b distinct q.connection (λ e. old.0 (fit.distinct j i q p before here e))))
 
 -- a slot was filled by a connection that was opened
-pub quiet_met : (a b : World) (ps qs : List (Option Peer)) (i : ℕ) (p : Peer) (ms : List Bool) → IsFit a ps → ApartFrom (a.given + 1) a b → Filled ps i p qs → AreQuiet a ps ms → AreQuiet b qs (slice_set ms i false)
-quiet_met a b ps qs i p ms fit apart filled quiet = still_quiet a b ps qs ms (slice_set ms i false) quiet (λ j q at m.
+pub quiet_met : (a b : World) (ps qs : List (Option Peer)) (i : ℕ) (p : Peer) (ms : List Bool) → IsFit a ps → OthersStay (a.given + 1) a b → Filled ps i p qs → AreQuiet a ps ms → AreQuiet b qs (slice_set ms i false)
+quiet_met a b ps qs i p ms fit distinct filled quiet = still_quiet a b ps qs ms (slice_set ms i false) quiet (λ j q at m.
     let old = still_marked ms i j m in
     let before : At ps j q = sym (filled.others j old.0) ∙ at in
     let given = fit.given j q before in
-    (before, old.1, others_stay (a.given + 1) a b apart q.connection (λ e. omega (arith, given, e))))
+    (before, old.1, others_stay (a.given + 1) a b distinct q.connection (λ e. omega (arith, given, e))))
 
 -- something was delivered to connection c, and its slot is not marked now
-pub quiet_woken : (a b : World) (ps : List (Option Peer)) (c : ℕ) (ms ns : List Bool) → ApartFrom c a b → Wakes c ps ms ns → AreQuiet a ps ms → AreQuiet b ps ns
-quiet_woken a b ps c ms ns apart wakes quiet = still_quiet a b ps ps ms ns quiet (λ j q at m. let w = (wakes j).0 m in (at, w.0, others_stay c a b apart q.connection (w.1 q at)))
+pub quiet_woken : (a b : World) (ps : List (Option Peer)) (c : ℕ) (ms ns : List Bool) → OthersStay c a b → Wakes c ps ms ns → AreQuiet a ps ms → AreQuiet b ps ns
+quiet_woken a b ps c ms ns distinct wakes quiet = still_quiet a b ps ps ms ns quiet (λ j q at m. let w = (wakes j).0 m in (at, w.0, others_stay c a b distinct q.connection (w.1 q at)))
 
 -- where one mark was taken away the others stay
 marked_elsewhere : (marks : List Bool) (i j : ℕ) → j ≢ i → IsMarkedAt marks j → IsMarkedAt (slice_set marks i false) j
@@ -129,7 +129,7 @@ marked_elsewhere (x ∷ xs) (suc i) (suc j) ne m = marked_elsewhere xs i j (λ e
 -- the slot of connection c has lost its mark
 pub woken : (w : World) (ps : List (Option Peer)) (i : ℕ) (p : Peer) (c : ℕ) (ms : List Bool) → IsFit w ps → At ps i p → p.connection ≡ c → Wakes c ps ms (slice_set ms i false)
 woken w ps i p c ms fit here is = λ j. (
-  λ m. let old = still_marked ms i j m in (old.1, λ q at e. old.0 (fit.apart j i q p at here (e ∙ sym is))),
+  λ m. let old = still_marked ms i j m in (old.1, λ q at e. old.0 (fit.distinct j i q p at here (e ∙ sym is))),
   λ was. marked_elsewhere ms i j (λ e. was.1 p (subst (λ (k : ℕ). At ps k p) (sym e) here) is) was.0,
 )
 
@@ -179,10 +179,10 @@ pub output_due : (w : World) (ps : List (Option Peer)) (i : ℕ) (p : Peer) → 
 output_due w ps i p at e = ap (write_of w) at ∙ ap (λ (x : Bool). if x then To_write p.socket (w.wire p.connection).output ∷ [] else []) e
 
 -- a slot that had ended has ended, where something happened for another
-pub ended_apart : (a b : World) (ps qs : List (Option Peer)) (i : ℕ) (p : Peer) → IsFit a ps → At ps i p → ApartFrom p.connection a b → StaysOrFrees ps i qs → (j : ℕ) → j ≢ i → HasEnded a ps j → HasEnded b qs j
-ended_apart a b ps qs i p fit here apart slots j ne ended = λ q at.
+pub ended_apart : (a b : World) (ps qs : List (Option Peer)) (i : ℕ) (p : Peer) → IsFit a ps → At ps i p → OthersStay p.connection a b → StaysOrFrees ps i qs → (j : ℕ) → j ≢ i → HasEnded a ps j → HasEnded b qs j
+ended_apart a b ps qs i p fit here distinct slots j ne ended = λ q at.
     let before : At ps j q = at_before ps qs i slots j q at in
-    gone_stays a b q.connection (others_stay p.connection a b apart q.connection (λ e. ne (fit.apart j i q p before here e))) ∙ ended q before
+    gone_stays a b q.connection (others_stay p.connection a b distinct q.connection (λ e. ne (fit.distinct j i q p before here e))) ∙ ended q before
 
 pub ended_before : (w : World) (ps qs : List (Option Peer)) (i : ℕ) → StaysOrFrees ps i qs → (j : ℕ) → HasEnded w ps j → HasEnded w qs j
 ended_before w ps qs i slots j ended = λ q at. ended q (at_before ps qs i slots j q at)

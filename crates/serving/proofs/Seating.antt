@@ -89,20 +89,20 @@ if_le false n m gone stands = stands refl
 
 -- a connection has one slot at most
 has_once : (c : ℕ) (ps : List (Option Peer)) → ((i j : ℕ) (p q : Peer) → At ps i p → At ps j q → p.connection ≡ q.connection → i ≡ j) → tally (has c) ps ≤ 1
-has_once c [] apart = omega arith
-has_once c (None ∷ ps) apart = has_once c ps (λ i j p q x y e. let same = apart (suc i) (suc j) p q x y e in omega (arith, same))
-has_once c (Some p ∷ ps) apart = cond_le (p.connection == c) (tally (has c) ps) 1 here (λ e. has_once c ps (λ i j q r x y f. let same = apart (suc i) (suc j) q r x y f in omega (arith, same)))
+has_once c [] distinct = omega arith
+has_once c (None ∷ ps) distinct = has_once c ps (λ i j p q x y e. let same = distinct (suc i) (suc j) p q x y e in omega (arith, same))
+has_once c (Some p ∷ ps) distinct = cond_le (p.connection == c) (tally (has c) ps) 1 here (λ e. has_once c ps (λ i j q r x y f. let same = distinct (suc i) (suc j) q r x y f in omega (arith, same)))
   where
     here : p.connection == c ≡ true → 1 + tally (has c) ps ≤ 1
     here e =
         let none : tally (has c) ps ≡ 0 = tally_none (has c) ps (λ i. has_not c (slice_index_or ps i None) (λ q at f.
-        let same : 0 ≡ suc i = apart 0 (suc i) p q refl at (eqb-true p.connection c e ∙ sym f) in
+        let same : 0 ≡ suc i = distinct 0 (suc i) p q refl at (eqb-true p.connection c e ∙ sym f) in
         absurd (omega (arith, same)))) in
         omega (arith, none)
 
 -- one number more: its connection is gone, and no slot has it, or it stands, and one slot at most has it
-seated_more : (w : World) (ps : List (Option Peer)) → IsFit w ps → ((i : ℕ) → HasEnded w ps i) → (n : ℕ) → tally (has_upto n) ps ≤ standing w n → tally (has_upto (suc n)) ps ≤ standing w (suc n)
-seated_more w ps fit ended n before = if_le (is_gone w (suc n)) (tally (has_upto (suc n)) ps) (standing w n) gone stands
+in_slots_more : (w : World) (ps : List (Option Peer)) → IsFit w ps → ((i : ℕ) → HasEnded w ps i) → (n : ℕ) → tally (has_upto n) ps ≤ standing w n → tally (has_upto (suc n)) ps ≤ standing w (suc n)
+in_slots_more w ps fit ended n before = if_le (is_gone w (suc n)) (tally (has_upto (suc n)) ps) (standing w n) gone stands
   where
     more : tally (has_upto (suc n)) ps ≤ tally (has_upto n) ps + tally (has (suc n)) ps
     more = tally_either (has_upto (suc n)) (has_upto n) (has (suc n)) ps (has_one_more n)
@@ -114,14 +114,14 @@ seated_more w ps fit ended n before = if_le (is_gone w (suc n)) (tally (has_upto
         omega (arith, before, more, none)
 
     stands : is_gone w (suc n) ≡ false → tally (has_upto (suc n)) ps ≤ standing w n + 1
-    stands e = let one = has_once (suc n) ps fit.apart in omega (arith, before, more, one)
+    stands e = let one = has_once (suc n) ps fit.distinct in omega (arith, before, more, one)
 
 -- the slots with connections up to n are no more than those connections that stand
-seated_upto : (w : World) (ps : List (Option Peer)) → IsFit w ps → ((i : ℕ) → HasEnded w ps i) → (n : ℕ) → tally (has_upto n) ps ≤ standing w n
-seated_upto w ps fit ended zero =
+in_slots_upto : (w : World) (ps : List (Option Peer)) → IsFit w ps → ((i : ℕ) → HasEnded w ps i) → (n : ℕ) → tally (has_upto n) ps ≤ standing w n
+in_slots_upto w ps fit ended zero =
     let none : tally (has_upto 0) ps ≡ 0 = tally_none (has_upto 0) ps (λ i. has_none_upto (slice_index_or ps i None) (fit.numbered i)) in
     omega (arith, none)
-seated_upto w ps fit ended (suc n) = seated_more w ps fit ended n (seated_upto w ps fit ended n)
+in_slots_upto w ps fit ended (suc n) = in_slots_more w ps fit ended n (in_slots_upto w ps fit ended n)
 
 both_first : (x y : Bool) → (x && y) ≡ true → x ≡ true
 both_first true y e = refl
@@ -131,10 +131,10 @@ both_first false y e = e
 pub slot_left : (w : World) (ps : List (Option Peer)) → IsFit w ps → ((i : ℕ) → HasEnded w ps i) → can_open w ≡ true → count_by is_some ps < 1024
 slot_left w ps fit ended can =
     let all : tally is_some ps ≤ tally (has_upto w.given) ps = tally_le is_some (has_upto w.given) ps (λ i. has_all_upto w.given (slice_index_or ps i None) (fit.given i)) in
-    let seated = seated_upto w ps fit ended w.given in
+    let in_slots = in_slots_upto w ps fit ended w.given in
     let few : standing w w.given < 1024 = ltb-true (standing w w.given) 1024 (both_first (nat_lt (standing w w.given) 1024) _ can) in
     let same = tally_counts is_some ps in
-    omega (arith, all, seated, few, same)
+    omega (arith, all, in_slots, few, same)
 
 -- ---- how many are taken from a slot on
 

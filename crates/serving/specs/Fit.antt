@@ -10,12 +10,12 @@ most_peers = 1024
 
 -- Each taken slot has a connection of its own, which was opened.
 pub record IsFit (w : World) (peers : List (Option Peer)) : Type 0 where
-  pub apart : (i j : ℕ) (p q : Peer) → At peers i p → At peers j q → p.connection ≡ q.connection → i ≡ j
+  pub distinct : (i j : ℕ) (p q : Peer) → At peers i p → At peers j q → p.connection ≡ q.connection → i ≡ j
   pub numbered : (i : ℕ) (p : Peer) → At peers i p → 0 < p.connection
   pub given : (i : ℕ) (p : Peer) → At peers i p → p.connection ≤ w.given
 
 -- each connection other than `c` keeps its phase, its unread bytes and its output
-pub record ApartFrom (c : ℕ) (old new : World) : Type 0 where
+pub record OthersStay (c : ℕ) (old new : World) : Type 0 where
   pub wires : (d : ℕ) → d ≢ c → new.wire d ≡ old.wire d
   pub sessions : (d : ℕ) → d ≢ c → new.state.session d ≡ old.state.session d
 

@@ -7,7 +7,7 @@ use Rattle.model.specs.Run.{put_out}
 use Rattle.model.specs.History.{Occurrence, events_of}
 use Rattle.model.specs.declared.events.Arrival.{Arrival}
 use Rattle.model.specs.declared.events.Arrival.TheVariants.{In, Sent, Lose}
-use Rattle.serving.specs.Wire.{Call, Told, Totals, Got, Read_ended, Read_failed, Took, Write_failed}
+use Rattle.serving.specs.Wire.{Call, Traffic, Totals, Got, Read_ended, Read_failed, Took, Write_failed}
 use Rattle.serving.specs.Coming.{Attempt}
 use Rattle.serving.specs.Story.{Deed, Met, calls, attempts}
 use Rattle.serving.specs.declared.peers.Peer.{Peer}
@@ -105,8 +105,8 @@ bytes_out c arrived = sum_by (λ (n : ℕ). n) (filter_map (amount_for c) arrive
 
 -- the totals that the wire knows of an accepted socket are right: the number of bytes that arrived for its connection, and the number of bytes
 -- that were taken of the connection's output
-abbrev pub AreCounted : List Deed → Told → Type 0
-AreCounted deeds told = (p : Peer) → IsIn p (all_met deeds) → (t : Totals) → told.totals p.socket ≡ Some t
+abbrev pub AreCounted : List Deed → Traffic → Type 0
+AreCounted deeds traffic = (p : Peer) → IsIn p (all_met deeds) → (t : Totals) → traffic.totals p.socket ≡ Some t
     → (t.got ≡ bytes_in p.connection (flat_map attempts deeds))
     × (t.taken ≡ bytes_out p.connection (flat_map attempts deeds))
 

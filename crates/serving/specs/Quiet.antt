@@ -57,13 +57,13 @@ abbrev pub Wakes : ℕ → List (Option Peer) → List Bool → List Bool → Ty
 Wakes c ps old new = (i : ℕ) → IsMarkedAt new i ↔ IsMarkedAt old i × IsOther c ps i
 
 -- The slots within a round: each taken one has a connection of its own, which is quiet if the slot is marked.
-pub record AreSeated (w : World) (ps : List (Option Peer)) (marks : List Bool) : Type 0 where
+pub record AreInSlots (w : World) (ps : List (Option Peer)) (marks : List Bool) : Type 0 where
   pub fit : IsFit w ps
   pub quiet : AreQuiet w ps marks
 
--- The slots between two rounds: seated, without a connection that is over with an empty output, and at least 1,024.
+-- The slots between two rounds: `AreInSlots`, without a connection that is over with an empty output, and at least 1,024.
 pub record AreSettled (w : World) (peers : Slab Peer) (marks : List Bool) : Type 0 where
-  pub seated : AreSeated w peers.slots marks
+  pub in_slots : AreInSlots w peers.slots marks
   pub ended : (i : ℕ) → HasEnded w peers.slots i
   pub most : most_peers ≤ peers.capacity
 

@@ -9,7 +9,7 @@ use Rattle.model.specs.Consuming.{CanDeliver}
 use Rattle.model.specs.Arrivals.{World, Answers, NoneCanDeliver, is_gone, can_open}
 use Rattle.model.specs.declared.events.Arrival.TheVariants as arrival
 use Rattle.serving.specs.Wire.{Call, Accepted, Not_accepted, Accept_failed, Got, Nothing_got, Read_ended, Read_failed}
-use Rattle.serving.specs.Wire.{Took, Nothing_taken, Write_failed, Closed, Welcomed, Parted, Rested, Ask, asks, Told, Tells, IsFresh}
+use Rattle.serving.specs.Wire.{Took, Nothing_taken, Write_failed, Closed, Welcomed, Farewell, Rested, Ask, asks, Traffic, AddsCalls, IsFresh}
 use Rattle.serving.specs.Coming.{Attempt, whole, short, Brings, Attempts}
 use Rattle.slab.specs.Slab.{Slab}
 use Rattle.runs.specs.Wants.{Lacks, To_open}
@@ -20,15 +20,15 @@ use Rattle.serving.specs.declared.peers.Peer.{Peer}
 pub record Served : Type 0 where
   pub world : World
   pub peers : List (Option Peer)
-  pub told : Told
+  pub traffic : Traffic
 
 -- a world, peers and a wire's knowledge as one value
-abbrev pub served : World → List (Option Peer) → Told → Served
-served w ps t = record { world = w; peers = ps; told = t }
+abbrev pub served : World → List (Option Peer) → Traffic → Served
+served w ps t = record { world = w; peers = ps; traffic = t }
 
--- the state within a round, of a machine, its peers and its wire; `world` and `told` say what contracts see of the machine and of the wire
-abbrev pub state : {M W : Type 0} → (M → World) → (W → Told) → M → Slab Peer → W → Served
-state world told machine peers wire = served (world machine) peers.slots (told wire)
+-- the state within a round, of a machine, its peers and its wire; `world` and `past` say what contracts see of the machine and of the wire
+abbrev pub state : {M W : Type 0} → (M → World) → (W → Traffic) → M → Slab Peer → W → Served
+state world past machine peers wire = served (world machine) peers.slots (past wire)
 
 -- the greatest length that a read is offered: the whole buffer, 65,536 bytes
 abbrev pub read_room : ℕ
@@ -79,17 +79,17 @@ pub data Deed : Type 0 where
   -- a pump that failed to allocate
   Pump_refused : Deed
   -- the connection is over with an empty output, so its socket is closed
-  Let_go : (slot : ℕ) → (peer : Peer) → Deed
+  Closed_gone : (slot : ℕ) → (peer : Peer) → Deed
   Paused : Deed
   -- a reload offered this configuration: it was put in force, or refused because of an obstacle
   Reload_decided : (offered : Config) → Deed
   -- the reload failed to allocate
   Reload_undecided : (offered : Config) → Deed
 
--- a socket whose connection starts running is welcomed; one whose connection stops running is bidden farewell
+-- `welcome` is called for a socket whose connection starts running, and `farewell` for one whose connection stops running
 abbrev pub greeting : ℕ → Passage → List Call
 greeting s Enters = Welcomed s ∷ []
-greeting s Leaves = Parted s ∷ []
+greeting s Leaves = Farewell s ∷ []
 greeting s Stays = []
 
 -- the calls of the wire in a deed, with their answers
@@ -108,7 +108,7 @@ calls (Gave_up i p offered) = Write_failed p.socket offered ∷ Closed p.socket 
 calls Pumped = []
 calls Pumped_nothing = []
 calls Pump_refused = []
-calls (Let_go i p) = Closed p.socket ∷ []
+calls (Closed_gone i p) = Closed p.socket ∷ []
 calls Paused = Rested ∷ []
 calls (Reload_decided g) = []
 calls (Reload_undecided g) = []
@@ -129,7 +129,7 @@ attempts (Gave_up i p offered) = whole (arrival.Lose p.connection) ∷ []
 attempts Pumped = whole arrival.Pump ∷ []
 attempts Pumped_nothing = whole arrival.Pump ∷ []
 attempts Pump_refused = short arrival.Pump ∷ []
-attempts (Let_go i p) = []
+attempts (Closed_gone i p) = []
 attempts Paused = []
 attempts (Reload_decided g) = whole (arrival.Reload g) ∷ []
 attempts (Reload_undecided g) = short (arrival.Reload g) ∷ []
@@ -198,8 +198,8 @@ MayTurnAway L w false = L w To_open
 -- what each deed needs, and what it does to the slots: a read is offered 16 to 65,536 bytes; a write is offered all output of its connection, and
 -- takes a prefix of it; a pump delivers only if a delivery can be made; and a reload offers a sound configuration
 abbrev pub Table : Lacks → Served → Deed → List (Option Peer) → Type 0
-Table L v (Met i p) new = (can_open v.world ≡ true) × (p.connection ≡ v.world.given + 1) × IsFresh p.socket v.told × Filled v.peers i p new
-Table L v (Turned_away s o) new = (o.arrival ≡ arrival.Open) × MayTurnAway L v.world o.is_whole × IsFresh s v.told × (new ≡ v.peers)
+Table L v (Met i p) new = (can_open v.world ≡ true) × (p.connection ≡ v.world.given + 1) × IsFresh p.socket v.traffic × Filled v.peers i p new
+Table L v (Turned_away s o) new = (o.arrival ≡ arrival.Open) × MayTurnAway L v.world o.is_whole × IsFresh s v.traffic × (new ≡ v.peers)
 Table L v (Met_no_one failed) new = new ≡ v.peers
 Table L v (Heard i p room bytes passage) new = IsOffer room × KeepsPeer v.peers i p new
 Table L v (Heard_partly i p room bytes) new = IsOffer room × Freed v.peers i p new
@@ -212,7 +212,7 @@ Table L v (Gave_up i p offered) new = IsOutput v.world p.connection offered × F
 Table L v Pumped new = ((c : ℕ) × CanDeliver v.world.state.broker c) × (new ≡ v.peers)
 Table L v Pumped_nothing new = NoneCanDeliver v.world × (new ≡ v.peers)
 Table L v Pump_refused new = new ≡ v.peers
-Table L v (Let_go i p) new = (is_gone v.world p.connection ≡ true) × Freed v.peers i p new
+Table L v (Closed_gone i p) new = (is_gone v.world p.connection ≡ true) × Freed v.peers i p new
 Table L v Paused new = new ≡ v.peers
 Table L v (Reload_decided g) new = IsSound g × (new ≡ v.peers)
 Table L v (Reload_undecided g) new = IsSound g × (new ≡ v.peers)
@@ -227,7 +227,7 @@ TakesIn L old ps s false new now = ((o : Attempt) × (o.arrival ≡ arrival.Open
 abbrev pub passage_between : World → World → ℕ → Passage
 passage_between old new c = passage_of (runs old c) (runs new c)
 
--- a socket is welcomed exactly if the deed lets its connection start running, and bidden farewell exactly if the deed lets the connection stop
+-- `welcome` is called for a socket exactly if its connection starts running by the deed, and `farewell` exactly if it stops running by the deed
 abbrev pub Greets : World → Deed → World → Type 0
 Greets old (Heard i p room bytes passage) new = passage ≡ passage_between old new p.connection
 Greets old (Gave i p offered taken passage) new = passage ≡ passage_between old new p.connection
@@ -238,7 +238,7 @@ pub record DoesDeed (L : Lacks) (old : Served) (d : Deed) (os : List Occurrence)
   pub table : Table L old d new.peers
   pub brings : Attempts L old.world (attempts d) os new.world
   pub greets : Greets old.world d new.world
-  pub told : Tells old.told (calls d) new.told
+  pub traffic : AddsCalls old.traffic (calls d) new.traffic
 
 -- the deeds are done one after another
 abbrev pub Story : Lacks → Served → List Deed → List Occurrence → Served → Type 0
@@ -277,10 +277,10 @@ pub record PumpsUp (L : Lacks) (most : ℕ) (old : Served) (acted : Bool) (new :
   pub pumps : ArePumps most deeds
   pub done : list_any is_done deeds ≡ acted
 
--- one pump of the machine, for any peers and whatever the wire knows: both stay
+-- one pump of the machine; the peers and what the wire knows, whatever they are, stay the same
 abbrev pub MachinePumpsOnce : Lacks → World → Bool → World → Type 0
-MachinePumpsOnce L old acted new = (ps : List (Option Peer)) (told : Told) → PumpsOnce L (served old ps told) acted (served new ps told)
+MachinePumpsOnce L old acted new = (ps : List (Option Peer)) (traffic : Traffic) → PumpsOnce L (served old ps traffic) acted (served new ps traffic)
 
--- at most `most` pumps of the machine, for any peers and whatever the wire knows: both stay
+-- at most `most` pumps of the machine; the peers and what the wire knows, whatever they are, stay the same
 abbrev pub MachinePumpsUp : Lacks → ℕ → World → Bool → World → Type 0
-MachinePumpsUp L most old acted new = (ps : List (Option Peer)) (told : Told) → PumpsUp L most (served old ps told) acted (served new ps told)
+MachinePumpsUp L most old acted new = (ps : List (Option Peer)) (traffic : Traffic) → PumpsUp L most (served old ps traffic) acted (served new ps traffic)

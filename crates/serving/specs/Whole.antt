@@ -9,7 +9,7 @@ use Rattle.model.specs.Arrivals.{World, Shown, shown, new_world, Plays}
 use Rattle.model.specs.Headline.{IsSound, KeepsPromises}
 use Rattle.model.specs.declared.events.Arrival.{Arrival}
 use Rattle.runs.specs.Wants.{Lacks}
-use Rattle.serving.specs.Wire.{Told, Tells}
+use Rattle.serving.specs.Wire.{Traffic, AddsCalls}
 use Rattle.serving.specs.Coming.{Attempt, Attempts, IsWhole}
 use Rattle.serving.specs.Story.{Served, served, Deed, At, calls, attempts, Story}
 use Rattle.serving.specs.Serving.{Serving}
@@ -33,15 +33,15 @@ seen_after hs w k (suc n) = shown hs w (k + 1) ∷ seen_after hs w (k + 1) n
 abbrev pub seen_of : List Happening → World → List Shown
 seen_of hs w = seen_after hs w 0 w.given
 
--- What a server did since its world had no connection, under configuration `f` and over a wire that knew `told`: rounds, and reloads between them.
-pub record IsServed (L : Lacks) (f : Config) (told : Told) (new : Served) : Type 0 where
+-- What a server did since its world had no connection, under configuration `f` and over a wire that knew `traffic`: rounds, and reloads between them.
+pub record IsServed (L : Lacks) (f : Config) (traffic : Traffic) (new : Served) : Type 0 where
   -- what was in force at the start is sound
   pub sound : IsSound f
   pub deeds : List Deed
   pub occurrences : List Occurrence
-  pub story : Story L (served (new_world f) [] told) deeds occurrences new
+  pub story : Story L (served (new_world f) [] traffic) deeds occurrences new
   -- these are all calls of the wire, with their answers
-  pub asked : Tells told (flat_map calls deeds) new.told
+  pub asked : AddsCalls traffic (flat_map calls deeds) new.traffic
   -- these are all arrivals, each performed whole or up to an allocation failure
   pub arrives : Attempts L (new_world f) (arrived deeds) occurrences new.world
   -- if no allocation failed, the arrivals are played exactly
@@ -53,20 +53,20 @@ pub record IsServed (L : Lacks) (f : Config) (told : Told) (new : Served) : Type
   -- what a socket took is a prefix of what was put out for its connection
   pub written : AreBeginnings deeds occurrences
   -- for each socket, the totals that the wire knows are the number of bytes that arrived for its connection, and the number taken from that connection's output
-  pub counted : AreCounted deeds new.told
+  pub counted : AreCounted deeds new.traffic
 
 -- whatever `IsServed` says of `old`, it says of `new`
 abbrev pub StaysServed : Lacks → Served → Served → Type 0
-StaysServed L old new = (f : Config) (told : Told) → IsServed L f told old → IsServed L f told new
+StaysServed L old new = (f : Config) (traffic : Traffic) → IsServed L f traffic old → IsServed L f traffic new
 
 -- `IsServed` is kept from one state of a server to another, whatever its wire knows
 abbrev pub KeepsServed : {M : Type 0} → Lacks → (M → World) → Serving M → Serving M → Type 0
-KeepsServed L world old new = (f : Config) (told now : Told)
-    → IsServed L f told (served (world old.machine) old.peers now) → IsServed L f told (served (world new.machine) new.peers now)
+KeepsServed L world old new = (f : Config) (traffic now : Traffic)
+    → IsServed L f traffic (served (world old.machine) old.peers now) → IsServed L f traffic (served (world new.machine) new.peers now)
 
 -- `IsServed` holds of a state without peers whose machine is new: nothing was done yet
 abbrev pub IsServedIfNew : Lacks → Served → Type 0
-IsServedIfNew L v = (f : Config) → v.world ≡ new_world f → v.peers ≡ [] → IsServed L f v.told v
+IsServedIfNew L v = (f : Config) → v.world ≡ new_world f → v.peers ≡ [] → IsServed L f v.traffic v
 
 -- ---- one call of `serve`
 
@@ -85,7 +85,7 @@ pub record GoesOn (L : Lacks) (old new : Served) : Type 0 where
   pub occurrences : List Occurrence
   pub story : Story L old deeds occurrences new
   -- these are all calls of the wire, with their answers
-  pub asked : Tells old.told (flat_map calls deeds) new.told
+  pub asked : AddsCalls old.traffic (flat_map calls deeds) new.traffic
   -- the arrivals of these deeds are all arrivals: commands are read from the bytes that were not performed yet, and then from those that are fed
   pub arrives : Attempts L old.world (arrived deeds) occurrences new.world
   -- what arrived for a connection is what its socket gave and took
@@ -95,4 +95,4 @@ pub record GoesOn (L : Lacks) (old new : Served) : Type 0 where
 
 -- `new` goes on from `old`, if `IsServed` holds of `old`
 abbrev pub GoesOnServed : Lacks → Served → Served → Type 0
-GoesOnServed L old new = (f : Config) (told : Told) → IsServed L f told old → GoesOn L old new
+GoesOnServed L old new = (f : Config) (traffic : Traffic) → IsServed L f traffic old → GoesOn L old new

@@ -20,7 +20,7 @@ pub data Call : Type 0 where
   -- the connection of the socket started running
   Welcomed : (socket : ℕ) → Call
   -- the connection of the socket stopped running
-  Parted : (socket : ℕ) → Call
+  Farewell : (socket : ℕ) → Call
   Rested : Call
 
 -- an accept, a read or a write without its answer; other calls have no `Ask`
@@ -43,7 +43,7 @@ ask (Nothing_taken s offered) = Some (To_write s offered)
 ask (Write_failed s offered) = Some (To_write s offered)
 ask (Closed s) = None
 ask (Welcomed s) = None
-ask (Parted s) = None
+ask (Farewell s) = None
 ask Rested = None
 
 -- the accepts, reads and writes among these calls, in order
@@ -89,7 +89,7 @@ totals_after s t [] = t
 totals_after s t (call ∷ more) = totals_after s (total_after s t call) more
 
 -- What a wire knows.
-pub record Told : Type 0 where
+pub record Traffic : Type 0 where
   -- its calls so far, or `None` if it doesn't know them
   pub calls : Option (List Call)
   -- how many of them failed
@@ -105,7 +105,7 @@ Follows old more None = Unit {0}
 Follows old more (Some calls) = (before : List Call) × (old ≡ Some before) × (calls ≡ before ++ more)
 
 -- What a wire that knew `old` knows after the calls `more`.
-pub record Tells (old : Told) (more : List Call) (new : Told) : Type 0 where
+pub record AddsCalls (old : Traffic) (more : List Call) (new : Traffic) : Type 0 where
   pub calls : Follows old.calls more new.calls
   pub failures : new.failures ≡ old.failures + count_by is_failed more
   -- a name that was given stays given
@@ -120,24 +120,24 @@ abbrev pub least_room : ℕ
 least_room = 16
 
 -- the first n of these slots are taken, and a read of each one's socket, in order, got nothing
-abbrev pub AllWait : ℕ → List (Option Peer) → Told → Told → Type 0
+abbrev pub AllWait : ℕ → List (Option Peer) → Traffic → Traffic → Type 0
 AllWait zero ps old new = new ≡ old
 AllWait (suc n) [] old new = ⊥
 AllWait (suc n) (None ∷ ps) old new = ⊥
-AllWait (suc n) (Some p ∷ ps) old new = (mid : Told) × Tells old (Nothing_got p.socket least_room ∷ []) mid × AllWait n ps mid new
+AllWait (suc n) (Some p ∷ ps) old new = (mid : Traffic) × AddsCalls old (Nothing_got p.socket least_room ∷ []) mid × AllWait n ps mid new
 
 -- socket `s` was offered these bytes and took none; without bytes it was not asked
-abbrev pub TakesNothing : ℕ → List ℕ → Told → Told → Type 0
+abbrev pub TakesNothing : ℕ → List ℕ → Traffic → Traffic → Type 0
 TakesNothing s [] old new = new ≡ old
-TakesNothing s (byte ∷ bytes) old new = Tells old (Nothing_taken s (byte ∷ bytes) ∷ []) new
+TakesNothing s (byte ∷ bytes) old new = AddsCalls old (Nothing_taken s (byte ∷ bytes) ∷ []) new
 
 -- the sockets of the first n of these slots were offered the outputs of their connections, one after another, and took nothing
-abbrev pub NoneTakes : (ℕ → List ℕ) → ℕ → List (Option Peer) → Told → Told → Type 0
+abbrev pub NoneTakes : (ℕ → List ℕ) → ℕ → List (Option Peer) → Traffic → Traffic → Type 0
 NoneTakes output zero ps old new = new ≡ old
 NoneTakes output (suc n) [] old new = new ≡ old
 NoneTakes output (suc n) (None ∷ ps) old new = NoneTakes output n ps old new
-NoneTakes output (suc n) (Some p ∷ ps) old new = (mid : Told) × TakesNothing p.socket (output p.connection) old mid × NoneTakes output n ps mid new
+NoneTakes output (suc n) (Some p ∷ ps) old new = (mid : Traffic) × TakesNothing p.socket (output p.connection) old mid × NoneTakes output n ps mid new
 
 -- no earlier socket had this name
-abbrev pub IsFresh : ℕ → Told → Type 0
-IsFresh s told = told.is_given s ≡ false
+abbrev pub IsFresh : ℕ → Traffic → Type 0
+IsFresh s traffic = traffic.is_given s ≡ false

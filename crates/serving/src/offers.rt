@@ -3,9 +3,9 @@
 //! All clients wait for a round to end, so a round has to be short even if a client floods. A read is offered as many bytes as the slot's share of
 //! the round's commands would take, by the size of the commands at its last read. A slot is greedy if its last read got all bytes that it was
 //! offered, or if more than [`BURST`] commands came since its last read that got less; any other slot is modest. Modest slots share [`COMMANDS`].
-//! Greedy slots share [`BESIDE_COMMANDS`] if a modest slot gave bytes in the last [`BESIDE_ROUNDS`] rounds, so that it waits for short rounds, and
-//! otherwise [`ALONE_COMMANDS`], so that fewer rounds are needed. A consumer is offered more for its acknowledgements, so that they don't make it
-//! greedy. A connection whose messages enter queues that lag is offered less. Only the bounds are promised.
+//! Greedy slots share [`BESIDE_COMMANDS`] if a modest slot gave bytes in the last [`BESIDE_ROUNDS`] rounds, so that the modest one waits for short
+//! rounds only, and otherwise [`ALONE_COMMANDS`], so that fewer rounds are needed. A consumer is offered more for its acknowledgements, so that they
+//! don't make it greedy. A connection whose messages enter queues that lag is offered less. Only the bounds are promised.
 
 ghost use Rattle.std.specs.Prelude.{◌≤◌};
 ghost use Rattle.serving.specs.Story.{IsOffer, read_room};
@@ -102,7 +102,8 @@ impl Share {
         }
     }
 
-    /// Begins a round in which `commands` are shared by as many slots as gave bytes in the last round, but this number falls by at most one a round.
+    /// Begins a round in which `commands` are divided by the number of slots that gave bytes in the last round, or by one less than before if that is
+    /// more.
     fn pass(&mut self, commands: usize) {
         self.among = self.given.max(self.among.saturating_sub(1));
         self.each = commands / self.among.max(1);
@@ -126,7 +127,7 @@ pub(crate) struct Offers {
     offers: Vec<Offer>,
     greedy: Share,
     modest: Share,
-    /// The number of rounds since a modest slot was heard that stays modest.
+    /// The number of rounds since a modest slot gave bytes and stayed modest.
     alone: usize,
 }
 

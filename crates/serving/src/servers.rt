@@ -5,7 +5,7 @@ ghost use Rattle.model.specs.Headline.{IsSound};
 ghost use Rattle.serving.specs.Serving.{server_state};
 ghost use Rattle.serving.specs.Rounds.{IsRound, Rounds};
 ghost use Rattle.serving.specs.Whole.{GoesOnServed, IsServedIfNew, KeepsServed, StaysServed};
-ghost use Rattle.runs.specs.Reloaded.{IsMemory, TellsReload};
+ghost use Rattle.runs.specs.Reloaded.{IsMemory, ReportsReload};
 ghost use Rattle.runs.specs.Wants.{To_reload};
 
 use crate::offers::Offers;
@@ -92,7 +92,7 @@ impl<M: Machine> Server<M> {
     /// exactly when its connection starts running. An allocation failure is not reported: it ends the connection that needed the memory.
     pub fn round<W: Wire>(&mut self, alloc: Global, wire: &mut W)
         // The promise: exactly these calls of the wire, and what follows from each answer.
-        ensures { IsRound M.lacks (server_state M.world W.told self.old wire.old) (server_state M.world W.told self.new wire.new) }
+        ensures { IsRound M.lacks (server_state M.world W.past self.old wire.old) (server_state M.world W.past self.new wire.new) }
     {
         round(
             alloc,
@@ -109,7 +109,7 @@ impl<M: Machine> Server<M> {
     /// Puts `setup` in force between two rounds, and asks nothing of a wire: connections stay, with their sockets. Refused by the first obstacle, and
     /// if an allocation fails; nothing has changed then.
     pub fn reload(&mut self, alloc: Global, setup: M::Setup) -> Result<(), ReloadFault>
-        ensures told { TellsReload (M.world self.old.machine) (M.config setup) result (M.world self.new.machine) }
+        ensures reported { ReportsReload (M.world self.old.machine) (M.config setup) result (M.world self.new.machine) }
         ensures wants { IsMemory result → M.lacks (M.world self.old.machine) (To_reload (M.config setup)) }
         ensures peers { self.new.peers ≡ self.old.peers }
         // `IsServed` is kept, whatever the wire knew.
@@ -129,7 +129,7 @@ impl<M: Machine> Server<M> {
 
 /// Shows that `IsServed` holds of a new server whose machine has no connections: nothing was done yet. Does nothing at run time.
 pub fn ghost_new_is_served<M: Machine, W: Wire>(server: &Server<M>, wire: &W)
-    ensures { IsServedIfNew M.lacks (server_state M.world W.told server.now wire.now) }
+    ensures { IsServedIfNew M.lacks (server_state M.world W.past server.now wire.now) }
 {
     server.ghost_is_sound();
 }
@@ -137,11 +137,11 @@ pub fn ghost_new_is_served<M: Machine, W: Wire>(server: &Server<M>, wire: &W)
 /// Does `turns` rounds.
 pub fn serve<M: Machine, W: Wire>(alloc: Global, server: &mut Server<M>, wire: &mut W, turns: u64)
     // The promise: exactly these rounds.
-    ensures rounds { Rounds M.lacks turns (server_state M.world W.told server.old wire.old) (server_state M.world W.told server.new wire.new) }
+    ensures rounds { Rounds M.lacks turns (server_state M.world W.past server.old wire.old) (server_state M.world W.past server.new wire.new) }
     // `IsServed` is kept: it has all that arrived since the server was new, and certified delivery's promises of it.
-    ensures served { StaysServed M.lacks (server_state M.world W.told server.old wire.old) (server_state M.world W.told server.new wire.new) }
+    ensures served { StaysServed M.lacks (server_state M.world W.past server.old wire.old) (server_state M.world W.past server.new wire.new) }
     // The call continues where the server stopped: with bytes that were not performed yet, and with output that was not written yet.
-    ensures goes_on { GoesOnServed M.lacks (server_state M.world W.told server.old wire.old) (server_state M.world W.told server.new wire.new) }
+    ensures goes_on { GoesOnServed M.lacks (server_state M.world W.past server.old wire.old) (server_state M.world W.past server.new wire.new) }
 {
     for _ in 0..turns {
         server.round(alloc, wire);

@@ -33,11 +33,11 @@ fn expect_no_read(sockets: &mut Sockets, socket: u64) -> Result<(), Unmet> {
             _ => return Err(Unmet::Call("read")),
         }
     }
-    Err(Unmet::Claim("a socket that was bidden farewell is ended"))
+    Err(Unmet::Claim("a socket is ended after `farewell`"))
 }
 
-/// A socket that was welcomed and then bidden farewell is ended once its time, which begins with the farewell, is over, and not before. A socket that
-/// was only welcomed is not ended.
+/// A socket for which `welcome` and then `farewell` was called is ended once its time, which begins with `farewell`, is over, and not before. A
+/// socket that was only welcomed is not ended.
 pub(crate) fn a_socket_that_was_bidden_farewell_is_ended(
     rt: &HostRuntime,
     alloc: Global,
@@ -54,7 +54,7 @@ pub(crate) fn a_socket_that_was_bidden_farewell_is_ended(
     expect_no_read(&mut sockets, parted_socket)?;
     expect_past(rt, earliest)?;
     let waits = matches!(round(&mut sockets, welcome_socket), Read::Wait);
-    expect("a socket that was bidden no farewell is not ended", waits)
+    expect("a socket without a call of `farewell` is not ended", waits)
 }
 
 /// Writes to a socket until it takes nothing.
@@ -81,7 +81,7 @@ fn expect_no_write(sockets: &mut Sockets, socket: u64) -> Result<(), Unmet> {
             Write::Wait | Write::Took(_) => sockets.rest(),
         }
     }
-    Err(Unmet::Claim("a full socket that was bidden farewell is ended"))
+    Err(Unmet::Claim("a full socket is ended after `farewell`"))
 }
 
 /// A socket that takes nothing is ended, too, once its time is over: a server writes to it, and no longer reads.

@@ -5,7 +5,7 @@ use sockets::Sockets;
 use std::alloc::Global;
 use std::net::{Net, SocketAddr};
 
-/// Returns the address at which sockets listen that are asked to listen at `asked`.
+/// Asks sockets to listen at `asked`, and returns the address at which they do.
 fn address_of<N: Net>(net: &N, alloc: Global, asked: SocketAddr) -> Result<SocketAddr, Unmet> {
     let sockets = value_of("Sockets::bind", Sockets::bind(net, alloc, asked))?;
     value_of("Sockets::local_addr", sockets.local_addr())

@@ -66,7 +66,7 @@ fn expect_turn(sockets: &mut Sockets, peers: &Slab<Peer>) -> Result<(), Unmet> {
     Err(Unmet::Claim("a silent socket is asked in its turn"))
 }
 
-/// A socket that has nothing is skipped, but not the next one, which an event named. If no round rests, the silent one is asked, too, in its turn.
+/// A socket that has nothing is skipped, and the next one, which an event named, is not. If no round rests, the silent one is asked in its turn, too.
 pub(crate) fn silent_sockets_are_passed_by_up_to_one_that_speaks<N: Net>(
     net: &N,
     alloc: Global,
@@ -137,8 +137,8 @@ fn expect_full_turn(sockets: &mut Sockets, peers: &Slab<Peer>) -> Result<(), Unm
     Err(Unmet::Claim("a full socket is asked in its turn"))
 }
 
-/// A socket that is full is skipped, up to another that an event named as one with room. Afterwards the skipped one has its turn, within [`TURNS`]
-/// rounds without a rest.
+/// Full sockets are skipped, up to the first for which an event reported room. A skipped one has its turn afterwards, within [`TURNS`] rounds without
+/// a rest.
 pub(crate) fn full_sockets_are_passed_by_up_to_one_with_room<N: Net>(
     net: &N,
     alloc: Global,

@@ -65,14 +65,14 @@ pub(crate) fn got_in_the_end(sockets: &mut Sockets, socket: u64) -> Result<usize
 }
 
 /// Returns how many bytes a socket gives after a rest, which may first report earlier events.
-fn told_by_a_rest(sockets: &mut Sockets, socket: u64) -> Result<usize, Unmet> {
+fn bytes_of_a_rest(sockets: &mut Sockets, socket: u64) -> Result<usize, Unmet> {
     for _ in 0..3 {
         sockets.rest();
         if let Read::Got(count) = round(sockets, socket) {
             return Ok(count);
         }
     }
-    Err(Unmet::Claim("a rest tells of what came before it"))
+    Err(Unmet::Claim("a rest reports what came before it"))
 }
 
 /// Bytes that come between a read that emptied a socket and a rest are not asked for in the next round, and the rest reports
@@ -90,7 +90,7 @@ pub(crate) fn bytes_between_a_read_and_a_rest_are_told_by_it<N: Net>(
         value_of("write_all", client.write_all(b"four"))?;
         let waits = matches!(round(&mut sockets, socket), Read::Wait);
         expect("an emptied socket is not asked in the next round", waits)?;
-        let second = told_by_a_rest(&mut sockets, socket)?;
+        let second = bytes_of_a_rest(&mut sockets, socket)?;
         expect_number("the number of bytes", second as u64, 4)?;
     }
     Ok(())
@@ -267,5 +267,5 @@ pub(crate) fn a_full_socket_takes_more_once_its_client_reads<N: Net>(
             return expect_number("the number of bytes", count as u64, 3);
         }
     }
-    Err(Unmet::Claim("a rest tells of room"))
+    Err(Unmet::Claim("a rest reports room"))
 }

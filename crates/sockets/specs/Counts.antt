@@ -1,6 +1,6 @@
 -- The byte counts of sockets (own).
 use Rattle.std.specs.Prelude.{◌≡◌, ◌*◌, ◌%◌, ℕ, List, [], ◌∷◌, Option, Some, None, ◌==◌, nat_lt, count_by, if◌then◌else◌, slice_index_or}
-use Rattle.serving.specs.Wire.{Call, Totals, Told, is_failed, total_after}
+use Rattle.serving.specs.Wire.{Call, Totals, Traffic, is_failed, total_after}
 use Rattle.sockets.specs.declared.counts.Count.{Count}
 
 -- the totals in a count, if it is that of socket `s`
@@ -17,8 +17,8 @@ abbrev pub Counts : List (Option Count) → Call → List (Option Count) → Typ
 Counts old call new = (s : ℕ) (t : Totals) → totals_in new s ≡ Some t → total_after s (totals_in old s) call ≡ Some t
 
 -- what the sockets know: how many calls failed, which names count as given (those below `given` * 4,096), and the totals; they know no calls
-abbrev pub told_with : ℕ → ℕ → List (Option Count) → Told
-told_with failures given counts = record { calls = None; failures = failures; is_given = λ s. nat_lt s (given * 4096); totals = totals_in counts }
+abbrev pub traffic_with : ℕ → ℕ → List (Option Count) → Traffic
+traffic_with failures given counts = record { calls = None; failures = failures; is_given = λ s. nat_lt s (given * 4096); totals = totals_in counts }
 
 -- 1 if `call` failed, otherwise 0
 abbrev pub fails : Call → ℕ

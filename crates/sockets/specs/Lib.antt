@@ -1,3 +1,3 @@
 pub mod Answers
 pub mod Counts
-pub mod Told
+pub mod Traffic

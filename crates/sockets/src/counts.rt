@@ -1,12 +1,12 @@
 //! Counts the bytes that sockets gave and took, by the index in a socket's name.
 
 ghost use Rattle.std.specs.Prelude.{◌≡◌, ◌≤◌, ◌%◌, ℕ, List, length, Some, IfSome};
-ghost use Rattle.serving.specs.Wire.{Accepted, Got, Took, Totals as Told, with_got, with_taken};
+ghost use Rattle.serving.specs.Wire.{Accepted, Got, Took, Totals as Traffic, with_got, with_taken};
 ghost use Rattle.serving.specs.Answered.{accept_call, read_call, write_call};
 ghost use Rattle.serving.specs.declared.wire.Read.TheVariants as read;
 ghost use Rattle.serving.specs.declared.wire.Write.TheVariants as write;
 ghost use Rattle.sockets.specs.Counts.{Counts, totals_of, totals_in};
-ghost use Rattle.sockets.specs.Told.{seen};
+ghost use Rattle.sockets.specs.Traffic.{seen};
 
 use serving::{Accept, Read, Write};
 
@@ -49,7 +49,7 @@ fn count_of(count: Option<Count>, name: u64) -> Option<Count>
 
 /// Adds `n` bytes that the socket `name` gave. Returns `None` if `count` is another socket's, or the sum doesn't fit a `u64`.
 fn with_more_got(count: Option<Count>, name: u64, n: usize) -> Option<Count>
-    ensures totals { (t : Told) → totals_of name result ≡ Some t → with_got n (totals_of name count) ≡ Some t }
+    ensures totals { (t : Traffic) → totals_of name result ≡ Some t → with_got n (totals_of name count) ≡ Some t }
     ensures name { IfSome result (λ c. c.name ≡ name) }
 {
     let count = count_of(count, name)?;
@@ -59,7 +59,7 @@ fn with_more_got(count: Option<Count>, name: u64, n: usize) -> Option<Count>
 
 /// Adds `n` bytes that the socket `name` took. Returns `None` if `count` is another socket's, or the sum doesn't fit a `u64`.
 fn with_more_taken(count: Option<Count>, name: u64, n: usize) -> Option<Count>
-    ensures totals { (t : Told) → totals_of name result ≡ Some t → with_taken n (totals_of name count) ≡ Some t }
+    ensures totals { (t : Traffic) → totals_of name result ≡ Some t → with_taken n (totals_of name count) ≡ Some t }
     ensures name { IfSome result (λ c. c.name ≡ name) }
 {
     let count = count_of(count, name)?;

@@ -162,7 +162,7 @@ fn set_up(poll: &Poll, stream: &mut TcpStream, name: u64) -> io::Result<()> {
 impl Sockets {
     ghost use Rattle.std.specs.Prelude.{◌≡◌, ◌+◌, ◌≤◌, ◌<◌, ◌*◌, ℕ, List, Some, None, length, IfOk, IfSome, cond, is_some, slice_index_or, true};
     ghost use Rattle.std.specs.Duration.{as_nanos};
-    ghost use Rattle.sockets.specs.Told.{patience_of, seen, told_by};
+    ghost use Rattle.sockets.specs.Traffic.{patience_of, seen, traffic_of};
 
     /// Listens at `address`.
     pub fn bind(net: &impl Net, alloc: Global, address: SocketAddr) -> io::Result<Sockets> {
@@ -196,7 +196,7 @@ impl Sockets {
     /// Sets how long a socket may stay whose connection is not running: reads and writes fail if it was not welcomed within `patience` after it was
     /// accepted, or is still there `patience` after its farewell, whatever it sent.
     pub fn with_patience(mut self, clock: &HostRuntime, patience: Duration) -> Sockets
-        ensures told { told_by result ≡ told_by self }
+        ensures traffic { traffic_of result ≡ traffic_of self }
         ensures patience { patience_of result ≡ Some (as_nanos patience) }
     {
         self.watch = Watch::new(*clock, patience);
@@ -210,7 +210,7 @@ impl Sockets {
 
     /// Returns how many bytes the socket `name` gave and took since it was accepted, if that is counted.
     pub fn totals(&self, name: u64) -> Option<Totals>
-        ensures { seen result ≡ (told_by self.now).totals name }
+        ensures { seen result ≡ (traffic_of self.now).totals name }
     {
         totals_at(&self.counts, name)
     }
@@ -389,7 +389,8 @@ impl Sockets {
         slot
     }
 
-    /// Returns whether `slot` needs no write now: it is empty; or no event has reported room at its socket, and the socket isn't full, or isn't due.
+    /// Returns whether `slot` needs no write now: it is empty, or no event has reported room at its socket and the socket is not due in this round. A
+    /// socket that isn't full is never due.
     fn stays_full(&mut self, peers: &Slab<Peer>, slot: usize) -> bool
         ensures failures { self.new.failures ≡ self.old.failures }
         ensures counts { self.new.counts ≡ self.old.counts }
@@ -472,15 +473,15 @@ impl Sockets {
             }
         }
         if !self.events.is_empty() {
-            self.rounds.tell();
+            self.rounds.note_named();
         }
     }
 }
 
 impl Wire for Sockets {
-    ghost use Rattle.sockets.specs.Told.{told_by};
+    ghost use Rattle.sockets.specs.Traffic.{traffic_of};
 
-    ghost told = { told_by };
+    ghost past = { traffic_of };
 
     fn accept(&mut self) -> Accept {
         let answer = self.ask();

@@ -10,7 +10,7 @@ use serving::Write;
 const MOST_ASKED: u64 = 8;
 
 /// The number of rounds that take no turn after a rest that named a socket: the rest would have named any other socket that had something.
-const TOLD_ROUNDS: u64 = 2;
+const NAMED_ROUNDS: u64 = 2;
 
 /// Every round whose number is divisible by this takes a turn, whatever rests named.
 const SURE: u64 = 16;
@@ -71,7 +71,7 @@ pub(crate) struct Rounds {
     /// The number of this round.
     number: u64,
     /// The number of the round before the last rest that named a socket.
-    told: u64,
+    named: u64,
     /// Whether a turn is taken in this round.
     is_turn: bool,
     /// The number of turns so far.
@@ -222,7 +222,7 @@ impl Rounds {
     pub(crate) fn new() -> Rounds {
         Rounds {
             number: 0,
-            told: 0,
+            named: 0,
             is_turn: false,
             turn: 0,
             silent: Line::new(),
@@ -237,17 +237,20 @@ impl Rounds {
 
     /// Begins a round. The round takes a turn if its number is divisible by 16, or if it isn't one of the two rounds after a rest that named a socket.
     pub(crate) fn begin(&mut self)
+        // No silent or full socket has been asked in this round.
         ensures silent { self.new.silent.asked ≡ 0 }
         ensures full { self.new.full.asked ≡ 0 }
+        // The round's number doesn't fall, and decides whether the round has to take a turn.
         ensures number { self.old.number ≤ self.new.number }
         ensures sure { self.new.number % 16 ≡ 0 → self.new.is_turn ≡ true }
-        ensures untold { self.old.told + 2 < self.new.number → self.new.is_turn ≡ true }
+        ensures unnamed { self.old.named + 2 < self.new.number → self.new.is_turn ≡ true }
+        // What was learned since the last round began: whether room was reported, and that a greedy socket waits.
         ensures named { self.new.named_room ≡ self.old.names_room }
         ensures pressed { self.old.greedy.is_waiting ≡ true → self.new.is_pressed ≡ true }
     {
         self.number = self.number.saturating_add(1);
-        let is_told = self.number <= self.told.saturating_add(TOLD_ROUNDS);
-        self.is_turn = !is_told || self.number % SURE == 0;
+        let is_named = self.number <= self.named.saturating_add(NAMED_ROUNDS);
+        self.is_turn = !is_named || self.number % SURE == 0;
         if self.is_turn {
             self.turn = self.turn.saturating_add(1);
         }
@@ -277,10 +280,10 @@ impl Rounds {
     }
 
     /// Records that a rest named a socket, so that all others have nothing.
-    pub(crate) fn tell(&mut self)
-        ensures { self.new ≡ record self.old { told = self.old.number } }
+    pub(crate) fn note_named(&mut self)
+        ensures { self.new ≡ record self.old { named = self.old.number } }
     {
-        self.told = self.number;
+        self.named = self.number;
     }
 
     /// Returns the voice of a socket that had nothing in this round.
@@ -308,7 +311,7 @@ impl Rounds {
     }
 
     /// Returns the turn since which a socket is silent that a read of this round has emptied. It is not asked in the next turn, unless greedy sockets
-    /// waited in the round before: then no rest comes soon that tells of its next bytes.
+    /// waited in the round before: then no rest that could report its next bytes comes soon.
     fn emptied(&self) -> u64
         ensures pressed { self.now.is_pressed ≡ true → result ≡ self.now.turn }
         ensures least { self.now.turn ≤ result }

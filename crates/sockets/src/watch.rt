@@ -50,7 +50,7 @@ impl Watch {
         };
     }
 
-    /// Returns when a socket that is accepted or bidden farewell in this round is ended, or `None` if the clock has no time.
+    /// Returns when a socket is ended that is accepted in this round, or for which `farewell` is called in it; `None` if the clock has no time.
     pub(crate) fn ends(&self) -> Option<Instant>
         ensures timeless { self.now.time ≡ None → result ≡ None }
         ensures time { IfSome self.now.time (λ time. IfSome result (λ ends. instant_nanos ends ≡ instant_nanos time + as_nanos self.now.patience)) }

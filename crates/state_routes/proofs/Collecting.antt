@@ -99,7 +99,7 @@ module _ (t : Topology) (g : Guarantee) (q : Text) (deaths : List Gate) (entered
   ]
 
   same_name : (y x : Text) → IsIn y (exchange_names t.exchanges) ⊎ (y ≡ []) → node t.exchanges y ≡ node t.exchanges x → y ≡ x
-  same_name y x (inl i) e = node_same t.exchanges y x formed.default_apart i e
+  same_name y x (inl i) e = node_same t.exchanges y x formed.none_is_default i e
   same_name y x (inr s) e = s ∙ sym (node_default t.exchanges x (sym e ∙ ap (node t.exchanges) s))
 
   -- a met exchange may enter a queue that leaves the key as it is
@@ -115,7 +115,7 @@ module _ (t : Topology) (g : Guarantee) (q : Text) (deaths : List Gate) (entered
       enters f c = elim f.way [
         | inl r ↦
             let source = formed.sources r.0 (has_place t.bindings r.0 r.1) in
-            let same : r.0.source ≡ x = node_same t.exchanges r.0.source x formed.default_apart source (sym r.3 ∙ e) in
+            let same : r.0.source ≡ x = node_same t.exchanges r.0.source x formed.none_is_default source (sym r.3 ∙ e) in
             let o = from_map (λ (z : Exchange). z.name) r.0.source t.exchanges source in
             by_binding o.0 r.0 (has_place t.exchanges o.0 o.1) (sym o.2 ∙ same) (record { is_binding = has_place t.bindings r.0 r.1; source = o.2; leads = r.2 })
         | inr r ↦ subst (λ (z : Text). MayEnter t z f.last.name) (sym (node_default t.exchanges x (sym e ∙ r.0))) (by_name f.last c refl)
@@ -145,12 +145,12 @@ module _ (t : Topology) (g : Guarantee) (q : Text) (deaths : List Gate) (entered
       by_link : ((c : Binding) × IsIn c t.bindings × (l ≡ link_of t.exchanges q c)) → ((z : Text) → b ≡ node t.exchanges z → Met t g z → Met t g y) → Met t g y
       by_link (c, w, p) next =
           let source = formed.sources c (has_place t.bindings c w) in
-          let same : c.source ≡ x = node_same t.exchanges c.source x formed.default_apart source (sym (ap (λ (z : Hop). z.from) p) ∙ f ∙ e) in
+          let same : c.source ≡ x = node_same t.exchanges c.source x formed.none_is_default source (sym (ap (λ (z : Hop). z.from) p) ∙ f ∙ e) in
           to_place c w c.to refl (sym u ∙ ap (λ (z : Hop). z.to) p) (from_map (λ (z : Exchange). z.name) c.source t.exchanges source) same next
 
       by_other : ((z : Exchange) × (other : Text) × IsIn z t.exchanges × (z.alternate ≡ Some other) × (l ≡ record { from = node t.exchanges z.name; to = node t.exchanges other })) → ((z : Text) → b ≡ node t.exchanges z → Met t g z → Met t g y) → Met t g y
       by_other (z, other, w, a, p) next =
-          let same : z.name ≡ x = node_same t.exchanges z.name x formed.default_apart (in_map (λ (v : Exchange). v.name) z t.exchanges w) (sym (ap (λ (v : Hop). v.from) p) ∙ f ∙ e) in
+          let same : z.name ≡ x = node_same t.exchanges z.name x formed.none_is_default (in_map (λ (v : Exchange). v.name) z t.exchanges w) (sym (ap (λ (v : Hop). v.from) p) ∙ f ∙ e) in
           next other (sym u ∙ ap (λ (v : Hop). v.to) p) (by_alternate z m (has_place t.exchanges z w) same a)
 
 -- ---- the list

@@ -269,7 +269,7 @@ module _ (m : Mode) (t : Topology) (q : Text) (ps : List Tracked) (ms : List ℕ
   by_gate g i o = (g.link, in_front g.link (open_links m (gates_of t q ps ++ deaths) (accepted ps ms)) (open_alternates m (gates_of t q ps ++ deaths) (alternate_links t.exchanges t.exchanges) (accepted ps ms)) (open_in m g (gates_of t q ps ++ deaths) (accepted ps ms) i o), refl, refl)
 
   kind_is : (e : Exchange) (name : Text) → Contains t.exchanges e → name ≡ e.name → kind_at t.exchanges name ≡ e.kind
-  kind_is e name c s = ap (kind_at t.exchanges) s ∙ ap kind_or_direct (found_same t.exchanges e formed.exchanges_apart (contained t.exchanges e c))
+  kind_is e name c s = ap (kind_at t.exchanges) s ∙ ap kind_or_direct (found_same t.exchanges e formed.exchanges_distinct (contained t.exchanges e c))
 
   -- a binding's test passes a key that its exchange lets pass
   lets_pass : (e : Exchange) (b : Binding) → Contains t.exchanges e → b.source ≡ e.name → (reading_by m ps ms).opens e.kind b.key → passes m (test_by ps (kind_at t.exchanges b.source) b.key) (accepted ps ms) ≡ true
@@ -291,13 +291,13 @@ module _ (m : Mode) (t : Topology) (q : Text) (ps : List Tracked) (ms : List ℕ
   name_in e i = in_map (λ (x : Exchange). x.name) e t.exchanges i
 
   no_default : (e : Exchange) → IsIn e t.exchanges → node t.exchanges e.name ≡ 2 → ⊥
-  no_default e i f = formed.default_apart (subst (λ (z : Text). IsIn z (exchange_names t.exchanges)) (node_default t.exchanges e.name f) (name_in e i))
+  no_default e i f = formed.none_is_default (subst (λ (z : Text). IsIn z (exchange_names t.exchanges)) (node_default t.exchanges e.name f) (name_in e i))
 
   -- the gates from an exchange none of whose bindings lets the key pass
   module _ (e : Exchange) (c : Contains t.exchanges e) (s : (to : Place) (b : Binding) → Binds t e to b → (reading_by m ps ms).shuts e.kind b.key) where
     binding_blocks : (b : Binding) → IsIn b t.bindings → node t.exchanges b.source ≡ node t.exchanges e.name → blocks m (test_by ps (kind_at t.exchanges b.source) b.key) (accepted ps ms) ≡ true
     binding_blocks b i f =
-        let same : b.source ≡ e.name = node_same t.exchanges b.source e.name formed.default_apart (source_in b i) f in
+        let same : b.source ≡ e.name = node_same t.exchanges b.source e.name formed.none_is_default (source_in b i) f in
         subst (λ (k : ExchangeKind). blocks m (test_by ps k b.key) (accepted ps ms) ≡ true) (sym (kind_is e b.source c same))
         (shuts_blocks ps ms once m e.kind b.key (s b.to b (record { is_binding = has_place t.bindings b i; source = same; leads = refl })))
 
@@ -453,7 +453,7 @@ module _ (m : Mode) (t : Topology) (q : Text) (ps : List Tracked) (ms : List ℕ
           }
 
   same_source : (name x : Text) → IsIn name (exchange_names t.exchanges) ⊎ (name ≡ []) → node t.exchanges name ≡ node t.exchanges x → name ≡ x
-  same_source name x (inl i) e = node_same t.exchanges name x formed.default_apart i e
+  same_source name x (inl i) e = node_same t.exchanges name x formed.none_is_default i e
   same_source name x (inr s) e = s ∙ sym (node_default t.exchanges x (sym e ∙ ap (node t.exchanges) s))
 
   -- from places that are no exchanges nothing leads on

@@ -8,7 +8,7 @@ pub use Rattle.model.specs.Certificates.{AreChosen, ArePlaces, Excepting, Form, 
 pub use Rattle.model.specs.Guarantee.{Guarantee}
 pub use Rattle.model.specs.Positions.{FitsEach, is_accepted}
 pub use Rattle.model.specs.Routing.{Binds, Comes, Edge, Leads, Reading, RoutesBy, alternate, bound, dead, default, fixed_after, here, of_key, on, reading_after, routed}
-pub use Rattle.model.specs.Topology.{AreApart, IsIn, IsWellFormed, Topology, exchange_names}
+pub use Rattle.model.specs.Topology.{AreDistinct, IsIn, IsWellFormed, Topology, exchange_names}
 pub use Rattle.model.specs.Tracking.{IsTrackedList, MayEnter, Met, Selects, Tracked, as_topic, by_alternate, by_binding, by_bound, by_death, by_name, keys_by, keys_from, keys_of, literal, names_in, once_more, own, same_tracked, tokens_by}
 pub use Rattle.model.specs.Words.{Text, tokens, words}
 pub use Rattle.model.specs.declared.topologies.Binding.{Binding}

@@ -1,5 +1,5 @@
 -- The numbers of exchanges tell their names.
-use Rattle.state_routes.proofs.Names.{◌≡◌, ◌⊎◌, suc, ◌+◌, ◌<◌, ◌≤◌, Bool, true, false, cond, List, [], ◌∷◌, length, refl, sym, ap, subst, ◌∙◌, inl, inr, Some, arith, Decides, not, find, bytes_eq, false≢true, bytes_eq-Decides, Text, IsIn, AreApart, exchange_names, Exchange, in_map, node}
+use Rattle.state_routes.proofs.Names.{◌≡◌, ◌⊎◌, suc, ◌+◌, ◌<◌, ◌≤◌, Bool, true, false, cond, List, [], ◌∷◌, length, refl, sym, ap, subst, ◌∙◌, inl, inr, Some, arith, Decides, not, find, bytes_eq, false≢true, bytes_eq-Decides, Text, IsIn, AreDistinct, exchange_names, Exchange, in_map, node}
 use Rattle.exchange_graph.specs.Fans.{exchange_index}
 
 place_same : (xs : List Exchange) (x y : Text) → IsIn x (exchange_names xs) → exchange_index xs x ≡ exchange_index xs y → x ≡ y
@@ -41,7 +41,7 @@ node_same xs (b ∷ bs) [] n i e = absurd (let h : exchange_index xs (b ∷ bs) 
 node_same xs (b ∷ bs) (c ∷ cs) n i e = place_same xs (b ∷ bs) (c ∷ cs) i (let h : exchange_index xs (b ∷ bs) + 3 ≡ exchange_index xs (c ∷ cs) + 3 = e in omega arith)
 
 -- what is found under an exchange's name is the exchange
-pub found_same : (xs : List Exchange) (e : Exchange) → AreApart (exchange_names xs) → IsIn e xs → find (λ (x : Exchange). bytes_eq x.name e.name) xs ≡ Some e
+pub found_same : (xs : List Exchange) (e : Exchange) → AreDistinct (exchange_names xs) → IsIn e xs → find (λ (x : Exchange). bytes_eq x.name e.name) xs ≡ Some e
 found_same [] e a i = absurd i
 found_same (z ∷ zs) e a i = go (bytes_eq z.name e.name) (bytes_eq-Decides z.name e.name) i (λ j. found_same zs e a.1 j)
   where

@@ -1,5 +1,5 @@
 -- Marks that spread from place to place come to all that chains lead to.
-use Rattle.state_routes.proofs.Names.{◌≡◌, ◌⊎◌, ℕ, zero, suc, ◌+◌, ◌<◌, ◌≤◌, Bool, true, false, List, [], ◌∷◌, ◌++◌, length, refl, sym, ap, subst, ◌∙◌, inl, inr, arith, get_or, set, take, replicate, length-append, length-replicate, length-set, take_all, take_more, IsIn, Mode, IsSet, unset, Hop, AreReached, Chain, MarksBegin, open_ways, Exit, IsBounded, LeadFrom, exit_at, open_through, Enters, Spreads, all_marked, begun_at, chain_on, none_set, set_keeps, in_front, in_back, in-append}
+use Rattle.state_routes.proofs.Names.{◌≡◌, ◌⊎◌, ℕ, zero, suc, ◌+◌, ◌<◌, ◌≤◌, add-one, cond, Bool, true, false, List, [], ◌∷◌, ◌++◌, length, refl, sym, ap, subst, ◌∙◌, inl, inr, arith, get_or, set, take, replicate, length-append, length-replicate, length-set, take_all, IsIn, Mode, IsSet, unset, Hop, AreReached, Chain, MarksBegin, Gate, all_block, open_alternates, open_links, open_ways, passes, Exit, IsBounded, LeadFrom, exit_at, open_through, Enters, Spreads, all_marked, begun_at, chain_on, none_set, set_keeps, in_front, in_back, in-append}
 use Rattle.exchange_graph.proofs.Marking.{set_here, set_only, set_within, unset_fewer}
 use Rattle.state_routes.proofs.Leaving.{in_through, open_at, open_leads}
 
@@ -46,7 +46,7 @@ enters_new l marks new rest more h f e r = subst (λ (z : List Bool). Enters (l 
       fewer = (let u = unset_fewer marks l.to h f in let k = length-append rest (l.to ∷ []) in omega (arith, u, k));
     }
 
-enters_then : (xs ys : List Hop) (a b c : List Bool) (r s t : List ℕ) → Enters xs a r b s → Enters ys b s c t → Enters (xs ++ ys) a r c t
+pub enters_then : (xs ys : List Hop) (a b c : List Bool) (r s t : List ℕ) → Enters xs a r b s → Enters ys b s c t → Enters (xs ++ ys) a r c t
 enters_then xs ys a b c r s t m n = record {
   size = n.size ∙ m.size;
   kept = λ i k. n.kept i (m.kept i k);
@@ -63,15 +63,66 @@ enters_then xs ys a b c r s t m n = record {
   fewer = (let u = m.fewer in let v = n.fewer in omega (arith, u, v));
 }
 
-pub enters_more : (ls : List Hop) (i : ℕ) (l : Hop) (a b c : List Bool) (r s t : List ℕ) → i < length ls → l ≡ get_or ls i l → Enters (take i ls) a r b s → Enters (l ∷ []) b s c t → Enters (take (i + 1) ls) a r c t
-enters_more ls i l a b c r s t h e m n =
-    subst (λ (z : List Hop). Enters z a r c t) (sym (take_more ls i l h ∙ ap (λ (z : Hop). take i ls ++ z ∷ []) (sym e))) (enters_then (take i ls) (l ∷ []) a b c r s t m n)
+-- the gates one after another
+open_more : (m : Mode) (acc : List Bool) (gs : List Gate) (i : ℕ) (g : Gate) → i < length gs → g ≡ get_or gs i g → open_links m (take (suc i) gs) acc ≡ open_links m (take i gs) acc ++ open_links m (g ∷ []) acc
+open_more m acc [] i g h e = absurd (omega (arith, h))
+open_more m acc (x ∷ gs) zero g h e = ap (λ (z : Gate). open_links m (z ∷ []) acc) (sym e)
+open_more m acc (x ∷ gs) (suc i) g h e = elim (passes m x.test acc) as (λ v. cond v (x.link ∷ open_links m (take (suc i) gs) acc) (open_links m (take (suc i) gs) acc) ≡ cond v (x.link ∷ open_links m (take i gs) acc) (open_links m (take i gs) acc) ++ open_links m (g ∷ []) acc) [
+  | true ↦ ap (λ (z : List Hop). x.link ∷ z) (open_more m acc gs i g (let k : suc i < suc (length gs) = h in omega (arith, k)) e)
+  | false ↦ open_more m acc gs i g (let k : suc i < suc (length gs) = h in omega (arith, k)) e
+]
 
-pub enters_all : (ls : List Hop) (i : ℕ) (a b : List Bool) (r s : List ℕ) → length ls ≤ i → Enters (take i ls) a r b s → Enters ls a r b s
-enters_all ls i a b r s h m = subst (λ (z : List Hop). Enters z a r b s) (take_all i ls h) m
+pub gates_more : (m : Mode) (acc : List Bool) (gs : List Gate) (i : ℕ) (g : Gate) (a b c : List Bool) (r s t : List ℕ) → i < length gs → g ≡ get_or gs i g → Enters (open_links m (take i gs) acc) a r b s → Enters (open_links m (g ∷ []) acc) b s c t
+    → Enters (open_links m (take (i + 1) gs) acc) a r c t
+gates_more m acc gs i g a b c r s t h e k n =
+    subst (λ (z : ℕ). Enters (open_links m (take z gs) acc) a r c t) (sym (add-one i))
+    (subst (λ (z : List Hop). Enters z a r c t) (sym (open_more m acc gs i g h e)) (enters_then (open_links m (take i gs) acc) (open_links m (g ∷ []) acc) a b c r s t k n))
 
-pub enters_as : (ls ks : List Hop) (a b : List Bool) (r s : List ℕ) → ls ≡ ks → Enters ls a r b s → Enters ks a r b s
-enters_as ls ks a b r s e m = subst (λ (z : List Hop). Enters z a r b s) e m
+pub gates_all : (m : Mode) (acc : List Bool) (gs : List Gate) (i : ℕ) (a b : List Bool) (r s : List ℕ) → length gs ≤ i → Enters (open_links m (take i gs) acc) a r b s → Enters (open_links m gs acc) a r b s
+gates_all m acc gs i a b r s h n = subst (λ (z : List Gate). Enters (open_links m z acc) a r b s) (take_all i gs h) n
+
+-- a gate that is not followed: it ends at a marked node, or it stops the key
+pub gate_marked : (m : Mode) (acc : List Bool) (g : Gate) (marks : List Bool) (rest : List ℕ) → IsSet marks g.link.to → Enters (open_links m (g ∷ []) acc) marks rest marks rest
+gate_marked m acc g marks rest s = elim (passes m g.test acc) as (λ v. Enters (cond v (g.link ∷ []) []) marks rest marks rest) [
+  | true ↦ enters_marked g.link marks rest s
+  | false ↦ enters_none marks rest
+]
+
+pub gate_shut : (m : Mode) (acc : List Bool) (g : Gate) (marks : List Bool) (rest : List ℕ) → passes m g.test acc ≡ false → Enters (open_links m (g ∷ []) acc) marks rest marks rest
+gate_shut m acc g marks rest e = subst (λ (v : Bool). Enters (cond v (g.link ∷ []) []) marks rest marks rest) (sym e) (enters_none marks rest)
+
+pub gate_open : (m : Mode) (acc : List Bool) (g : Gate) (a b : List Bool) (r s : List ℕ) → passes m g.test acc ≡ true → Enters (g.link ∷ []) a r b s → Enters (open_links m (g ∷ []) acc) a r b s
+gate_open m acc g a b r s e n = subst (λ (v : Bool). Enters (cond v (g.link ∷ []) []) a r b s) (sym e) n
+
+-- the links to alternate exchanges one after another
+alternate_more : (m : Mode) (gs : List Gate) (acc : List Bool) (ls : List Hop) (i : ℕ) (l : Hop) → i < length ls → l ≡ get_or ls i l → open_alternates m gs (take (suc i) ls) acc ≡ open_alternates m gs (take i ls) acc ++ open_alternates m gs (l ∷ []) acc
+alternate_more m gs acc [] i l h e = absurd (omega (arith, h))
+alternate_more m gs acc (x ∷ ls) zero l h e = ap (λ (z : Hop). open_alternates m gs (z ∷ []) acc) (sym e)
+alternate_more m gs acc (x ∷ ls) (suc i) l h e = elim (all_block m gs x.from acc) as (λ v. cond v (x ∷ open_alternates m gs (take (suc i) ls) acc) (open_alternates m gs (take (suc i) ls) acc) ≡ cond v (x ∷ open_alternates m gs (take i ls) acc) (open_alternates m gs (take i ls) acc) ++ open_alternates m gs (l ∷ []) acc) [
+  | true ↦ ap (λ (z : List Hop). x ∷ z) (alternate_more m gs acc ls i l (let k : suc i < suc (length ls) = h in omega (arith, k)) e)
+  | false ↦ alternate_more m gs acc ls i l (let k : suc i < suc (length ls) = h in omega (arith, k)) e
+]
+
+pub alternates_more : (m : Mode) (gs : List Gate) (acc : List Bool) (ls : List Hop) (i : ℕ) (l : Hop) (a b c : List Bool) (r s t : List ℕ) → i < length ls → l ≡ get_or ls i l → Enters (open_alternates m gs (take i ls) acc) a r b s
+    → Enters (open_alternates m gs (l ∷ []) acc) b s c t → Enters (open_alternates m gs (take (i + 1) ls) acc) a r c t
+alternates_more m gs acc ls i l a b c r s t h e k n =
+    subst (λ (z : ℕ). Enters (open_alternates m gs (take z ls) acc) a r c t) (sym (add-one i))
+    (subst (λ (z : List Hop). Enters z a r c t) (sym (alternate_more m gs acc ls i l h e)) (enters_then (open_alternates m gs (take i ls) acc) (open_alternates m gs (l ∷ []) acc) a b c r s t k n))
+
+pub alternates_all : (m : Mode) (gs : List Gate) (acc : List Bool) (ls : List Hop) (i : ℕ) (a b : List Bool) (r s : List ℕ) → length ls ≤ i → Enters (open_alternates m gs (take i ls) acc) a r b s → Enters (open_alternates m gs ls acc) a r b s
+alternates_all m gs acc ls i a b r s h n = subst (λ (z : List Hop). Enters (open_alternates m gs z acc) a r b s) (take_all i ls h) n
+
+pub alternate_marked : (m : Mode) (gs : List Gate) (acc : List Bool) (l : Hop) (marks : List Bool) (rest : List ℕ) → IsSet marks l.to → Enters (open_alternates m gs (l ∷ []) acc) marks rest marks rest
+alternate_marked m gs acc l marks rest s = elim (all_block m gs l.from acc) as (λ v. Enters (cond v (l ∷ []) []) marks rest marks rest) [
+  | true ↦ enters_marked l marks rest s
+  | false ↦ enters_none marks rest
+]
+
+pub alternate_shut : (m : Mode) (gs : List Gate) (acc : List Bool) (l : Hop) (marks : List Bool) (rest : List ℕ) → all_block m gs l.from acc ≡ false → Enters (open_alternates m gs (l ∷ []) acc) marks rest marks rest
+alternate_shut m gs acc l marks rest e = subst (λ (v : Bool). Enters (cond v (l ∷ []) []) marks rest marks rest) (sym e) (enters_none marks rest)
+
+pub alternate_open : (m : Mode) (gs : List Gate) (acc : List Bool) (l : Hop) (a b : List Bool) (r s : List ℕ) → all_block m gs l.from acc ≡ true → Enters (l ∷ []) a r b s → Enters (open_alternates m gs (l ∷ []) acc) a r b s
+alternate_open m gs acc l a b r s e n = subst (λ (v : Bool). Enters (cond v (l ∷ []) []) a r b s) (sym e) n
 
 -- ---- place after place
 
@@ -109,19 +160,28 @@ spreads_on m es acc start place marks new rest left more b h k e n = record {
 pub fewer_left : (links : List Hop) (place : ℕ) (marks new : List Bool) (rest left more : List ℕ) → rest ≡ left ++ place ∷ [] → Enters links marks left new more → unset new + unset new + length more < unset marks + unset marks + length rest
 fewer_left links place marks new rest left more e n = let u = n.fewer in let k = ap (λ (z : List ℕ). length z) e ∙ length-append left (place ∷ []) in omega (arith, u, k)
 
--- the links that are open from a place end within
-pub ends_within : (m : Mode) (n p : ℕ) (e : Exit) (acc : List Bool) (links : List Hop) (size : ℕ) → LeadFrom n p e → size ≡ n → links ≡ open_ways m e.gates e.alternates acc → (l : Hop) → IsIn l links → l.to < size
-ends_within m n p e acc links size k s q l i = subst (λ (z : ℕ). l.to < z) (sym s) (open_leads m n p e acc l k (subst (λ (z : List Hop). IsIn l z) q i)).1
+-- the exit of a place, whatever stands for a missing one
+pub exit_there : (xs : List Exit) (i : ℕ) (d : Exit) → i < length xs → get_or xs i d ≡ exit_at xs i
+exit_there [] i d h = absurd (omega (arith, h))
+exit_there (x ∷ xs) zero d h = refl
+exit_there (x ∷ xs) (suc i) d h = exit_there xs i d (omega (arith, h))
 
--- the links that were found are those that are open from the place
-pub open_links_at : (m : Mode) (es : List Exit) (p : ℕ) (e : Exit) (acc : List Bool) (links none made : List Hop) → p < length es → e ≡ get_or es p e → none ≡ [] → made ≡ none ++ open_ways m e.gates e.alternates acc → links ≡ made
-    → links ≡ open_ways m (exit_at es p).gates (exit_at es p).alternates acc
-open_links_at m es p e acc links none made h s n k q = q ∙ k ∙ ap (λ (z : List Hop). z ++ open_ways m e.gates e.alternates acc) n ∙ ap (λ (z : Exit). open_ways m z.gates z.alternates acc) (s ∙ any_default es p e h)
-  where
-    any_default : (xs : List Exit) (i : ℕ) (d : Exit) → i < length xs → get_or xs i d ≡ exit_at xs i
-    any_default [] i d h = absurd (omega (arith, h))
-    any_default (x ∷ xs) zero d h = refl
-    any_default (x ∷ xs) (suc i) d h = any_default xs i d (omega (arith, h))
+-- all that is open from a place was followed
+module _ (m : Mode) (es : List Exit) (p : ℕ) (e : Exit) (acc : List Bool) (gs : List Gate) (ls : List Hop) (within : p < length es) (is : e ≡ get_or es p e) (gates : gs ≡ e.gates) (alternates : ls ≡ e.alternates) where
+  same_exit : e ≡ exit_at es p
+  same_exit = is ∙ exit_there es p e within
+
+  pub left_all : (a b c : List Bool) (r s t : List ℕ) → Enters (open_links m gs acc) a r b s → Enters (open_alternates m gs ls acc) b s c t → Enters (open_ways m (exit_at es p).gates (exit_at es p).alternates acc) a r c t
+  left_all a b c r s t n k =
+      subst (λ (z : Exit). Enters (open_ways m z.gates z.alternates acc) a r c t) same_exit
+      (subst (λ (z : List Gate). Enters (open_ways m z e.alternates acc) a r c t) gates
+      (subst (λ (z : List Hop). Enters (open_ways m gs z acc) a r c t) alternates (enters_then (open_links m gs acc) (open_alternates m gs ls acc) a b c r s t n k)))
+
+  pub gates_within : (n size : ℕ) → LeadFrom n p (exit_at es p) → size ≡ n → (g : Gate) → IsIn g gs → g.link.to < size
+  gates_within n size k s g i = subst (λ (z : ℕ). g.link.to < z) (sym s) (k.gates g (subst (λ (z : List Gate). IsIn g z) (gates ∙ ap (λ (z : Exit). z.gates) same_exit) i)).1
+
+  pub alternates_within : (n size : ℕ) → LeadFrom n p (exit_at es p) → size ≡ n → (l : Hop) → IsIn l ls → l.to < size
+  alternates_within n size k s l i = subst (λ (z : ℕ). l.to < z) (sym s) (k.alternates l (subst (λ (z : List Hop). IsIn l z) (alternates ∙ ap (λ (z : Exit). z.alternates) same_exit) i)).1
 
 pub none_left : (rest : List ℕ) → length rest ≡ 0 → rest ≡ []
 none_left [] e = refl

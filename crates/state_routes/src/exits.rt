@@ -2,11 +2,9 @@
 
 ghost use Rattle.std.specs.Prelude.{◌≡◌, ◌<◌, ◌++◌, ◌∷◌, [], length, IfOk, OnOk, slice_set};
 ghost use Rattle.model.specs.Topology.{IsIn};
-ghost use Rattle.state_routes.specs.Gates.{open_ways};
 ghost use Rattle.state_routes.specs.Exits.{AddsAlternates, AddsGates, AreEmpty, AreExits, exit_at, no_exit};
 
-use crate::gates::{Gate, add_alternates, add_open};
-use model::Mode;
+use crate::gates::Gate;
 use paths::Hop;
 use std::alloc::{AllocError, Global};
 use std::marker::Model;
@@ -50,38 +48,19 @@ impl Exits {
         Ok(())
     }
 
-    /// Appends the links that are open if exactly the `accepted` patterns accept. Fails only if an allocation fails.
-    pub fn add_open(
-        &self,
-        mode: Mode,
-        links: &mut Vec<Hop>,
-        accepted: &[bool],
-    ) -> Result<(), AllocError>
-        ensures { OnOk result (links.new.items ≡ links.old.items ++ open_ways mode self.now.gates self.now.alternates accepted.now) }
+    /// Returns the gates that start at the node.
+    pub fn gates(&self) -> &[Gate]
+        ensures { result.now ≡ self.now.gates }
     {
-        add_ways(
-            mode,
-            links,
-            self.gates.as_slice(),
-            self.alternates.as_slice(),
-            accepted,
-        )
+        self.gates.as_slice()
     }
-}
 
-/// Appends those of the links of `gates` and of `alternates` that are open if exactly the `accepted` patterns accept. Fails only if an allocation fails.
-fn add_ways(
-    mode: Mode,
-    links: &mut Vec<Hop>,
-    gates: &[Gate],
-    alternates: &[Hop],
-    accepted: &[bool],
-) -> Result<(), AllocError>
-    ensures { OnOk result (links.new.items ≡ links.old.items ++ open_ways mode gates.now alternates.now accepted.now) }
-{
-    add_open(mode, links, gates, accepted)?;
-    add_alternates(mode, links, gates, alternates, accepted)?;
-    Ok(())
+    /// Returns the links to alternate exchanges that start at the node.
+    pub fn alternates(&self) -> &[Hop]
+        ensures { result.now ≡ self.now.alternates }
+    {
+        self.alternates.as_slice()
+    }
 }
 
 /// Returns `count` empty exits, without gates and without links. Fails only if an allocation fails.

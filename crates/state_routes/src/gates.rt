@@ -1,6 +1,6 @@
 //! Bindings as gates between nodes, each with a test by a tracked pattern. Start with `gates_of`.
 
-ghost use Rattle.std.specs.Prelude.{◌≡◌, ◌++◌, IfOk, OnOk};
+ghost use Rattle.std.specs.Prelude.{◌≡◌, IfOk};
 ghost use Rattle.model.specs.Tracking.{same_kind, same_tracked};
 ghost use Rattle.state_routes.specs.Gates.{
   all_block,
@@ -12,8 +12,6 @@ ghost use Rattle.state_routes.specs.Gates.{
   is_open,
   is_shut,
   kind_at,
-  open_alternates,
-  open_links,
   passes,
   tracked_index,
   test_by,
@@ -195,7 +193,7 @@ fn is_shut(test: Test, accepted: &[bool]) -> bool
 
 /// Returns whether the test lets a key pass, as a promise of mode `mode` counts it: for a `reaches` if it is known to pass, for a `never`
 /// unless it is known to fail.
-fn passes(mode: Mode, test: Test, accepted: &[bool]) -> bool
+pub fn passes(mode: Mode, test: Test, accepted: &[bool]) -> bool
     ensures { result ≡ passes mode test accepted.now }
 {
     match mode {
@@ -216,7 +214,7 @@ fn blocks(mode: Mode, test: Test, accepted: &[bool]) -> bool
 }
 
 /// Returns whether each gate from node `from` stops a key.
-fn all_block(mode: Mode, gates: &[Gate], from: usize, accepted: &[bool]) -> bool
+pub fn all_block(mode: Mode, gates: &[Gate], from: usize, accepted: &[bool]) -> bool
     ensures { result ≡ all_block mode gates.now from accepted.now }
 {
     for gate in gates {
@@ -225,39 +223,4 @@ fn all_block(mode: Mode, gates: &[Gate], from: usize, accepted: &[bool]) -> bool
         }
     }
     true
-}
-
-/// Appends the links of the gates that let a key pass. Fails only if an allocation fails.
-pub fn add_open(
-    mode: Mode,
-    links: &mut Vec<Hop>,
-    gates: &[Gate],
-    accepted: &[bool],
-) -> Result<(), AllocError>
-    ensures { OnOk result (links.new.items ≡ links.old.items ++ open_links mode gates.now accepted.now) }
-{
-    for gate in gates {
-        if passes(mode, gate.test, accepted) {
-            links.push(gate.link)?;
-        }
-    }
-    Ok(())
-}
-
-/// Appends the links to alternate exchanges from the nodes whose gates all stop a key. Fails only if an allocation fails.
-pub fn add_alternates(
-    mode: Mode,
-    links: &mut Vec<Hop>,
-    gates: &[Gate],
-    alternates: &[Hop],
-    accepted: &[bool],
-) -> Result<(), AllocError>
-    ensures { OnOk result (links.new.items ≡ links.old.items ++ open_alternates mode gates.now alternates.now accepted.now) }
-{
-    for link in alternates {
-        if all_block(mode, gates, link.from, accepted) {
-            links.push(*link)?;
-        }
-    }
-    Ok(())
 }

@@ -1,12 +1,12 @@
 -- How many words some tokens match, with one token more.
-use Rattle.topic_match.proofs.Names.{◌≡◌, ℕ, zero, suc, ◌+◌, ◌-◌, ◌≤◌, ◌<◌, List, [], ◌∷◌, ◌++◌, Bool, true, false, refl, sym, ap, ◌∙◌, subst, length, take, set, get_or, inl, inr, ltb, arith, Decides, false≢true, ltb-true, ltb-false, bytes_eq-Decides, Text, Matches, none, Token, Word, One, Any, AreCounts, AreCountsTo, stands_first, stands_after}
+use Rattle.topic_match.proofs.Names.{◌≡◌, ℕ, zero, suc, ◌+◌, ◌-◌, ◌≤◌, ◌<◌, List, [], ◌∷◌, ◌++◌, Bool, true, false, refl, sym, ap, ◌∙◌, subst, length, take, set, get_or, inl, inr, ltb, arith, Decides, false≢true, ltb-true, ltb-false, bytes_eq-Decides, Text, Matches, none, Token, Word, One, Any, AreCounts, AreCountsTo, matches_empty, matches_after}
 use Rattle.std.specs.Prelude.{◌⊎◌}
 use Rattle.std.proofs.lemmas.Bool.Decides.{Decides-and, Decides-or}
 use Rattle.std.proofs.lemmas.List.{get_or-take, length-take-le, take_all, take_more, take_more_set}
 use Rattle.std.specs.Str.{bytes_eq}
 use Rattle.topic_match.proofs.Joins.{Parts, split, word_matches, one_matches, snoc_word, word_snoc, snoc_one, one_snoc, snoc_any, any_snoc_was, any_snoc_is, no_last}
 
-first_right : (t : Token) (b : List Token) (before : Bool) → Decides before (Matches b []) → Decides (stands_first t before) (Matches (b ++ t ∷ []) [])
+first_right : (t : Token) (b : List Token) (before : Bool) → Decides before (Matches b []) → Decides (matches_empty t before) (Matches (b ++ t ∷ []) [])
 first_right (Word v) b before d = (λ h. absurd (false≢true h), λ m. absurd (nothing (split b (Word v ∷ []) m refl)))
   where
     nothing : Parts b (Word v ∷ []) [] → ⊥
@@ -25,7 +25,7 @@ first_right Any b before d = (λ h. any_snoc_is b [] (d.0 h), λ m. d.1 (front (
         go (x ∷ f) k e m = cc
 
 after_right : (t : Token) (b : List Token) (ws : List Text) (w : Text) (bw was bi : Bool) → Decides bw (Matches b ws) → Decides was (Matches (b ++ t ∷ []) ws)
-    → Decides bi (Matches b (ws ++ w ∷ [])) → Decides (stands_after t w bw was bi) (Matches (b ++ t ∷ []) (ws ++ w ∷ []))
+    → Decides bi (Matches b (ws ++ w ∷ [])) → Decides (matches_after t w bw was bi) (Matches (b ++ t ∷ []) (ws ++ w ∷ []))
 after_right (Word v) b ws w bw was bi d e f =
     let both = Decides-and bw (bytes_eq w v) d (bytes_eq-Decides w v) in
     (λ h. let p = both.0 h in word_snoc b v w ws (sym p.1) p.0, λ m. let r = snoc_word b v w ws m in both.1 (r.1, sym r.0))
@@ -54,7 +54,7 @@ take_push [] n w h e = absurd (omega (arith, h))
 take_push (x ∷ ws) zero w h e = ap (λ (z : Text). z ∷ []) (sym e)
 take_push (x ∷ ws) (suc n) w h e = let k : suc n + 1 ≡ suc (n + 1) = omega arith in rw k (ap (λ (z : List Text). x ∷ z) (take_push ws n w (omega (arith, h)) e))
 
-pub counts_first : (t : Token) (b : List Token) (ws : List Text) (before after : List Bool) (was : Bool) → AreCounts b ws before → was ≡ stands_first t (get_or before 0 false)
+pub counts_first : (t : Token) (b : List Token) (ws : List Text) (before after : List Bool) (was : Bool) → AreCounts b ws before → was ≡ matches_empty t (get_or before 0 false)
     → after ≡ was ∷ [] → AreCountsTo (b ++ t ∷ []) ws 0 after was
 counts_first t b ws before after was a f g =
     let d : Decides was (Matches (b ++ t ∷ []) []) =
@@ -77,7 +77,7 @@ le_more n i h = at n i h (ltb i (n + 1)) refl
     at n i h false q = inr (let k = ltb-false i (n + 1) q in omega (arith, h, k))
 
 pub counts_more : (t : Token) (b : List Token) (ws : List Text) (before after more : List Bool) (n : ℕ) (w : Text) (was now : Bool) → AreCounts b ws before → n < length ws
-    → w ≡ get_or ws n w → now ≡ stands_after t w (get_or before n false) was (get_or before (n + 1) false) → more ≡ after ++ now ∷ []
+    → w ≡ get_or ws n w → now ≡ matches_after t w (get_or before n false) was (get_or before (n + 1) false) → more ≡ after ++ now ∷ []
     → AreCountsTo (b ++ t ∷ []) ws n after was → AreCountsTo (b ++ t ∷ []) ws (n + 1) more now
 counts_more t b ws before after more n w was now a h e k m s =
     let bw = get_or before n false in
@@ -102,13 +102,13 @@ counts_done b ws counts was s = record { size = s.size; each = s.each }
 
 -- written over what was there
 
-pub counts_begun : (t : Token) (b : List Token) (ws : List Text) (before after more : List Bool) (was : Bool) → AreCounts b ws before → was ≡ stands_first t (get_or before 0 false)
+pub counts_begun : (t : Token) (b : List Token) (ws : List Text) (before after more : List Bool) (was : Bool) → AreCounts b ws before → was ≡ matches_empty t (get_or before 0 false)
     → more ≡ set after 0 was → length after ≡ length ws + 1 → AreCountsTo (b ++ t ∷ []) ws 0 (take (0 + 1) more) was
 counts_begun t b ws before after more was a f m size =
     counts_first t b ws before (take (0 + 1) more) was a f (ap (λ (xs : List Bool). take (0 + 1) xs) m ∙ take_more_set after 0 was (omega (arith, size)))
 
 pub counts_written : (t : Token) (b : List Token) (ws : List Text) (before after more : List Bool) (n : ℕ) (w : Text) (was now : Bool) → AreCounts b ws before → n < length ws
-    → w ≡ get_or ws n w → now ≡ stands_after t w (get_or before n false) was (get_or before (n + 1) false) → more ≡ set after (n + 1) now → length after ≡ length ws + 1
+    → w ≡ get_or ws n w → now ≡ matches_after t w (get_or before n false) was (get_or before (n + 1) false) → more ≡ set after (n + 1) now → length after ≡ length ws + 1
     → AreCountsTo (b ++ t ∷ []) ws n (take (n + 1) after) was → AreCountsTo (b ++ t ∷ []) ws (n + 1) (take (n + 1 + 1) more) now
 counts_written t b ws before after more n w was now a h e k m size s =
     counts_more t b ws before (take (n + 1) after) (take (n + 1 + 1) more) n w was now a h e k

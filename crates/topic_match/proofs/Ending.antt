@@ -1,5 +1,5 @@
 -- The places at nodes, and those that are found.
-use Rattle.topic_match.proofs.Names.{◌≡◌, ℕ, zero, suc, ◌+◌, ◌<◌, List, [], ◌∷◌, ◌++◌, Bool, true, false, cond, refl, sym, ap, ◌∙◌, subst, length, take, get_or, set, inl, inr, arith, append-nil, false≢true, IsIn, Met, AreEnding, AreSound, IsFound, AreFound, AllApart, nodes_of}
+use Rattle.topic_match.proofs.Names.{◌≡◌, ℕ, zero, suc, ◌+◌, ◌<◌, List, [], ◌∷◌, ◌++◌, Bool, true, false, cond, refl, sym, ap, ◌∙◌, subst, length, take, get_or, set, inl, inr, arith, append-nil, false≢true, IsIn, Met, AreEnding, AreSound, IsFound, AreFound, AllDistinct, nodes_of}
 use Rattle.std.specs.Prelude.{◌⊎◌}
 use Rattle.topic_match.proofs.Lists.{in_front, in_back, in_two, in_push, apart_two, in_at, take_push}
 use Rattle.topic_match.proofs.Grown.{set_here, set_there, set_length, same_or, below_or}
@@ -24,11 +24,11 @@ ending_more ends count n node lists new e h f a =
     ] in
     subst (λ (z : List (List ℕ)). AreEnding ends count (n + 1) z) (sym f) (record {
       size = set_length lists node more ∙ a.size;
-      apart = λ c. elim (same_or node c) [
-        | inl q ↦ subst (λ (z : List ℕ). AllApart z) (sym (ap (λ (z : ℕ). get_or (set lists node more) z []) (sym q) ∙ at_node))
-            (apart_two (get_or lists node []) (n ∷ []) (a.apart node) ((λ i. i), tt)
+      distinct = λ c. elim (same_or node c) [
+        | inl q ↦ subst (λ (z : List ℕ). AllDistinct z) (sym (ap (λ (z : ℕ). get_or (set lists node more) z []) (sym q) ∙ at_node))
+            (apart_two (get_or lists node []) (n ∷ []) (a.distinct node) ((λ i. i), tt)
             (λ p i j. elim j [ inl k ↦ (let b = (a.only node p i).0 in omega (arith, b, k)) | inr k ↦ k ]))
-        | inr m ↦ subst (λ (z : List ℕ). AllApart z) (sym (set_there lists node c more [] m)) (a.apart c)
+        | inr m ↦ subst (λ (z : List ℕ). AllDistinct z) (sym (set_there lists node c more [] m)) (a.distinct c)
       ];
       only = λ c p i. elim (in_more c p i) [
         | inl k ↦ (let b = a.only c p k in let d = b.0 in (omega (arith, d), b.1))
@@ -45,7 +45,7 @@ pub met_node : (xs : List Met) (m : Met) → IsIn m xs → IsIn m.node (nodes_of
 met_node [] m h = absurd h
 met_node (x ∷ xs) m h = elim h [ inl e ↦ inl (ap (λ (z : Met). z.node) e) | inr r ↦ inr (met_node xs m r) ]
 
-new_node : (xs : List Met) (n : ℕ) (x y : Met) → AllApart (nodes_of xs) → n < length xs → x ≡ get_or xs n x → IsIn y (take n xs) → y.node ≡ x.node → ⊥
+new_node : (xs : List Met) (n : ℕ) (x y : Met) → AllDistinct (nodes_of xs) → n < length xs → x ≡ get_or xs n x → IsIn y (take n xs) → y.node ≡ x.node → ⊥
 new_node [] n x y a h e i f = omega (arith, h)
 new_node (z ∷ xs) zero x y a h e i f = i
 new_node (z ∷ xs) (suc n) x y a h e i f = elim i [
@@ -63,8 +63,8 @@ found_more lists met n at m found new s h e f a =
 
     go : (v : Bool) → get_or m.counts.items n false ≡ v → new ≡ found ++ cond v (get_or lists m.node []) [] → AreFound lists (take at met ++ m ∷ []) n new
     go true g k = subst (λ (z : List ℕ). AreFound lists (take at met ++ m ∷ []) n z) (sym k) (record {
-      apart = apart_two found (get_or lists m.node []) a.apart (s.each m.node)
-          (λ p i j. let q = a.only p i in new_node met at m q.at s.apart h e q.is_met (s.own q.at.node m.node p q.ends j));
+      distinct = apart_two found (get_or lists m.node []) a.distinct (s.each m.node)
+          (λ p i j. let q = a.only p i in new_node met at m q.at s.distinct h e q.is_met (s.own q.at.node m.node p q.ends j));
       only = λ p i. elim (in_two found (get_or lists m.node []) p i) [
         | inl j ↦ front p (a.only p j)
         | inr j ↦ record { at = m; is_met = in_back (take at met) (m ∷ []) m (inl refl); matches = g; ends = j }
@@ -75,7 +75,7 @@ found_more lists met n at m found new s h e f a =
       ];
     })
     go false g k = subst (λ (z : List ℕ). AreFound lists (take at met ++ m ∷ []) n z) (sym (k ∙ append-nil found)) (record {
-      apart = a.apart;
+      distinct = a.distinct;
       only = λ p i. front p (a.only p i);
       all = λ p i. elim (in_push (take at met) m i.at i.is_met) [
         | inl j ↦ a.all p (record { at = i.at; is_met = j; matches = i.matches; ends = i.ends })

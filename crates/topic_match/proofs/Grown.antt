@@ -96,9 +96,9 @@ added_linked patterns nodes slots place parent pattern depth more changed l hp h
         | inr n ↦ (let q = there s n in let k = l.later s (omega (arith, g, q)) in omega (arith, q, k, size, wide))
       ];
       each = λ c h k. elim (below_or (length nodes) c (omega (arith, k, size))) [ inl m ↦ older c h m | inr e ↦ subst (λ (j : ℕ). IsNode patterns all filled j) (sym e) newer ];
-      apart = λ c d h k e. elim (below_or (length nodes) c (omega (arith, h, size))) [
+      distinct = λ c d h k e. elim (below_or (length nodes) c (omega (arith, h, size))) [
         | inl m ↦ (elim (below_or (length nodes) d (omega (arith, k, size))) [
-          | inl n ↦ l.apart c d m n (sym (begins c m) ∙ e ∙ begins d n)
+          | inl n ↦ l.distinct c d m n (sym (begins c m) ∙ e ∙ begins d n)
           | inr f ↦ absurd (clash c m (sym (begins c m) ∙ e ∙ ap (λ (j : ℕ). beginning_at patterns all j) f ∙ newest))
         ])
         | inr g ↦ (elim (below_or (length nodes) d (omega (arith, k, size))) [
@@ -229,7 +229,7 @@ root_linked patterns nodes slots n h e f =
       within = λ i. (let k = rep_at n i in omega (arith, k));
       later = λ i g. absurd (let k = rep_at n i in omega (arith, k, g));
       each = λ c i k. absurd (omega (arith, i, k));
-      apart = λ c d i k g. omega (arith, i, k);
+      distinct = λ c d i k g. omega (arith, i, k);
     }))
 
 pub no_ends : (patterns : List (List Token)) (nodes : List Node) → EndAt patterns nodes 0 []

@@ -6,8 +6,8 @@ use Rattle.topic_match.proofs.Walking.{node_in, root_is}
 pub sound : (patterns : List (List Token)) (nodes : List Node) (slots ends : List ℕ) (places : List (List ℕ)) (ws : List Text) (met : List Met) → IsTrie patterns nodes slots ends places
     → AreMet patterns nodes ws (Begins []) met → AreSound places met (length ws)
 sound patterns nodes slots ends places ws met t a = record {
-  apart = a.apart;
-  each = t.ending.apart;
+  distinct = a.distinct;
+  each = t.ending.distinct;
   own = λ c d p i j. sym (t.ending.only c p i).1 ∙ (t.ending.only d p j).1;
   within = λ m i. (let h = a.within m i in let s = t.ending.size in omega (arith, h, s));
   told = λ m i. (let s = (a.counts m i).size in omega (arith, s));

@@ -1,5 +1,5 @@
 -- What stands in lists.
-use Rattle.topic_match.proofs.Names.{◌≡◌, ℕ, zero, suc, ◌+◌, ◌≤◌, ◌<◌, List, [], ◌∷◌, ◌++◌, refl, sym, ap, ◌∙◌, subst, length, take, get_or, inl, inr, arith, IsIn, AllApart}
+use Rattle.topic_match.proofs.Names.{◌≡◌, ℕ, zero, suc, ◌+◌, ◌≤◌, ◌<◌, List, [], ◌∷◌, ◌++◌, refl, sym, ap, ◌∙◌, subst, length, take, get_or, inl, inr, arith, IsIn, AllDistinct}
 use Rattle.std.specs.Prelude.{◌⊎◌}
 
 pub in_front : {A : Type 0} (xs ys : List A) (a : A) → IsIn a xs → IsIn a (xs ++ ys)
@@ -17,7 +17,7 @@ in_two (x ∷ xs) ys a h = elim h [ inl e ↦ inl (inl e) | inr r ↦ (elim (in_
 pub in_push : {A : Type 0} (xs : List A) (y a : A) → IsIn a (xs ++ y ∷ []) → IsIn a xs ⊎ (a ≡ y)
 in_push xs y a h = elim (in_two xs (y ∷ []) a h) [ inl p ↦ inl p | inr q ↦ (elim q [ inl e ↦ inr e | inr r ↦ absurd r ]) ]
 
-pub apart_two : {A : Type 0} (xs ys : List A) → AllApart xs → AllApart ys → ((a : A) → IsIn a xs → IsIn a ys → ⊥) → AllApart (xs ++ ys)
+pub apart_two : {A : Type 0} (xs ys : List A) → AllDistinct xs → AllDistinct ys → ((a : A) → IsIn a xs → IsIn a ys → ⊥) → AllDistinct (xs ++ ys)
 apart_two [] ys a b n = b
 apart_two (x ∷ xs) ys a b n = (λ h. (elim (in_two xs ys x h) [ inl p ↦ a.0 p | inr q ↦ n x (inl refl) q ]), apart_two xs ys a.1 b (λ z h k. n z (inr h) k))
 
@@ -38,7 +38,7 @@ take_push (y ∷ xs) zero x h e = ap (λ z. z ∷ []) (sym e)
 take_push (y ∷ xs) (suc n) x h e = let k : suc n + 1 ≡ suc (n + 1) = omega arith in rw k (ap (λ z. y ∷ z) (take_push xs n x (omega (arith, h)) e))
 
 -- what stands at a place stands nowhere before it
-pub new_at : {A : Type 0} (xs : List A) (n : ℕ) (x : A) → AllApart xs → n < length xs → x ≡ get_or xs n x → IsIn x (take n xs) → ⊥
+pub new_at : {A : Type 0} (xs : List A) (n : ℕ) (x : A) → AllDistinct xs → n < length xs → x ≡ get_or xs n x → IsIn x (take n xs) → ⊥
 new_at [] n x a h e i = omega (arith, h)
 new_at (y ∷ xs) zero x a h e i = i
 new_at (y ∷ xs) (suc n) x a h e i = elim i [

@@ -10,15 +10,15 @@ pub use Rattle.std.proofs.lemmas.Bool.{eqb-true, false≢true, ltb-false, ltb-tr
 pub use Rattle.std.proofs.lemmas.List.{same_from_push, take-append-drop}
 pub use Rattle.std.proofs.lemmas.Slice.Eq.{bytes_eq-Decides}
 pub use Rattle.std.specs.Prelude.{AllPairs, Decides, IfNone, IfSome, None, Option, Some, option_copied}
-pub use Rattle.topic_match.specs.Beginnings.{AllApart, Begins, IsCounted, IsPair, Pair}
+pub use Rattle.topic_match.specs.Beginnings.{AllDistinct, Begins, IsCounted, IsPair, Pair}
 pub use Rattle.topic_match.specs.Building.{AreGrown, EndAt}
-pub use Rattle.topic_match.specs.Counts.{AreCounts, AreCountsTo, stands_after, stands_first, trues}
+pub use Rattle.topic_match.specs.Counts.{AreCounts, AreCountsTo, matches_after, matches_empty, trues}
 pub use Rattle.topic_match.specs.Ends.{AreEnding, AreFound, AreRising, AreSound, IsFound}
 pub use Rattle.topic_match.specs.Exits.{AreDeep, AreExits, has_exit, no_exit, with_exit}
 pub use Rattle.topic_match.specs.Nodes.{AreLinked, Found, IsChild, IsDeep, IsFoundBy, IsLast, IsNode, IsPlace, KeepNodes, beginning, beginning_at, bits_of, first_slot, further, heads_of, here, last_token, mark_of, mixed, no_node, node_at, slot_behind}
 pub use Rattle.topic_match.specs.Places.{AreMatches, AreSome}
 pub use Rattle.topic_match.specs.Taking.{Advances, IsStuck, IsWithoutAny, IsWordTaken, still, taken, token_takes}
 pub use Rattle.topic_match.specs.Tries.{IsTrie}
-pub use Rattle.topic_match.specs.Walks.{AreAdded, AreMet, AreSteps, GoesOn, IsBarren, IsStep, nodes_of, told_in}
+pub use Rattle.topic_match.specs.Walks.{AreAdded, AreMet, AreSteps, GoesOn, IsBarren, IsStep, nodes_of, trues_in}
 pub use Rattle.topic_match.specs.declared.nodes.Met.{Met}
 pub use Rattle.topic_match.specs.declared.nodes.Node.{Node}

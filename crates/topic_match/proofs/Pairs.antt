@@ -1,5 +1,5 @@
 -- The pairs of a beginning and a number of words that it matches.
-use Rattle.topic_match.proofs.Names.{◌≡◌, ℕ, zero, suc, ◌+◌, ◌≤◌, ◌<◌, List, [], ◌∷◌, ◌++◌, Bool, true, false, refl, sym, ap, ◌∙◌, subst, length, take, drop, get_or, inl, inr, arith, length-append, false≢true, take-append-drop, Text, words, Matches, IsIn, Token, Node, Met, AllApart, Begins, Pair, IsPair, IsCounted, trues, AreLinked, node_at, beginning_at, IsTrie, nodes_of, AreMet, told_in}
+use Rattle.topic_match.proofs.Names.{◌≡◌, ℕ, zero, suc, ◌+◌, ◌≤◌, ◌<◌, List, [], ◌∷◌, ◌++◌, Bool, true, false, refl, sym, ap, ◌∙◌, subst, length, take, drop, get_or, inl, inr, arith, length-append, false≢true, take-append-drop, Text, words, Matches, IsIn, Token, Node, Met, AllDistinct, Begins, Pair, IsPair, IsCounted, trues, AreLinked, node_at, beginning_at, IsTrie, nodes_of, AreMet, trues_in}
 use Rattle.topic_match.proofs.Lists.{in_front, in_back, in_two, apart_two, in_at}
 use Rattle.topic_match.proofs.Grown.{same_default}
 use Rattle.topic_match.proofs.Ending.{met_node}
@@ -45,7 +45,7 @@ in_from b i (false ∷ cs) zero n e h = absurd (false≢true h)
 in_from b i (true ∷ cs) (suc j) n e h = inr (in_from b (suc i) cs j n (omega (arith, e)) h)
 in_from b i (false ∷ cs) (suc j) n e h = in_from b (suc i) cs j n (omega (arith, e)) h
 
-apart_from : (b : List Token) (i : ℕ) (cs : List Bool) → AllApart (pairs_from b i cs)
+apart_from : (b : List Token) (i : ℕ) (cs : List Bool) → AllDistinct (pairs_from b i cs)
 apart_from b i [] = tt
 apart_from b i (true ∷ cs) = ((λ h. let o = (one_from b (suc i) cs (pair_of b i) h) in let f = o.taken in omega (arith, f)), apart_from b (suc i) cs)
 apart_from b i (false ∷ cs) = apart_from b (suc i) cs
@@ -56,7 +56,7 @@ abbrev pairs_of : List (List Token) → List Node → List Met → List Pair
 pairs_of patterns nodes [] = []
 pairs_of patterns nodes (m ∷ ms) = pairs_from (beginning_at patterns nodes m.node) 0 m.counts.items ++ pairs_of patterns nodes ms
 
-size_of : (patterns : List (List Token)) (nodes : List Node) (met : List Met) → told_in met ≡ length (pairs_of patterns nodes met)
+size_of : (patterns : List (List Token)) (nodes : List Node) (met : List Met) → trues_in met ≡ length (pairs_of patterns nodes met)
 size_of patterns nodes [] = refl
 size_of patterns nodes (m ∷ ms) =
     let b = beginning_at patterns nodes m.node in
@@ -82,8 +82,8 @@ in_of patterns nodes (x ∷ ms) m p h i = elim h [
   | inr r ↦ in_back (pairs_from (beginning_at patterns nodes x.node) 0 x.counts.items) (pairs_of patterns nodes ms) p (in_of patterns nodes ms m p r i)
 ]
 
-apart_of : (patterns : List (List Token)) (nodes : List Node) (slots : List ℕ) (met : List Met) → AreLinked patterns nodes slots → AllApart (nodes_of met)
-    → ((m : Met) → IsIn m met → m.node < length nodes) → AllApart (pairs_of patterns nodes met)
+apart_of : (patterns : List (List Token)) (nodes : List Node) (slots : List ℕ) (met : List Met) → AreLinked patterns nodes slots → AllDistinct (nodes_of met)
+    → ((m : Met) → IsIn m met → m.node < length nodes) → AllDistinct (pairs_of patterns nodes met)
 apart_of patterns nodes slots [] l a w = tt
 apart_of patterns nodes slots (m ∷ ms) l a w =
     apart_two (pairs_from (beginning_at patterns nodes m.node) 0 m.counts.items) (pairs_of patterns nodes ms) (apart_from (beginning_at patterns nodes m.node) 0 m.counts.items)
@@ -92,7 +92,7 @@ apart_of patterns nodes slots (m ∷ ms) l a w =
     let x = of_in patterns nodes ms p j in
     let e = (one_from (beginning_at patterns nodes m.node) 0 m.counts.items p i).start in
     let f = (one_from (beginning_at patterns nodes x.0.node) 0 x.0.counts.items p x.2).start in
-    let same : m.node ≡ x.0.node = l.apart m.node x.0.node (w m (inl refl)) (w x.0 (inr x.1)) (sym e ∙ f) in
+    let same : m.node ≡ x.0.node = l.distinct m.node x.0.node (w m (inl refl)) (w x.0 (inr x.1)) (sym e ∙ f) in
     a.0 (subst (λ (z : ℕ). IsIn z (nodes_of ms)) (sym same) (met_node ms x.0 x.1)))
 
 -- ---- they are counted
@@ -160,10 +160,10 @@ all_pairs patterns nodes slots ends places key met p t a h =
     (in_from (beginning_at patterns nodes x.0.node) 0 x.0.counts.items p.taken p.taken (omega arith) told))
 
 pub counted : (patterns : List (List Token)) (nodes : List Node) (slots ends : List ℕ) (places : List (List ℕ)) (key : Text) (met : List Met) (count : ℕ) → IsTrie patterns nodes slots ends places
-    → 0 < length patterns → AreMet patterns nodes (words key) (Begins []) met → count ≡ told_in met → IsCounted patterns key count
+    → 0 < length patterns → AreMet patterns nodes (words key) (Begins []) met → count ≡ trues_in met → IsCounted patterns key count
 counted patterns nodes slots ends places key met count t s a e = record {
   pairs = pairs_of patterns nodes met;
-  apart = apart_of patterns nodes slots met t.linked a.apart a.within;
+  distinct = apart_of patterns nodes slots met t.linked a.distinct a.within;
   only = λ p i. only_pairs patterns nodes slots key met p t.linked s a i;
   all = λ p h. all_pairs patterns nodes slots ends places key met p t a h;
   size = e ∙ size_of patterns nodes met;

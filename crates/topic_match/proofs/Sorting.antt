@@ -1,5 +1,5 @@
 -- Places that are sorted.
-use Rattle.topic_match.proofs.Names.{◌≡◌, ℕ, zero, suc, ◌<◌, List, [], ◌∷◌, Bool, true, false, refl, sym, ap, ◌∙◌, subst, length, get_or, eqb, inl, inr, arith, AllPairs, eqb-true, Text, words, IsIn, Token, Node, Met, AreSound, AreFound, AreRising, AreMatches, IsTrie, AllApart, Begins, AreMet}
+use Rattle.topic_match.proofs.Names.{◌≡◌, ℕ, zero, suc, ◌<◌, List, [], ◌∷◌, Bool, true, false, refl, sym, ap, ◌∙◌, subst, length, get_or, eqb, inl, inr, arith, AllPairs, eqb-true, Text, words, IsIn, Token, Node, Met, AreSound, AreFound, AreRising, AreMatches, IsTrie, AllDistinct, Begins, AreMet}
 use Rattle.std.specs.List.{IsDistinct, Contains}
 use Rattle.std.specs.List.Sorted.{IsPermutation, IsSorted}
 use Rattle.std.specs.Ordering.{nat_cmp}
@@ -10,7 +10,7 @@ use Rattle.topic_match.proofs.Lists.{in_at}
 use Rattle.topic_match.proofs.Grown.{same_default}
 use Rattle.topic_match.proofs.Law.{only_matching, all_matching}
 
-apart_at : (xs : List ℕ) (i j d : ℕ) → AllApart xs → i < j → j < length xs → get_or xs i d ≡ get_or xs j d → ⊥
+apart_at : (xs : List ℕ) (i j d : ℕ) → AllDistinct xs → i < j → j < length xs → get_or xs i d ≡ get_or xs j d → ⊥
 apart_at [] i j d a h k e = omega (arith, k)
 apart_at (x ∷ xs) i zero d a h k e = omega (arith, h)
 apart_at (x ∷ xs) zero (suc j) d a h k e = a.0 (in_at xs j x (omega (arith, k)) (e ∙ same_default xs j d x (omega (arith, k))))
@@ -20,8 +20,8 @@ unlike : (x y : ℕ) → (x ≡ y → ⊥) → (v : Bool) → eqb x y ≡ v → 
 unlike x y n true e = absurd (n (eqb-true x y e))
 unlike x y n false e = e
 
-distinct : (xs : List ℕ) → AllApart xs → IsDistinct eqb xs
-distinct xs a = IsDistinct-from_apart eqb xs (λ i j d h k. unlike (get_or xs i d) (get_or xs j d) (apart_at xs i j d a h k) (eqb (get_or xs i d) (get_or xs j d)) refl)
+distinct_numbers : (xs : List ℕ) → AllDistinct xs → IsDistinct eqb xs
+distinct_numbers xs a = IsDistinct-from_apart eqb xs (λ i j d h k. unlike (get_or xs i d) (get_or xs j d) (apart_at xs i j d a h k) (eqb (get_or xs i d) (get_or xs j d)) refl)
 
 flips : (x y : ℕ) → eqb x y ≡ eqb y x
 flips x y = go (eqb x y) (eqb y x) refl refl
@@ -34,9 +34,9 @@ flips x y = go (eqb x y) (eqb y x) refl refl
     go false true p q = same (sym (eqb-true y x q))
     go false false p q = p ∙ sym q
 
-rising : (xs ys : List ℕ) → AllApart xs → IsPermutation xs ys → IsSorted nat_cmp ys → AllPairs (λ (i j : ℕ). i < j) ys
+rising : (xs ys : List ℕ) → AllDistinct xs → IsPermutation xs ys → IsSorted nat_cmp ys → AllPairs (λ (i j : ℕ). i < j) ys
 rising xs ys a p s =
-    AllPairs-from_increasing ys (IsStrictlyIncreasing-from_distinct ys (IsNonDecreasingBy-from_sort (λ (x : ℕ). x) ys s) (IsDistinct-IsPermutation eqb flips xs ys p (distinct xs a)))
+    AllPairs-from_increasing ys (IsStrictlyIncreasing-from_distinct ys (IsNonDecreasingBy-from_sort (λ (x : ℕ). x) ys s) (IsDistinct-IsPermutation eqb flips xs ys p (distinct_numbers xs a)))
 
 contains : (xs : List ℕ) (p : ℕ) → IsIn p xs → Contains xs p
 contains [] p h = absurd h
@@ -48,7 +48,7 @@ is_in xs p c = in_at xs c.0 p c.1 (sym c.2)
 pub sorted_found : (lists : List (List ℕ)) (met : List Met) (n : ℕ) (found sorted : List ℕ) → AreFound lists met n found → IsPermutation found sorted → IsSorted nat_cmp sorted
     → AreRising lists met n sorted
 sorted_found lists met n found sorted f p s = record {
-  rising = rising found sorted f.apart p s;
+  rising = rising found sorted f.distinct p s;
   only = λ i h. f.only i (is_in found i (Contains-permutation sorted found i (IsPermutation-sym found sorted p) (contains sorted i h)));
   all = λ i h. is_in sorted i (Contains-permutation found sorted i p (contains found i (f.all i h)));
 }

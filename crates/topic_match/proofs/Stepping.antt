@@ -16,7 +16,7 @@ word_both steps w i = (λ e. i, λ j. refl)
 pub steps_same : (steps : List Token) (words : List Text) (n : ℕ) (w : Text) (told : Bool) → n < length words → w ≡ get_or words n w → Decides told (IsIn (Word w) steps) → told ≡ true
     → AreSteps steps (take n words) → AreSteps steps (take (n + 1) words)
 steps_same steps words n w told h e d f s = subst (λ (z : List Text). AreSteps steps z) (sym (take_push words n w h e)) (record {
-  apart = s.apart;
+  distinct = s.distinct;
   any = s.any;
   one = s.one;
   each = λ v i. elim (in_push (take n words) w v i) [ inl p ↦ s.each v p | inr q ↦ subst (λ (z : Text). IsIn (Word z) steps) (sym q) (d.0 f) ];
@@ -27,7 +27,7 @@ pub steps_more : (steps more : List Token) (words : List Text) (n : ℕ) (w v : 
 steps_more steps more words n w v told h e d f g k s =
     let is : more ≡ steps ++ Word w ∷ [] = subst (λ (z : Text). more ≡ steps ++ Word z ∷ []) g k in
     subst (λ (z : List Token). AreSteps z (take (n + 1) words)) (sym is) (subst (λ (z : List Text). AreSteps (steps ++ Word w ∷ []) z) (sym (take_push words n w h e)) (record {
-      apart = apart_two steps (Word w ∷ []) s.apart ((λ i. i), tt) (λ t i j. elim j [ inl p ↦ false≢true (sym f ∙ d.1 (subst (λ (z : Token). IsIn z steps) p i)) | inr p ↦ p ]);
+      distinct = apart_two steps (Word w ∷ []) s.distinct ((λ i. i), tt) (λ t i j. elim j [ inl p ↦ false≢true (sym f ∙ d.1 (subst (λ (z : Token). IsIn z steps) p i)) | inr p ↦ p ]);
       any = in_front steps (Word w ∷ []) Any s.any;
       one = in_front steps (Word w ∷ []) One s.one;
       each = λ u i. elim (in_push (take n words) w u i) [ inl p ↦ in_front steps (Word w ∷ []) (Word u) (s.each u p) | inr q ↦ in_back steps (Word w ∷ []) (Word u) (inl (subst (λ (z : Text). Word u ≡ Word z) q refl)) ];

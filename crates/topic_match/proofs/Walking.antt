@@ -1,5 +1,5 @@
 -- The walk: what a token leads to, and what is added.
-use Rattle.topic_match.proofs.Names.{◌≡◌, ℕ, zero, suc, ◌+◌, ◌<◌, List, [], ◌∷◌, ◌++◌, Bool, false, refl, sym, ap, ◌∙◌, subst, length, take, get_or, inl, inr, arith, append_assoc, append-nil, Option, Some, None, IfSome, IfNone, same_from_push, false≢true, Text, Matches, word, IsIn, Token, Word, One, Any, Node, Met, AreCounts, node_at, beginning_at, last_token, AreLinked, IsChild, AllApart, Begins, AreSteps, GoesOn, nodes_of, AreAdded, IsStep, IsBarren}
+use Rattle.topic_match.proofs.Names.{◌≡◌, ℕ, zero, suc, ◌+◌, ◌<◌, List, [], ◌∷◌, ◌++◌, Bool, false, refl, sym, ap, ◌∙◌, subst, length, take, get_or, inl, inr, arith, append_assoc, append-nil, Option, Some, None, IfSome, IfNone, same_from_push, false≢true, Text, Matches, word, IsIn, Token, Word, One, Any, Node, Met, AreCounts, node_at, beginning_at, last_token, AreLinked, IsChild, AllDistinct, Begins, AreSteps, GoesOn, nodes_of, AreAdded, IsStep, IsBarren}
 use Rattle.std.specs.Prelude.{◌⊎◌}
 use Rattle.topic_match.proofs.Joins.{split, last_of}
 use Rattle.topic_match.proofs.Lists.{in_front, in_back, in_two, in_push, apart_two, in_taken, take_push, new_at, take_all, front_taken}
@@ -47,7 +47,7 @@ is_child patterns nodes slots at a t l h k e =
     record {
       some = some;
       within = k;
-      last = record { origin = l.apart (node_at nodes a).parent at (omega (arith, q, k)) h s.0; token_is = s.1 };
+      last = record { origin = l.distinct (node_at nodes a).parent at (omega (arith, q, k)) h s.0; token_is = s.1 };
     }
 
 pub child_is : (patterns : List (List Token)) (nodes : List Node) (slots : List ℕ) (at a : ℕ) (t : Token) → AreLinked patterns nodes slots → IsChild patterns nodes at t a
@@ -101,7 +101,7 @@ pub added_none : (patterns : List (List Token)) (nodes : List Node) (words : Lis
 added_none patterns nodes words b met = record {
   more = [];
   is_added = append_none met;
-  are = record { apart = tt; within = λ m h. absurd h; such = λ m h. absurd h; counts = λ m h. absurd h; all = λ c i h k m s. absurd s.2 };
+  are = record { distinct = tt; within = λ m h. absurd h; such = λ m h. absurd h; counts = λ m h. absurd h; all = λ c i h k m s. absurd s.2 };
 }
 
 pub added_skip : (patterns : List (List Token)) (nodes : List Node) (words : List Text) (at n : ℕ) (steps : List Token) (t : Token) (old new : List Met) → n < length steps → t ≡ get_or steps n t
@@ -113,7 +113,7 @@ added_skip patterns nodes words at n steps t old new h e barren a =
       more = a.more;
       is_added = a.is_added;
       are = record {
-        apart = a.are.apart;
+        distinct = a.are.distinct;
         within = a.are.within;
         such = λ m k. (let s = a.are.such m k in (s.0, s.1, in_front (take n steps) (t ∷ []) s.0 s.2, s.3));
         counts = a.are.counts;
@@ -129,10 +129,10 @@ same_next [] t u xs ys e = cc
 same_next (x ∷ b) t u xs ys e = same_next b t u xs ys (let f : x ∷ (b ++ t ∷ xs) ≡ x ∷ (b ++ u ∷ ys) = e in cc)
 
 pub added_more : (patterns : List (List Token)) (nodes : List Node) (words : List Text) (at n next : ℕ) (counts : List Bool) (steps : List Token) (t : Token) (old new last : List Met) → n < length steps
-    → t ≡ get_or steps n t → AllApart steps → IsStep patterns nodes words at t next counts → AreAdded patterns nodes words (Begins (beginning_at patterns nodes next)) new last
+    → t ≡ get_or steps n t → AllDistinct steps → IsStep patterns nodes words at t next counts → AreAdded patterns nodes words (Begins (beginning_at patterns nodes next)) new last
     → AreAdded patterns nodes words (GoesOn (beginning_at patterns nodes at) (take n steps)) old new
     → AreAdded patterns nodes words (GoesOn (beginning_at patterns nodes at) (take (n + 1) steps)) old last
-added_more patterns nodes words at n next counts steps t old new last h e apart s r a =
+added_more patterns nodes words at n next counts steps t old new last h e distinct s r a =
     let b = beginning_at patterns nodes at in
     let is = take_push steps n t h e in
     let begins : (x : List Token) → Begins (beginning_at patterns nodes next) x → (rest : List Token) × (x ≡ b ++ t ∷ rest) =
@@ -143,12 +143,12 @@ added_more patterns nodes words at n next counts steps t old new last h e apart 
     let u = a.are.such x.0 x.1 in
     let v = begins (beginning_at patterns nodes y.0.node) (r.are.such y.0 y.1) in
     let f : beginning_at patterns nodes x.0.node ≡ beginning_at patterns nodes y.0.node = ap (λ (z : ℕ). beginning_at patterns nodes z) (sym x.2 ∙ y.2) in
-    new_at steps n t apart h e (subst (λ (z : Token). IsIn z (take n steps)) (same_next b u.0 t u.1 v.0 (sym u.3 ∙ f ∙ v.1)) u.2) in
+    new_at steps n t distinct h e (subst (λ (z : Token). IsIn z (take n steps)) (same_next b u.0 t u.1 v.0 (sym u.3 ∙ f ∙ v.1)) u.2) in
     subst (λ (z : List Token). AreAdded patterns nodes words (GoesOn b z) old last) (sym is) (record {
       more = a.more ++ r.more;
       is_added = r.is_added ∙ ap (λ (z : List Met). z ++ r.more) a.is_added ∙ append_assoc old a.more r.more;
       are = record {
-        apart = subst (λ (z : List ℕ). AllApart z) (sym (nodes_two a.more r.more)) (apart_two (nodes_of a.more) (nodes_of r.more) a.are.apart r.are.apart clash);
+        distinct = subst (λ (z : List ℕ). AllDistinct z) (sym (nodes_two a.more r.more)) (apart_two (nodes_of a.more) (nodes_of r.more) a.are.distinct r.are.distinct clash);
         within = λ m k. elim (in_two a.more r.more m k) [ inl p ↦ a.are.within m p | inr q ↦ r.are.within m q ];
         such = λ m k. elim (in_two a.more r.more m k) [
           | inl p ↦ (let u = a.are.such m p in (u.0, u.1, in_front (take n steps) (t ∷ []) u.0 u.2, u.3))
@@ -196,7 +196,7 @@ added_here patterns nodes slots words steps here n old new last size l h counts 
       more = a.more ++ here ∷ [];
       is_added = is ∙ ap (λ (z : List Met). z ++ here ∷ []) a.is_added ∙ append_assoc old a.more (here ∷ []);
       are = record {
-        apart = subst (λ (z : List ℕ). AllApart z) (sym (nodes_two a.more (here ∷ []))) (apart_two (nodes_of a.more) (here.node ∷ []) a.are.apart ((λ e. e), tt)
+        distinct = subst (λ (z : List ℕ). AllDistinct z) (sym (nodes_two a.more (here ∷ []))) (apart_two (nodes_of a.more) (here.node ∷ []) a.are.distinct ((λ e. e), tt)
             (λ c p q. elim q [
               | inl e ↦ (let x = node_in a.more c p in let u = a.are.such x.0 x.1 in longer b u.0 u.1 (ap (λ (z : ℕ). beginning_at patterns nodes z) (sym e ∙ x.2) ∙ u.3))
               | inr r ↦ r
@@ -211,7 +211,7 @@ added_here patterns nodes slots words steps here n old new last size l h counts 
           | inr q ↦ subst (λ (z : Met). AreCounts (beginning_at patterns nodes z.node) words z.counts.items) (sym q) counts
         ];
         all = λ c i k d m s. subst (λ (z : List ℕ). IsIn c z) (sym (nodes_two a.more (here ∷ []))) (elim (begins_or b (beginning_at patterns nodes c) s) [
-          | inl e ↦ in_back (nodes_of a.more) (here.node ∷ []) c (inl (l.apart c here.node k h e))
+          | inl e ↦ in_back (nodes_of a.more) (here.node ∷ []) c (inl (l.distinct c here.node k h e))
           | inr u ↦ in_front (nodes_of a.more) (here.node ∷ []) c
               (a.are.all c i k d m (u.0, u.1, in_steps steps words u.0 i b u.1 taken (subst (λ (z : List Token). Matches z (take i words)) u.2 m), u.2))
         ]);

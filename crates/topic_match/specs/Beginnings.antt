@@ -5,9 +5,9 @@ use Rattle.model.specs.Topology.{IsIn}
 use Rattle.model.specs.declared.texts.Token.{Token}
 
 -- no element occurs twice
-abbrev pub AllApart : {A : Type 0} → List A → Type 0
-AllApart [] = Unit {0}
-AllApart (x ∷ xs) = (IsIn x xs → ⊥) × AllApart xs
+abbrev pub AllDistinct : {A : Type 0} → List A → Type 0
+AllDistinct [] = Unit {0}
+AllDistinct (x ∷ xs) = (IsIn x xs → ⊥) × AllDistinct xs
 
 -- `Begins b ts`: the tokens `ts` begin with `b` (own)
 abbrev pub Begins : List Token → List Token → Type 0
@@ -29,7 +29,7 @@ pub record IsPair (patterns : List (List Token)) (key : Text) (pair : Pair) : Ty
 -- `count` is the number of pairs for which `IsPair` holds: a list has exactly these, each once.
 pub record IsCounted (patterns : List (List Token)) (key : Text) (count : ℕ) : Type 0 where
   pub pairs : List Pair
-  pub apart : AllApart pairs
+  pub distinct : AllDistinct pairs
   pub only : (pair : Pair) → IsIn pair pairs → IsPair patterns key pair
   pub all : (pair : Pair) → IsPair patterns key pair → IsIn pair pairs
   pub size : count ≡ length pairs

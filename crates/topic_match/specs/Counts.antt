@@ -16,18 +16,18 @@ pub record AreCountsTo (tokens : List Token) (words : List Text) (n : ℕ) (coun
   pub each : (i : ℕ) → i ≤ n → Decides (slice_index_or counts i false) (Matches tokens (take i words))
   pub last : Decides was (Matches tokens (take n words))
 
--- `stands_first token before`: whether tokens that end with `token` match the empty key; `before` says whether those before it do
-abbrev pub stands_first : Token → Bool → Bool
-stands_first (Word v) before = false
-stands_first One before = false
-stands_first Any before = before
+-- `matches_empty token before`: whether tokens that end with `token` match the empty key; `before` says whether those before it do
+abbrev pub matches_empty : Token → Bool → Bool
+matches_empty (Word v) before = false
+matches_empty One before = false
+matches_empty Any before = before
 
--- `stands_after token w before_was was before_is`: whether tokens that end with `token` match words that end with `w`. Whether the tokens before `token`
+-- `matches_after token w before_was was before_is`: whether tokens that end with `token` match words that end with `w`. Whether the tokens before `token`
 -- match is `before_was` for the words before `w`, and `before_is` for all words; `was` is whether all tokens match the words before `w`
-abbrev pub stands_after : Token → Text → Bool → Bool → Bool → Bool
-stands_after (Word v) w before_was was before_is = before_was && bytes_eq w v
-stands_after One w before_was was before_is = before_was
-stands_after Any w before_was was before_is = was || before_is
+abbrev pub matches_after : Token → Text → Bool → Bool → Bool → Bool
+matches_after (Word v) w before_was was before_is = before_was && bytes_eq w v
+matches_after One w before_was was before_is = before_was
+matches_after Any w before_was was before_is = was || before_is
 
 -- `HasSome counts answer`: `answer` is whether `counts` has a true entry
 abbrev pub HasSome : List Bool → Bool → Type 0

@@ -100,7 +100,7 @@ pub record AreLinked (patterns : List (List Token)) (nodes : List Node) (slots :
   pub within : (s : ℕ) → slice_index_or slots s 0 < length nodes
   pub later : (s : ℕ) → 0 < slice_index_or slots s 0 → s < heads_of nodes slots + 2 * slice_index_or slots s 0
   pub each : (c : ℕ) → 0 < c → c < length nodes → IsNode patterns nodes slots c
-  pub apart : (c d : ℕ) → c < length nodes → d < length nodes → beginning_at patterns nodes c ≡ beginning_at patterns nodes d → c ≡ d
+  pub distinct : (c d : ℕ) → c < length nodes → d < length nodes → beginning_at patterns nodes c ≡ beginning_at patterns nodes d → c ≡ d
 
 -- node `c` is the child of node `at` by `token`: its parent is `at`, and its last token is `token`
 pub record IsChild (patterns : List (List Token)) (nodes : List Node) (at : ℕ) (token : Token) (c : ℕ) : Type 0 where

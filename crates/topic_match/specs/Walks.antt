@@ -4,7 +4,7 @@ use Rattle.model.specs.Words.{Text, Matches}
 use Rattle.model.specs.Topology.{IsIn}
 use Rattle.model.specs.declared.texts.Token.{Token}
 use Rattle.model.specs.declared.texts.Token.TheVariants.{Word, One, Any}
-use Rattle.topic_match.specs.Beginnings.{AllApart}
+use Rattle.topic_match.specs.Beginnings.{AllDistinct}
 use Rattle.topic_match.specs.Counts.{AreCounts, trues}
 use Rattle.topic_match.specs.Nodes.{beginning_at}
 use Rattle.topic_match.specs.declared.nodes.Node.{Node}
@@ -12,7 +12,7 @@ use Rattle.topic_match.specs.declared.nodes.Met.{Met}
 
 -- `steps` has no token twice, and has `#`, `*` and each of `words`
 pub record AreSteps (steps : List Token) (words : List Text) : Type 0 where
-  pub apart : AllApart steps
+  pub distinct : AllDistinct steps
   pub any : IsIn Any steps
   pub one : IsIn One steps
   pub each : (w : Text) → IsIn w words → IsIn (Word w) steps
@@ -29,7 +29,7 @@ nodes_of (m ∷ ms) = m.node ∷ nodes_of ms
 -- `met` has exactly the nodes whose beginnings have the property `Such` and match the first `n` words for some `n`, each once, with these `n`. It may also
 -- have a node that has the property and matches for no `n`.
 pub record AreMet (patterns : List (List Token)) (nodes : List Node) (words : List Text) (Such : List Token → Type 0) (met : List Met) : Type 0 where
-  pub apart : AllApart (nodes_of met)
+  pub distinct : AllDistinct (nodes_of met)
   pub within : (m : Met) → IsIn m met → m.node < length nodes
   pub such : (m : Met) → IsIn m met → Such (beginning_at patterns nodes m.node)
   pub counts : (m : Met) → IsIn m met → AreCounts (beginning_at patterns nodes m.node) words m.counts.items
@@ -57,6 +57,6 @@ IsBarren patterns nodes words at token = (c i : ℕ) (rest : List Token) → c <
     → i ≤ length words → ⊥
 
 -- the number of true entries in the counts of all the nodes
-abbrev pub told_in : List Met → ℕ
-told_in [] = 0
-told_in (m ∷ ms) = trues m.counts.items + told_in ms
+abbrev pub trues_in : List Met → ℕ
+trues_in [] = 0
+trues_in (m ∷ ms) = trues m.counts.items + trues_in ms

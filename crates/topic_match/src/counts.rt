@@ -18,10 +18,10 @@ fn write_after(token: &Step<'_>, words: &[KeyWord<'_>], before: &[bool], after: 
     requires after { length after.old ≡ length words.now + 1 }
     ensures { (tokens : List Token) → AreCounts tokens words.now before.now → AreCounts (tokens ++ token.now ∷ []) words.now after.new }
 {
-    let mut was = token.stands_first(before[0]);
+    let mut was = token.matches_empty(before[0]);
     after[0] = was;
     for place in 0..words.len() {
-        was = token.stands_after(&words[place], before[place], was, before[place + 1]);
+        was = token.matches_after(&words[place], before[place], was, before[place + 1]);
         after[place + 1] = was;
     }
 }

@@ -60,7 +60,7 @@ impl<'a> Step<'a> {
     ghost use Rattle.std.specs.Prelude.{◌≡◌, Decides};
     ghost use Rattle.model.specs.declared.texts.Token.TheVariants.{Word, One, Any};
     ghost use Rattle.topic_match.specs.Nodes.{mark_of};
-    ghost use Rattle.topic_match.specs.Counts.{stands_after, stands_first};
+    ghost use Rattle.topic_match.specs.Counts.{matches_after, matches_empty};
     ghost use Rattle.topic_match.specs.Exits.{has_exit};
 
     /// Returns the step by `#`.
@@ -157,8 +157,8 @@ impl<'a> Step<'a> {
     }
 
     /// Returns whether tokens that end with this one match the empty key. `before` says whether those before it do.
-    pub fn stands_first(&self, before: bool) -> bool
-        ensures { result ≡ stands_first self.now before }
+    pub fn matches_empty(&self, before: bool) -> bool
+        ensures { result ≡ matches_empty self.now before }
     {
         match self.taken {
             Taken::Exactly(_) => false,
@@ -169,14 +169,14 @@ impl<'a> Step<'a> {
 
     /// Returns whether the tokens up to this one match the words up to `word`. `before_was` and `before_is` say whether the tokens before this one match the
     /// words before `word`, and the words up to it; `was` says whether the tokens up to this one match the words before `word`.
-    pub fn stands_after(
+    pub fn matches_after(
         &self,
         word: &KeyWord<'_>,
         before_was: bool,
         was: bool,
         before_is: bool,
     ) -> bool
-        ensures { result ≡ stands_after self.now word.now before_was was before_is }
+        ensures { result ≡ matches_after self.now word.now before_was was before_is }
     {
         match self.taken {
             Taken::Exactly(bytes) => before_was && word.as_bytes() == bytes,

@@ -6,7 +6,7 @@ ghost use Rattle.topic_match.specs.Counts.{AreCounts};
 ghost use Rattle.topic_match.specs.Exits.{AreExits};
 ghost use Rattle.topic_match.specs.Nodes.{AreLinked};
 ghost use Rattle.topic_match.specs.Places.{AreMatches};
-ghost use Rattle.topic_match.specs.Walks.{AreMet, told_in};
+ghost use Rattle.topic_match.specs.Walks.{AreMet, trues_in};
 
 use crate::building::nodes_of;
 use crate::counts::{Counts, trues};
@@ -36,8 +36,8 @@ fn first_counts(alloc: Global, words: &[KeyWord<'_>]) -> Result<Counts, AllocErr
 }
 
 /// Returns the number of true entries in the counts of all nodes of `met`.
-fn told_in(met: &[Met]) -> u128
-    ensures { result ≡ told_in met.now }
+fn trues_in(met: &[Met]) -> u128
+    ensures { result ≡ trues_in met.now }
 {
     let mut count: u128 = 0;
     for each in met {
@@ -127,7 +127,7 @@ impl Trie {
             words.as_slice(),
         )?;
         let places = rising_at(alloc, self.places.as_slice(), met.as_slice(), words.len())?;
-        Ok((places, told_in(met.as_slice())))
+        Ok((places, trues_in(met.as_slice())))
     }
 }
 

@@ -63,6 +63,7 @@ pub fn walk(
     requires within { from.node < length links.now.nodes.now }
     requires counted { AreCounts (beginning_at patterns.now links.now.nodes.now from.node) words.now from.counts.items }
     requires taken { AreSteps steps.now words.now }
+    // No node is appended twice, and each comes with the numbers of first words that its beginning matches.
     ensures { OnOk result (AreAdded patterns.now links.now.nodes.now words.now
         (Begins (beginning_at patterns.now links.now.nodes.now from.node)) met.old.items met.new.items) }
 {

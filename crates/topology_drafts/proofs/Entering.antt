@@ -6,7 +6,7 @@ use Rattle.std.specs.List.{list_any, position_or_len}
 use Rattle.std.specs.Str.{bytes_eq}
 use Rattle.std.specs.Prelude.{◌⊎◌, Decides, position, if◌then◌else◌}
 use Rattle.model.specs.Words.{Text}
-use Rattle.model.specs.Topology.{AreApart, IsIn}
+use Rattle.model.specs.Topology.{AreDistinct, IsIn}
 use Rattle.topology_drafts.proofs.Members.{in_append, in_right}
 use Rattle.topology_drafts.specs.Naming.{AreNames, EntersName}
 
@@ -66,14 +66,14 @@ enters k old new added a e = enters_at k old new (list_any (λ (j : Key). bytes_
 
 -- ---- a list of names, one by one
 
-apart_more : (xs : List Text) (x : Text) → AreApart xs → (IsIn x xs → ⊥) → AreApart (xs ++ x ∷ [])
+apart_more : (xs : List Text) (x : Text) → AreDistinct xs → (IsIn x xs → ⊥) → AreDistinct (xs ++ x ∷ [])
 apart_more [] x a n = (λ h. h, tt)
 apart_more (y ∷ ys) x a n = (
   λ h. (elim (in_append ys (x ∷ []) y h) [ inl p ↦ a.0 p | inr q ↦ (elim q [ inl e ↦ n (inl (sym e)) | inr r ↦ r ]) ]),
   apart_more ys x a.1 (λ h. n (inr h)),
 )
 
-apart_not : (xs ys : List Text) (x : Text) → IsIn x xs → AreApart (xs ++ x ∷ ys) → ⊥
+apart_not : (xs ys : List Text) (x : Text) → IsIn x xs → AreDistinct (xs ++ x ∷ ys) → ⊥
 apart_not [] ys x h a = h
 apart_not (z ∷ zs) ys x h a = elim h [
   | inl e ↦ a.0 (in_right zs (x ∷ ys) z (inl (sym e)))
@@ -88,7 +88,7 @@ pub names_more : {A : Type 0} (name_of : A → Text) (xs : List A) (i : ℕ) (x 
     → AreNames old (map name_of (take i xs)) → AreNames new (map name_of (take (i + 1) xs))
 names_more name_of xs i x old new h e n a = rw (names_at name_of xs i x h e) (record {
   same = n.behind refl ∙ ap (λ (ns : List Text). ns ++ name_of x ∷ []) a.same;
-  apart = apart_more (map name_of (take i xs)) (name_of x) a.apart (λ p. n.is_new refl (subst (λ (ns : List Text). IsIn (name_of x) ns) (sym a.same) p));
+  distinct = apart_more (map name_of (take i xs)) (name_of x) a.distinct (λ p. n.is_new refl (subst (λ (ns : List Text). IsIn (name_of x) ns) (sym a.same) p));
 })
 
 split_at : {A : Type 0} (xs : List A) (i : ℕ) → take i xs ++ drop i xs ≡ xs
@@ -97,9 +97,9 @@ split_at [] (suc i) = refl
 split_at (x ∷ xs) (suc i) = ap (λ ys. x ∷ ys) (split_at xs i)
 
 pub names_repeated : {A : Type 0} (name_of : A → Text) (xs : List A) (i : ℕ) (x : A) (old new : List Text) → i < length xs → x ≡ get_or xs i x → EntersName (name_of x) old new false
-    → AreNames old (map name_of (take i xs)) → AreApart (map name_of xs) → ⊥
+    → AreNames old (map name_of (take i xs)) → AreDistinct (map name_of xs) → ⊥
 names_repeated {A} name_of xs i x old new h e n a whole =
     let s : drop i xs ≡ x ∷ drop (i + 1) xs = drop_more xs i x h ∙ ap (λ (y : A). y ∷ drop (i + 1) xs) (sym e) in
     let w : map name_of xs ≡ map name_of (take i xs) ++ name_of x ∷ map name_of (drop (i + 1) xs) =
     ap (map name_of) (sym (split_at xs i)) ∙ map-append name_of (take i xs) (drop i xs) ∙ ap (λ (ys : List A). map name_of (take i xs) ++ map name_of ys) s in
-    apart_not (map name_of (take i xs)) (map name_of (drop (i + 1) xs)) (name_of x) (subst (λ (ns : List Text). IsIn (name_of x) ns) a.same (n.was_there refl)) (subst AreApart w whole)
+    apart_not (map name_of (take i xs)) (map name_of (drop (i + 1) xs)) (name_of x) (subst (λ (ns : List Text). IsIn (name_of x) ns) a.same (n.was_there refl)) (subst AreDistinct w whole)

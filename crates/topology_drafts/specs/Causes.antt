@@ -2,7 +2,7 @@
 -- Export and Import"; the limits are own.
 use Rattle.std.specs.Prelude.{◌≡◌, ◌≤◌, List, [], Some, None, length, All, Result, Ok, Err, ◌⊎◌}
 use Rattle.model.specs.Words.{Text}
-use Rattle.model.specs.Topology.{Topology, queue_names, exchange_names, IsIn, AreApart}
+use Rattle.model.specs.Topology.{Topology, queue_names, exchange_names, IsIn, AreDistinct}
 use Rattle.model.specs.declared.topologies.Exchange.{Exchange}
 use Rattle.model.specs.declared.topologies.DeclaredQueue.{DeclaredQueue}
 use Rattle.model.specs.declared.topologies.Binding.{Binding}
@@ -13,9 +13,9 @@ use Rattle.topology_drafts.specs.declared.bad.BadTopology.{BadTopology}
 use Rattle.topology_drafts.specs.declared.bad.BadTopology.TheVariants.{Repeated, Absent, Argument, Worded, TooMany, NoExchange, Memory}
 
 -- no two queues have the same name, and no two exchanges
-pub record NamesApart (t : Topology) : Type 0 where
-  pub queues : AreApart (queue_names t.queues)
-  pub exchanges : AreApart (exchange_names t.exchanges)
+pub record NamesAreDistinct (t : Topology) : Type 0 where
+  pub queues : AreDistinct (queue_names t.queues)
+  pub exchanges : AreDistinct (exchange_names t.exchanges)
 
 -- `name` is one of `exchanges`, and not empty: the default exchange doesn't count
 pub record IsExchange (exchanges : List Text) (name : Text) : Type 0 where
@@ -82,7 +82,7 @@ pub record NamesLead (t : Topology) : Type 0 where
 
 -- the topology meets every condition
 pub record IsBuildable (t : Topology) : Type 0 where
-  pub apart : NamesApart t
+  pub distinct : NamesAreDistinct t
   pub join : AllJoin t
   pub keys : KeysHaveExchanges t
   pub worded : AllWorded t
@@ -90,23 +90,23 @@ pub record IsBuildable (t : Topology) : Type 0 where
   pub lead : NamesLead t
 
 -- the topology meets all conditions that are checked before that of the refusal, but not that one; `Memory` has no condition, and is never a reason
-abbrev pub StandsAgainst : BadTopology → Topology → Type 0
-StandsAgainst Repeated t = NamesApart t → ⊥
-StandsAgainst Absent t = NamesApart t × (AllJoin t → ⊥)
-StandsAgainst Argument t = NamesApart t × AllJoin t × (KeysHaveExchanges t → ⊥)
-StandsAgainst Worded t = NamesApart t × AllJoin t × KeysHaveExchanges t × (AllWorded t → ⊥)
-StandsAgainst TooMany t = NamesApart t × AllJoin t × KeysHaveExchanges t × AllWorded t × (IsSmall t → ⊥)
-StandsAgainst NoExchange t = NamesApart t × AllJoin t × KeysHaveExchanges t × AllWorded t × IsSmall t × (NamesLead t → ⊥)
-StandsAgainst Memory t = ⊥
+abbrev pub IsFirstFailure : BadTopology → Topology → Type 0
+IsFirstFailure Repeated t = NamesAreDistinct t → ⊥
+IsFirstFailure Absent t = NamesAreDistinct t × (AllJoin t → ⊥)
+IsFirstFailure Argument t = NamesAreDistinct t × AllJoin t × (KeysHaveExchanges t → ⊥)
+IsFirstFailure Worded t = NamesAreDistinct t × AllJoin t × KeysHaveExchanges t × (AllWorded t → ⊥)
+IsFirstFailure TooMany t = NamesAreDistinct t × AllJoin t × KeysHaveExchanges t × AllWorded t × (IsSmall t → ⊥)
+IsFirstFailure NoExchange t = NamesAreDistinct t × AllJoin t × KeysHaveExchanges t × AllWorded t × IsSmall t × (NamesLead t → ⊥)
+IsFirstFailure Memory t = ⊥
 
 -- the topology is refused for the first condition that it doesn't meet; an allocation failure is reported only if it meets all
 abbrev pub IsTopologyRefused : BadTopology → Topology → Type 0
-IsTopologyRefused Repeated t = StandsAgainst Repeated t
-IsTopologyRefused Absent t = StandsAgainst Absent t
-IsTopologyRefused Argument t = StandsAgainst Argument t
-IsTopologyRefused Worded t = StandsAgainst Worded t
-IsTopologyRefused TooMany t = StandsAgainst TooMany t
-IsTopologyRefused NoExchange t = StandsAgainst NoExchange t
+IsTopologyRefused Repeated t = IsFirstFailure Repeated t
+IsTopologyRefused Absent t = IsFirstFailure Absent t
+IsTopologyRefused Argument t = IsFirstFailure Argument t
+IsTopologyRefused Worded t = IsFirstFailure Worded t
+IsTopologyRefused TooMany t = IsFirstFailure TooMany t
+IsTopologyRefused NoExchange t = IsFirstFailure NoExchange t
 IsTopologyRefused Memory t = IsBuildable t
 
 -- the topology is built as it was given if it meets every condition, and refused otherwise or if an allocation fails

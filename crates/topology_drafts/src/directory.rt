@@ -2,7 +2,7 @@
 
 ghost use Rattle.std.specs.Prelude.{◌≡◌, ◌<◌, [], List, ℕ, length, Decides, IfOk, IfSome, MatchOption, OnErr, map, position};
 ghost use Rattle.std.specs.Str.{bytes_eq};
-ghost use Rattle.model.specs.Topology.{AreApart, IsIn};
+ghost use Rattle.model.specs.Topology.{AreDistinct, IsIn};
 ghost use Rattle.topology_drafts.specs.Naming.{AreNames, EntersName};
 
 use indexmap::IndexSet;
@@ -77,7 +77,7 @@ impl Names {
 
     /// Returns the names of `entries` in order, or `None` if two of them have the same name. Fails only if an allocation fails.
     pub fn of<N: Named>(alloc: Global, entries: &[N]) -> Result<Option<Names>, AllocError>
-        ensures { IfOk result (λ o. MatchOption o (AreApart (map N.named entries.now) → ⊥) (λ names. AreNames names (map N.named entries.now))) }
+        ensures { IfOk result (λ o. MatchOption o (AreDistinct (map N.named entries.now) → ⊥) (λ names. AreNames names (map N.named entries.now))) }
     {
         let mut names = Names::none(alloc);
         for entry in entries {
@@ -90,8 +90,8 @@ impl Names {
     }
 
     /// Returns the names of `entries`, which are distinct, in order. Fails only if an allocation fails.
-    pub fn apart<N: Named>(alloc: Global, entries: &[N]) -> Result<Names, AllocError>
-        requires { AreApart (map N.named entries.now) }
+    pub fn distinct<N: Named>(alloc: Global, entries: &[N]) -> Result<Names, AllocError>
+        requires { AreDistinct (map N.named entries.now) }
         ensures { IfOk result (λ names. names ≡ map N.named entries.now) }
     {
         match Names::of(alloc, entries)? {
@@ -131,8 +131,8 @@ fn is_listed<N: Named>(entries: &[N], name: &[u8]) -> bool
 }
 
 /// Returns whether the names of `entries` are distinct, by comparing each pair.
-fn are_apart<N: Named>(entries: &[N]) -> bool
-    ensures { Decides result (AreApart (map N.named entries.now)) }
+fn are_distinct<N: Named>(entries: &[N]) -> bool
+    ensures { Decides result (AreDistinct (map N.named entries.now)) }
 {
     let mut rest = entries;
     'names: while let Some((first, others)) = rest.split_first() {
@@ -148,7 +148,7 @@ fn are_apart<N: Named>(entries: &[N]) -> bool
 pub struct Directory<'a, N: Named> {
     entries: &'a [N],
     index: Option<Names>,
-    apart: bool,
+    distinct: bool,
 }
 
 /// Not derived: a derived drop is expanded, and proved again, in each function that drops the value.
@@ -157,7 +157,7 @@ impl<'a, N: Named> Drop for Directory<'a, N> {
         let Directory {
             entries: _,
             index: _,
-            apart: _,
+            distinct: _,
         } = self;
     }
 }
@@ -170,7 +170,7 @@ impl<'a, N: Named> Model for Directory<'a, N> {
 
     ghost view = { λ d. map N.named d.entries.now };
 
-    ghost invariant = { λ d. IsIndexed d.index d.apart (map N.named d.entries.now) };
+    ghost invariant = { λ d. IsIndexed d.index d.distinct (map N.named d.entries.now) };
 }
 
 impl<'a, N: Named> Directory<'a, N> {
@@ -182,26 +182,26 @@ impl<'a, N: Named> Directory<'a, N> {
             Ok(Some(names)) => Directory {
                 entries,
                 index: Some(names),
-                apart: true,
+                distinct: true,
             },
             Ok(None) => Directory {
                 entries,
                 index: None,
-                apart: false,
+                distinct: false,
             },
             Err(_) => Directory {
                 entries,
                 index: None,
-                apart: are_apart(entries),
+                distinct: are_distinct(entries),
             },
         }
     }
 
     /// Returns whether the names are distinct.
-    pub fn is_apart(&self) -> bool
-        ensures { Decides result (AreApart self.now) }
+    pub fn is_distinct(&self) -> bool
+        ensures { Decides result (AreDistinct self.now) }
     {
-        self.apart
+        self.distinct
     }
 
     /// Returns whether `name` is one of the names.

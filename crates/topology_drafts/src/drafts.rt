@@ -10,9 +10,9 @@ ghost use Rattle.topology_drafts.specs.Causes.{
   IsBuildable,
   IsSmall,
   KeysHaveExchanges,
-  NamesApart,
+  NamesAreDistinct,
   NamesLead,
-  StandsAgainst,
+  IsFirstFailure,
 };
 
 use crate::bad::BadTopology;
@@ -78,10 +78,10 @@ impl<'a> Draft<'a> {
     }
 
     /// Returns whether no two exchanges have the same name, and no two queues.
-    pub fn is_apart(&self) -> bool
-        ensures { Decides result (NamesApart self.now) }
+    pub fn is_distinct(&self) -> bool
+        ensures { Decides result (NamesAreDistinct self.now) }
     {
-        self.queue_names.is_apart() && self.exchange_names.is_apart()
+        self.queue_names.is_distinct() && self.exchange_names.is_distinct()
     }
 
     /// Returns whether the sources and destinations of all bindings exist.
@@ -135,9 +135,9 @@ impl<'a> Draft<'a> {
 
     /// Returns the first reason why the topology can't be built, if there is one. Never allocates.
     fn judge(&self) -> Result<(), BadTopology>
-        ensures { MatchResult result (λ _. IsBuildable self.now) (λ e. StandsAgainst e self.now) }
+        ensures { MatchResult result (λ _. IsBuildable self.now) (λ e. IsFirstFailure e self.now) }
     {
-        if !self.is_apart() {
+        if !self.is_distinct() {
             return Err(BadTopology::Repeated);
         }
         if !self.joins() {
@@ -169,7 +169,7 @@ pub fn judge(
 ) -> Result<(), BadTopology>
     ensures { MatchResult result
         (λ _. IsBuildable (record { exchanges = exchanges.now; queues = queues.now; bindings = bindings.now }))
-        (λ e. StandsAgainst e (record { exchanges = exchanges.now; queues = queues.now; bindings = bindings.now })) }
+        (λ e. IsFirstFailure e (record { exchanges = exchanges.now; queues = queues.now; bindings = bindings.now })) }
 {
     let draft = Draft::of(alloc, exchanges, queues, bindings);
     draft.judge()

@@ -16,5 +16,5 @@ pub use Rattle.std.specs.Int.{bit_at}
 pub use Rattle.std.specs.List.{AllByRecursion}
 pub use Rattle.std.specs.Prelude.{bit_or, filter_map, flat_map, fold, if◌then◌else◌, slice_get, slice_index, slice_index_or, ◌&&◌, ◌==◌, ◌||◌}
 pub use Rattle.word_automata.specs.Alphabet.{IsAlphabet, moves_of, names_from, names_on, rows_of, stays_of}
-pub use Rattle.word_automata.specs.Differing.{AreApart, AreApartEach, IsDiffering, LeadsAlike, MovesAlike, number_at}
+pub use Rattle.word_automata.specs.Differing.{DifferOnlyAt, EachDiffersOnlyAt, IsDiffering, LeadsAlike, MovesAlike, number_at}
 pub use Rattle.word_automata.specs.Masks.{AreMasks, MasksFrom, Starts, StartsEach, StepsEach, StepsMasks, bit, mask_of, moves_at, moves_by, moves_on, stays_at, stays_by, stays_on}

@@ -25,11 +25,13 @@ class Families(unittest.TestCase):
         self.assertEqual(self.sizes(families.ring_of_many), [256, 256, 3825, 64])
         self.assertEqual(self.sizes(families.broken_through_the_ring), [256, 256, 3826, 1])
         self.assertEqual(self.sizes(lambda: families.many_listed(2, 2)), [256, 3, 3572, 2])
+        self.assertEqual(self.sizes(lambda: families.many_that_differ(2, 2)), [256, 3, 3573, 2])
         self.assertEqual(self.sizes(families.many_letters), [1, 2, 62, 1])
         self.assertEqual(self.sizes(families.letters_that_all_lead), [1, 2, 62, 1])
         self.assertEqual(self.sizes(families.undecided_by_states), [1, 1, 63, 1])
         self.assertEqual(self.sizes(families.broken_at_the_end), [256, 256, 3813, 1])
         self.assertEqual(self.sizes(families.many_certificates), [1, 25, 2, 24])
+        self.assertEqual(self.sizes(families.wide_numbers), [1, 3, 58, 2])
         self.assertEqual(self.sizes(families.judged_at_a_reload), [65, 65, 127, 1])
         self.assertEqual(self.sizes(families.many_at_a_reload), [2, 73, 109, 64])
         self.assertEqual(self.sizes(families.many_through_exchanges), [202, 73, 309, 64])
@@ -40,6 +42,10 @@ class Families(unittest.TestCase):
         _, _, [certificate, another] = families.many_listed(2, 2)
         self.assertEqual((certificate["queue"], another["queue"]), ("z0", "z1"))
         self.assertEqual(certificate["states"], [[2, 2], [2, 6], [2, 10], [2, 14], [2, 18], [2, 22], [2, 26], [2, 30], [3, 3]])
+
+    def test_states_of_other_patterns_rise(self):
+        _, _, [certificate, _] = families.many_that_differ(2, 2)
+        self.assertEqual(certificate["states"], [[2, 2, 2], [2, 2, 10], [2, 6, 6], [2, 6, 14], [3, 3, 3]])
 
     def test_marks_are_the_same(self):
         definitions, _ = families.same_marks()

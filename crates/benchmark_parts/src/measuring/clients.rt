@@ -106,7 +106,7 @@ impl Client {
     }
 
     /// Returns whether the last window can be written again unchanged.
-    fn is_standing(&self) -> bool {
+    fn is_reusable(&self) -> bool {
         self.keys == Keys::One && !self.bytes.as_slice().is_empty()
     }
 
@@ -129,7 +129,7 @@ impl Client {
 
     /// Returns the bytes of `publishes` publishes. If an allocation fails they end early.
     pub fn window(&mut self, alloc: Global, publishes: u64) -> &[u8] {
-        if !self.is_standing() {
+        if !self.is_reusable() {
             self.spell(alloc, publishes);
         }
         self.bytes.as_slice()

@@ -28,8 +28,8 @@ pub fn resident_bytes(rt: &HostRuntime) -> io::Result<u64> {
     Ok(number_at(line.as_str(), 1).saturating_mul(PAGE))
 }
 
-/// Returns the most bytes of addresses that this process has had at once (Linux: `VmPeak` in `/proc/self/status`), or 0 if that is not told.
-/// What is reserved counts, too, before it is written to.
+/// Returns the most bytes of addresses that this process has had at once (Linux: `VmPeak` in `/proc/self/status`), or 0 if the system doesn't report
+/// it. Reserved addresses count, too, even before they are written to.
 pub fn greatest_bytes(rt: &HostRuntime) -> io::Result<u64> {
     let status = fs::read_to_string(rt, "/proc/self/status")?;
     for line in status.lines() {

@@ -11,13 +11,13 @@ ghost use Rattle.depot.specs.Store.{HasReady};
 ghost use Rattle.commands.specs.State.{Kept, broker_of, topology_kept};
 ghost use Rattle.commands.specs.Picked.{IsPickFrom};
 ghost use Rattle.broker.specs.Rounds.{round_at, rounds_of, is_of, order, AllAreNoted, IsAwake, IsAsleep, QueuesAreMarked, IsNextMarked, KeepRounds};
-ghost use Rattle.broker.specs.Rounds.{AllAddTheirOwn, LosesWaiter, LeaveLine, LeaveLines, HasRoom, KeepsWaiters, ListsMore, AllWaken, NoneInRound};
-ghost use Rattle.broker.specs.Rounds.{NoneBetween, NonePassed, PicksFrom, SameOrders, Waiters, AllAreEmpty};
-ghost use Rattle.broker.specs.Moving.{IsMoved, IsOfEither, LinesCome, ArePlacesApart, RoundsAreMoved};
+ghost use Rattle.broker.specs.Rounds.{AllAddTheirOwn, LosesWaiter, LeaveLine, LeaveLines, LeaveNamed, HasRoom, KeepsWaiters, ListsMore, AllWaken, NoneInRound};
+ghost use Rattle.broker.specs.Rounds.{ListsItsWaiters, NoneBetween, NonePassed, PicksFrom, SameOrders, Waiters, AllAreEmpty};
+ghost use Rattle.broker.specs.Moving.{IsMoved, IsOfEither, LinesCome, IndicesDiffer, RoundsAreMoved};
 ghost use Rattle.commands.specs.declared.picks.Pick.{Pick as Consumer};
 
 use crate::rounds::round::Round;
-use crate::rounds::sleepers::Sleepers;
+use crate::rounds::sleepers::{Gone, Sleepers, find_gone};
 use crate::rounds::waiters::PlaceMarks;
 use commands::{Core, Pick};
 use marks::{Flat, Over, Places};
@@ -92,7 +92,7 @@ fn pick_at(
     // What is picked, and that nothing comes before it.
     ensures some { IfSome result (λ p. IsPickFrom core.now queue p) }
     ensures none { result ≡ None → NoneInRound core.now sleepers.old.entries queue (round_at rounds.old queue) }
-    ensures told { IfSome result (λ p. PicksFrom core.now sleepers.old.entries rounds.old rounds.new queue p) }
+    ensures reported { IfSome result (λ p. PicksFrom core.now sleepers.old.entries rounds.old rounds.new queue p) }
     ensures same { result ≡ None → SameOrders rounds.old rounds.new }
 {
     match rounds[queue].pick(core, sleepers, queue) {
@@ -127,7 +127,7 @@ fn first_between(
     ensures passed { IfSome result (λ f. NoneBetween core.now (rounds_of rounds.old sleepers.old.entries) from f.queue) }
     ensures least { IfSome result (λ f. from ≤ f.queue) }
     ensures below { IfSome result (λ f. f.queue < to) }
-    ensures told { IfSome result (λ f. PicksFrom core.now sleepers.old.entries rounds.old rounds.new f.queue f.pick) }
+    ensures reported { IfSome result (λ f. PicksFrom core.now sleepers.old.entries rounds.old rounds.new f.queue f.pick) }
     ensures same { result ≡ None → SameOrders rounds.old rounds.new }
 {
     let mut next = from;
@@ -163,7 +163,7 @@ fn first_from(
     ensures some { IfSome result (λ f. IsPickFrom core.now f.queue f.pick) }
     ensures none { result ≡ None → NoneBetween core.now (rounds_of rounds.old sleepers.old.entries) 0 (length rounds.old) }
     ensures passed { IfSome result (λ f. NonePassed core.now (rounds_of rounds.old sleepers.old.entries) next f.queue) }
-    ensures told { IfSome result (λ f. PicksFrom core.now sleepers.old.entries rounds.old rounds.new f.queue f.pick) }
+    ensures reported { IfSome result (λ f. PicksFrom core.now sleepers.old.entries rounds.old rounds.new f.queue f.pick) }
     ensures same { result ≡ None → SameOrders rounds.old rounds.new }
 {
     let turn = next.min(rounds.len());
@@ -193,10 +193,13 @@ fn leave_at(
     queue: usize,
     connection: u64,
 )
+    // What the caller knows: the queue has a round, and the bits are right.
     requires within { queue < length rounds.old }
     requires marked { QueuesAreMarked rounds.old awake.old }
+    // Waiters of existing consumers stay, and the order of those that are left is the same.
     ensures kept { KeepRounds core.now rounds.old rounds.new }
     ensures here { LeaveLine core.now queue connection (round_at rounds.old queue) (round_at rounds.new queue) }
+    // The frame: other rounds are unchanged, and the bits are right.
     ensures others { (i : ℕ) → (i ≡ queue → ⊥) → round_at rounds.new i ≡ round_at rounds.old i }
     ensures marked { QueuesAreMarked rounds.new awake.new }
 {
@@ -204,23 +207,57 @@ fn leave_at(
     mark_round(awake, &rounds[queue], queue);
 }
 
-/// Removes the waiters of those consumers of `connection` that are gone from each round. The order of the others is unchanged.
-fn leave_each(rounds: &mut [Round], awake: &mut PlaceMarks, core: &Core, connection: u64)
+/// Removes the waiters of those consumers of `connection` that are gone from the round of each queue in `named`, once, and empties the set.
+fn leave_named(
+    rounds: &mut [Round],
+    awake: &mut PlaceMarks,
+    named: &mut PlaceMarks,
+    core: &Core,
+    connection: u64,
+)
     requires { QueuesAreMarked rounds.old awake.old }
     ensures kept { KeepRounds core.now rounds.old rounds.new }
-    ensures lines { LeaveLines core.now connection rounds.old rounds.new }
+    ensures left { LeaveNamed core.now connection named.old rounds.old rounds.new }
+    ensures marked { QueuesAreMarked rounds.new awake.new }
+    ensures size { length named.new ≡ length named.old }
+{
+    let mut next = 0;
+    'named: while let Some(queue) = named.next(next) {
+        if queue >= rounds.len() {
+            return;
+        }
+        named.clear(queue);
+        leave_at(rounds, awake, core, queue, connection);
+        next = queue + 1;
+    }
+}
+
+/// Removes the waiter of `consumer`, if any, from the round of the queue at index `queue`. Looks at index `guess` first.
+fn remove_at(
+    rounds: &mut [Round],
+    awake: &mut PlaceMarks,
+    queue: usize,
+    consumer: Pick,
+    guess: usize,
+)
+    requires { QueuesAreMarked rounds.old awake.old }
+    ensures loses { LosesWaiter queue consumer rounds.old rounds.new }
     ensures marked { QueuesAreMarked rounds.new awake.new }
 {
-    for queue in 0..rounds.len() {
-        leave_at(rounds, awake, core, queue, connection);
+    if queue < rounds.len() {
+        rounds[queue].remove(consumer, guess);
+        mark_round(awake, &rounds[queue], queue);
     }
 }
 
 /// Swaps `round`, all its waiters awake, with the round of the queue at index `place`.
 fn take_round(rounds: &mut [Round], awake: &mut PlaceMarks, place: usize, round: &mut Round)
+    // What the caller knows: there is such a round, and the bits are right.
     requires within { place < length rounds.old }
     requires marked { QueuesAreMarked rounds.old awake.old }
+    // The waiters of `round` are in the round at `place`, awake and in their order.
     ensures moved { IsMoved round.old (round_at rounds.new place) }
+    // The frame: other rounds are unchanged, this one has its own order or that of `round`, and the bits are right.
     ensures others { (i : ℕ) → (i ≡ place → ⊥) → round_at rounds.new i ≡ round_at rounds.old i }
     ensures came { (i : ℕ) → IsOfEither place i (round_at rounds.old i) round.old (round_at rounds.new i) }
     ensures marked { QueuesAreMarked rounds.new awake.new }
@@ -245,9 +282,11 @@ fn move_round(rounds: &mut [Round], awake: &mut PlaceMarks, place: usize, round:
 
 /// Moves each round of `old`, its waiters awake, to the index that `places` has for it, if there is such a queue.
 fn move_rounds(rounds: &mut [Round], awake: &mut PlaceMarks, old: &mut [Round], places: &[usize])
+    // What the caller knows: `places` has an entry for each round of `old`, no two name the same queue, and the bits are right.
     requires len { length places.now ≡ length old.old }
-    requires apart { ArePlacesApart places.now (length rounds.old) }
+    requires distinct { IndicesDiffer places.now (length rounds.old) }
     requires marked { QueuesAreMarked rounds.old awake.old }
+    // The rounds of `old` are at their new indices, any other round keeps its order, and the bits are right.
     ensures moved { RoundsAreMoved places.now old.old rounds.new }
     ensures came { LinesCome places.now old.old rounds.old rounds.new }
     ensures marked { QueuesAreMarked rounds.new awake.new }
@@ -263,6 +302,8 @@ pub(crate) struct QueueRounds {
     rounds: Vec<Round>,
     /// A bit for each queue, 1 if a waiter in its round is awake.
     awake: PlaceMarks,
+    /// A bit for each queue, 1 if its round is to be swept. Between calls all are 0, but nothing rests on that.
+    named: PlaceMarks,
 }
 
 impl Model for QueueRounds {
@@ -270,7 +311,7 @@ impl Model for QueueRounds {
 
     ghost view = { λ s. s.rounds.items };
 
-    ghost invariant = { λ s. QueuesAreMarked s.rounds.items s.awake };
+    ghost invariant = { λ s. QueuesAreMarked s.rounds.items s.awake × (length s.rounds.items ≤ length s.named * 64) };
 }
 
 impl QueueRounds {
@@ -281,7 +322,12 @@ impl QueueRounds {
     {
         let rounds = empty_rounds(alloc, queues)?;
         let awake = empty_marks(alloc, queues)?;
-        Ok(QueueRounds { rounds, awake })
+        let named = empty_marks(alloc, queues)?;
+        Ok(QueueRounds {
+            rounds,
+            awake,
+            named,
+        })
     }
 
     /// Reserves capacity for one more waiter in the round of the queue at index `queue`. The waiters are unchanged.
@@ -296,11 +342,14 @@ impl QueueRounds {
 
     /// Adds the waiter of `consumer`, awake, to the round of the queue at index `queue`, and returns its index there. Never allocates.
     pub fn join(&mut self, queue: usize, consumer: Pick) -> usize
+        // What the caller knows: there is capacity for the waiter and its bit, and the consumer has no waiter in this round.
         requires within { queue < length self.old }
         requires room { HasRoom (round_at self.old queue) }
         requires absent { IsIn consumer (order (round_at self.old queue)) → ⊥ }
+        // The new waiter is awake, and waiters of existing consumers stay.
         ensures joined { IsAwake (round_at self.new queue) consumer }
         ensures kept { (k : Kept) → KeepRounds k self.old self.new }
+        // The orders: if the consumer takes from the queue, none changes but by a consumer at its end. There are as many rounds as before.
         ensures adds { (k : Kept) → is_of k queue consumer ≡ true → AllAddTheirOwn k self.old self.new }
         ensures len { length self.new ≡ length self.old }
     {
@@ -308,24 +357,28 @@ impl QueueRounds {
         self.rounds[queue].join(consumer)
     }
 
-    /// Removes the waiter of `consumer`, if any, from the round of the queue at index `queue`. Looks at index `guess` first. Never allocates.
-    pub fn remove(&mut self, queue: usize, consumer: Pick, guess: usize)
-        ensures loses { LosesWaiter queue consumer self.old self.new }
-        ensures len { length self.new ≡ length self.old }
-    {
-        if queue < self.rounds.len() {
-            self.rounds[queue].remove(consumer, guess);
-            mark_round(&mut self.awake, &self.rounds[queue], queue);
-        }
-    }
-
-    /// Removes the waiters of those consumers of `connection` that are gone. The order of the others is unchanged. Never allocates.
-    pub fn leave(&mut self, core: &Core, connection: u64)
+    /// Removes the waiters of those consumers of `connection` that are gone: of one as it is listed, of several by a sweep over the rounds of their
+    /// queues. The order of the others is unchanged. Never allocates.
+    pub fn leave(&mut self, sleepers: &Sleepers, core: &Core, connection: u64)
+        requires { ListsItsWaiters connection (rounds_of self.old sleepers.now.entries) }
         ensures kept { KeepRounds core.now self.old self.new }
         ensures lines { LeaveLines core.now connection self.old self.new }
         ensures len { length self.new ≡ length self.old }
     {
-        leave_each(&mut self.rounds, &mut self.awake, core, connection);
+        let rounds = &mut self.rounds;
+        match find_gone(sleepers, connection, core, rounds.len(), &mut self.named) {
+            Gone::Nobody => {}
+            Gone::One(queue, consumer, place) => {
+                remove_at(rounds, &mut self.awake, queue, consumer, place)
+            }
+            Gone::Several => leave_named(
+                rounds,
+                &mut self.awake,
+                &mut self.named,
+                core,
+                connection,
+            ),
+        }
     }
 
     /// Wakes the waiter of `consumer`, if any, in the round of the queue at index `queue`. Looks at index `guess` first. Never allocates.
@@ -343,7 +396,7 @@ impl QueueRounds {
     /// Moves each round of `old`, its waiters awake, to the index that `indices` has for it, if there is such a queue. Never allocates.
     pub fn take_over(&mut self, old: QueueRounds, indices: &[usize])
         requires len { length indices.now ≡ length old }
-        requires apart { ArePlacesApart indices.now (length self.old) }
+        requires distinct { IndicesDiffer indices.now (length self.old) }
         ensures moved { RoundsAreMoved indices.now old self.new }
         ensures came { LinesCome indices.now old self.old self.new }
         ensures len { length self.new ≡ length self.old }
@@ -351,6 +404,7 @@ impl QueueRounds {
         let QueueRounds {
             rounds: mut left,
             awake: _,
+            named: _,
         } = old;
         move_rounds(&mut self.rounds, &mut self.awake, &mut left, indices);
     }
@@ -370,7 +424,7 @@ impl QueueRounds {
         ensures none { result ≡ None → NoneBetween core.now (rounds_of self.old sleepers.old.entries) 0 (length self.old) }
         // No delivery can be made from a queue that comes before the found one in the cyclic order from `next`. If none is found no order changes.
         ensures passed { IfSome result (λ f. NonePassed core.now (rounds_of self.old sleepers.old.entries) next f.queue) }
-        ensures told { IfSome result (λ f. PicksFrom core.now sleepers.old.entries self.old self.new f.queue f.pick) }
+        ensures reported { IfSome result (λ f. PicksFrom core.now sleepers.old.entries self.old self.new f.queue f.pick) }
         ensures same { result ≡ None → SameOrders self.old self.new }
     {
         first_from(&mut self.rounds, &mut self.awake, core, sleepers, next)

@@ -15,7 +15,7 @@ ghost use Rattle.commands.specs.State.{Kept, broker_of, topology_kept};
 ghost use Rattle.commands.specs.Picked.{CannotTake, IsPickFrom};
 ghost use Rattle.commands.specs.declared.picks.Pick.{Pick as Consumer};
 ghost use Rattle.broker.specs.declared.rounds.waiters.Waiter.{Waiter as InRound};
-ghost use Rattle.broker.specs.Lines.{turned, AreDistinct};
+ghost use Rattle.broker.specs.Lines.{turned, AllDistinct};
 ghost use Rattle.broker.specs.Rounds.{round_of, picks, is_other, is_able, is_waiter_of, bit_for, remains, has_remained, listing, AllAreNoted, FindsWaiter};
 ghost use Rattle.broker.specs.Rounds.{IsNoted, IsAwakeAt, IsAwake, IsAsleep, StaysAt, OthersStay, KeepsIn, KeepsRound, NoneAwake, NoneAwakePassed, ListsMore};
 ghost use Rattle.broker.specs.Rounds.{Wakens, Waiters, order, NoneInRound, GoesLast, LosesOne, LeaveLine, HasRoom};
@@ -122,13 +122,15 @@ fn remove_waiter(
     place: usize,
     consumer: Pick,
 )
+    // What the caller knows: the waiter at `place` is the consumer's, no consumer has two, and each waiter has a bit.
     requires within { place < length waiters.old.items }
     requires there { (d : InRound) → (slice_index_or waiters.old.items place d).pick ≡ consumer }
-    requires once { AreDistinct (picks waiters.old.items) }
+    requires once { AllDistinct (picks waiters.old.items) }
     requires room { length waiters.old.items ≤ length awake.old * 64 }
+    // Only this waiter leaves: the others are awake or asleep as before, in the same order from `next` on, and each has a bit.
     ensures room { length waiters.new.items ≤ length awake.new * 64 }
     ensures stay { OthersStay consumer (round_of waiters.old.items awake.old) (round_of waiters.new.items awake.new) }
-    ensures once { AreDistinct (picks waiters.new.items) }
+    ensures once { AllDistinct (picks waiters.new.items) }
     ensures line { turned next.new (picks waiters.new.items) ≡ filter (is_other consumer) (turned next.old (picks waiters.old.items)) }
 {
     waiters.remove(place);
@@ -150,7 +152,7 @@ fn remove_gone(
     requires { length waiters.old.items ≤ length awake.old * 64 }
     ensures room { length waiters.new.items ≤ length awake.new * 64 }
     ensures kept { KeepsRound core.now queue (round_of waiters.old.items awake.old) (round_of waiters.new.items awake.new) }
-    ensures apart { AreDistinct (picks waiters.old.items) → AreDistinct (picks waiters.new.items) }
+    ensures distinct { AllDistinct (picks waiters.old.items) → AllDistinct (picks waiters.new.items) }
     ensures line { turned next.new (picks waiters.new.items) ≡ filter (remains core.now queue connection) (turned next.old (picks waiters.old.items)) }
 {
     let count = waiters.len();
@@ -180,8 +182,10 @@ fn add_waiter(
     next: &mut usize,
     consumer: Pick,
 ) -> usize
+    // What the caller knows: there is capacity for the waiter and for its bit.
     requires room { length waiters.old.items < vec_capacity waiters.old }
     requires mark { length waiters.old.items + 1 ≤ length awake.old * 64 }
+    // The new waiter is awake and the last in order from `next` on; each waiter has a bit, and those of existing consumers stay.
     ensures marks { length waiters.new.items ≤ length awake.new * 64 }
     ensures last { turned next.new (picks waiters.new.items) ≡ turned next.old (picks waiters.old.items) ++ consumer ∷ [] }
     ensures joined { IsAwake (round_of waiters.new.items awake.new) consumer }
@@ -358,7 +362,7 @@ impl Model for Round {
 
     ghost view = { λ r. record { waiters = r.waiters.items; marks = r.awake; next = r.next; capacity = vec_capacity r.waiters } };
 
-    ghost invariant = { λ r. (length r.waiters.items ≤ length r.awake * 64) × AreDistinct (picks r.waiters.items) };
+    ghost invariant = { λ r. (length r.waiters.items ≤ length r.awake * 64) × AllDistinct (picks r.waiters.items) };
 }
 
 impl Round {
@@ -466,7 +470,7 @@ impl Round {
         // Who is picked; if none is, no delivery can be made to a consumer of this round.
         ensures some { IfSome result (λ p. IsPickFrom core.now queue p) }
         ensures none { result ≡ None → NoneInRound core.now sleepers.old.entries queue self.old }
-        ensures told { IfSome result (λ p. GoesLast core.now sleepers.old.entries queue self.old self.new p) }
+        ensures reported { IfSome result (λ p. GoesLast core.now sleepers.old.entries queue self.old self.new p) }
         ensures same { result ≡ None → order self.new ≡ order self.old }
         // If none is picked no waiter is awake: those whose consumer can't take a message sleep.
         ensures rested { result ≡ None → (p : Consumer) → IsAwake self.new p → ⊥ }

@@ -17,7 +17,7 @@ ghost use Rattle.broker.specs.Rounds.{is_listing, Listings};
 use crate::rounds::finding::is_of;
 use crate::rounds::waiters::{PlaceMarks, is_same, make_room};
 use commands::{Core, Pick};
-pub(crate) use leaving::{leave_lists, leave_waiters};
+pub(crate) use leaving::{Gone, find_gone, leave_lists};
 use marks::{Flat, Over, Places};
 pub(crate) use moving::move_sleepers;
 use std::alloc::{AllocError, Global};
@@ -70,7 +70,7 @@ impl Listed {
     }
 
     /// Remembers that the waiter is at index `place` of its round.
-    fn stand(&mut self, place: usize)
+    fn move_to(&mut self, place: usize)
         ensures { self.new ≡ self.old }
     {
         self.place = place;
@@ -120,18 +120,21 @@ fn mark_in(
     consumer: Pick,
     place: usize,
 )
+    // What the caller knows: each listing has a bit, no consumer is listed twice, and this waiter is listed.
     requires room { length listed.old ≤ length asleep.old * 64 }
     requires rising { NumbersRise listed.old }
     requires noted { IsIn (listing queue consumer) listed.old }
+    // The frame: neither the listings nor the number of bits change.
     ensures len { length asleep.new ≡ length asleep.old }
     ensures same { listed.new ≡ listed.old }
+    // This waiter sleeps, and those that slept still do.
     ensures marked { IsAsleepIn (listings_of listed.new asleep.new) (listing queue consumer) }
     ensures stay { (l : Listing) → IsAsleepIn (listings_of listed.old asleep.old) l
         → IsAsleepIn (listings_of listed.new asleep.new) l }
 {
     match search(listed, queue, consumer) {
         Some(at) => {
-            listed[at].stand(place);
+            listed[at].move_to(place);
             asleep.set(at);
         }
         None => {}
@@ -266,6 +269,7 @@ pub(crate) fn reserve_listing(
 ) -> Result<(), AllocError>
     requires { AreBelow (listed_on sleepers.old.entries consumer.connection consumer.channel) consumer.number }
     ensures room { OnOk result (CanList sleepers.new.entries consumer) }
+    // The frame, also after a failure: no listing changes, waiters that sleep still do, and no other connection gets a list.
     ensures noted { NotesStay sleepers.old.entries sleepers.new.entries }
     ensures asleep { ListsStay sleepers.old.entries sleepers.new.entries }
     ensures same { SameListed sleepers.old.entries sleepers.new.entries }
@@ -288,6 +292,7 @@ pub(crate) fn reserve_listing(
 pub(crate) fn join_listing(sleepers: &mut Sleepers, queue: usize, consumer: Pick, place: usize)
     requires { CanList sleepers.old.entries consumer }
     ensures noted { IsNoted sleepers.new.entries (listing queue consumer) }
+    // The frame: earlier listings stay, their waiters asleep if they were, nothing else is listed, and no connection gets its first list.
     ensures stay { NotesStay sleepers.old.entries sleepers.new.entries }
     ensures asleep { ListsStay sleepers.old.entries sleepers.new.entries }
     ensures one { ListsOneMore (listing queue consumer) sleepers.old.entries sleepers.new.entries }

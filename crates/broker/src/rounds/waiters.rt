@@ -37,8 +37,10 @@ pub(crate) fn is_same(one: Pick, other: Pick) -> bool
 /// Reserves capacity for one more element of `all` and its bit in `set`. Both are unchanged. Fails only if an allocation fails.
 pub(crate) fn make_room<T>(all: &mut Vec<T>, set: &mut PlaceMarks) -> Result<(), AllocError>
     requires { length all.old.items ≤ length set.old * 64 }
+    // On success there is capacity for the element and for its bit.
     ensures room { OnOk result (length all.new.items < vec_capacity all.new) }
     ensures mark { OnOk result (length all.new.items + 1 ≤ length set.new * 64) }
+    // The frame, also after a failure: elements and bits are unchanged, and each element has a bit.
     ensures marks { length all.new.items ≤ length set.new * 64 }
     ensures same { all.new.items ≡ all.old.items }
     ensures bits { (i : ℕ) → bit_of set.new i ≡ bit_of set.old i }

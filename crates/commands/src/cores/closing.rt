@@ -40,7 +40,7 @@ impl Core {
         ensures addressed { IfOk result (λ a. AreAddressed connection a.step.sends.items) }
         // What ends.
         ensures ended { IfOk result (λ a. TellsEnd connection a.ends (broker_of self.old) (broker_of self.new)) }
-        ensures told { IfOk result (λ a. a.ends ≡ ended.Connection) }
+        ensures reported { IfOk result (λ a. a.ends ≡ ended.Connection) }
         ensures stay { OnOk result (OtherConsumersStay connection (broker_of self.old) (broker_of self.new)) }
         // The frame; a failure changes nothing.
         ensures topology { topology_kept self.new ≡ topology_kept self.old }

@@ -14,7 +14,7 @@ impl Core {
     ghost use Rattle.model.specs.Naming.{AreNamed};
     ghost use Rattle.model.specs.Sending.{AreCarried};
     ghost use Rattle.commands.specs.State.{broker_of, topology_kept};
-    ghost use Rattle.commands.specs.Picked.{IsPick, DeliversTo, IsNextPicked, TellsTaking};
+    ghost use Rattle.commands.specs.Picked.{IsPick, DeliversTo, IsNextPicked, ReturnsTaking};
     ghost use Rattle.replies.specs.Sent.{AreAddressed};
 
     /// Returns how many messages have entered queues whose consumers lag behind.
@@ -34,7 +34,7 @@ impl Core {
     /// Returns whether the consumer `pick` exists and can take a message now, and the index of its queue. Its connection is looked up
     /// once.
     pub fn taking(&self, pick: Pick) -> Taking
-        ensures { TellsTaking self.now pick result }
+        ensures { ReturnsTaking self.now pick result }
     {
         let Some(running) = self.connections.get(pick.connection) else {
             return Taking::Gone;

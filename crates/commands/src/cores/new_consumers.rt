@@ -73,7 +73,7 @@ impl Core {
     /// Returns the index of the queue from which `event` consumes, if the queue exists.
     pub fn queue_consumed(&self, event: &Event) -> Option<usize>
         ensures within { IfSome result (λ i. i < length (topology_kept self.now).queues) }
-        ensures told { (place : ℕ) → IsConsumed (topology_kept self.now) event.now place → result ≡ Some place }
+        ensures reported { (place : ℕ) → IsConsumed (topology_kept self.now) event.now place → result ≡ Some place }
     {
         let name = consumed(event)?;
         self.depot.ghost_is_whole();

@@ -29,7 +29,7 @@ impl LiveQueues for Core {
 impl Core {
     ghost use Rattle.std.specs.Prelude.{IfOk, OnErr};
     ghost use Rattle.commands.specs.State.{broker_of, topology_kept};
-    ghost use Rattle.commands.specs.Obstacles.{TellsObstacle};
+    ghost use Rattle.commands.specs.Obstacles.{ReportsObstacle};
     ghost use Rattle.reloading.specs.Wanting.{MayWant};
 
     /// Returns the first obstacle to a reload to `topology` and `guarantees`, or `None` if there is none; users don't matter.
@@ -41,7 +41,7 @@ impl Core {
         topology: &Topology,
         guarantees: &[Guarantee],
     ) -> Result<Option<Obstacle>, AllocError>
-        ensures told { IfOk result (TellsObstacle (topology_kept self.now) (broker_of self.now) topology.now guarantees.now) }
+        ensures reported { IfOk result (ReportsObstacle (topology_kept self.now) (broker_of self.now) topology.now guarantees.now) }
         ensures wants { OnErr result (MayWant (topology_kept self.now) topology.now (broker_of self.now)) }
     {
         self.depot.ghost_is_whole();

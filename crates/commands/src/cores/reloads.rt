@@ -11,7 +11,7 @@ impl Core {
     ghost use Rattle.std.specs.Prelude.{◌≡◌, IfOk, OnOk, OnErr};
     ghost use Rattle.model.specs.Topology.{queue_names};
     ghost use Rattle.model.specs.Agreement.{IsAgreed};
-    ghost use Rattle.model.specs.Reloading.{NoneIsOrphaned, with_all_stood};
+    ghost use Rattle.model.specs.Reloading.{NoneIsOrphaned, with_all_survived};
     ghost use Rattle.model.specs.Step.{Is};
     ghost use Rattle.depot.specs.Store.{IsStoreWhole};
     ghost use Rattle.depot.specs.Moving.{AreMoved};
@@ -33,7 +33,7 @@ impl Core {
         requires kept { NoneIsOrphaned (topology_kept self.old) topology (broker_of self.old) }
         // The new topology is in force, messages are marked, and queues have their new indices.
         ensures topology { OnOk result (topology_kept self.new ≡ topology) }
-        ensures stood { OnOk result (Is (with_all_stood (broker_of self.old)) (broker_of self.new)) }
+        ensures survived { OnOk result (Is (with_all_survived (broker_of self.old)) (broker_of self.new)) }
         ensures moved { IfOk result (λ places. AreMoved (names_of self.old) (queue_names topology.queues) places.items) }
         // A failure changes nothing.
         ensures err { OnErr result (self.new ≡ self.old) }

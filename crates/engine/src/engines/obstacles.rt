@@ -8,7 +8,7 @@ use std::alloc::{AllocError, Global};
 impl Engine {
     ghost use Rattle.std.specs.Prelude.{IfOk, OnErr};
     ghost use Rattle.engine.specs.World.{world_of};
-    ghost use Rattle.engine.specs.Offered.{TellsWhatStands};
+    ghost use Rattle.engine.specs.Offered.{JudgesOffered};
     ghost use Rattle.engine.specs.Wanting.{engine_lacks};
     ghost use Rattle.runs.specs.Wants.{To_reload};
 
@@ -18,7 +18,7 @@ impl Engine {
     /// Fails only if an allocation fails. It may allocate only if each queue in use is declared in `setup`, or if the first that is not has a name of
     /// more than 22 bytes.
     pub fn obstacle(&self, alloc: Global, setup: &Setup) -> Result<Option<Obstacle>, AllocError>
-        ensures told { IfOk result (TellsWhatStands (world_of self.now) setup.now) }
+        ensures reported { IfOk result (JudgesOffered (world_of self.now) setup.now) }
         ensures wants { OnErr result (engine_lacks (world_of self.now) (To_reload setup.now)) }
     {
         let checked = setup.checked();

@@ -6,7 +6,7 @@ ghost use Rattle.reloading.specs.Wanting.{MayWant};
 ghost use Rattle.broker.specs.Turns.{topology_kept, broker_of};
 ghost use Rattle.broker.specs.Waiting.{LinesMove};
 ghost use Rattle.runs.specs.Reloaded.{IsMemory};
-ghost use Rattle.engine.specs.Putting.{TellsPut};
+ghost use Rattle.engine.specs.Putting.{PutMeans};
 
 use crate::engines::Engine;
 use broker::Broker;
@@ -24,7 +24,7 @@ fn put(
     topology: Topology,
     guarantees: &[Guarantee],
 ) -> Result<(), ReloadFault>
-    ensures put { (users : List MayLogIn) → TellsPut broker.old (record { topology = topology; guarantees = guarantees.now; users = users }) result broker.new }
+    ensures put { (users : List MayLogIn) → PutMeans broker.old (record { topology = topology; guarantees = guarantees.now; users = users }) result broker.new }
     ensures wants { IsMemory result → MayWant (topology_kept broker.old) topology (broker_of broker.old) }
     ensures lines { OnOk result (LinesMove broker.old broker.new) }
 {
@@ -40,7 +40,7 @@ impl Engine {
     ghost use Rattle.broker.specs.Waiting.{LinesMove};
     ghost use Rattle.engine.specs.InForce.{in_force};
     ghost use Rattle.engine.specs.World.{world_of};
-    ghost use Rattle.runs.specs.Reloaded.{TellsReload, IsMemory};
+    ghost use Rattle.runs.specs.Reloaded.{ReportsReload, IsMemory};
     ghost use Rattle.reloading.specs.Wanting.{MayWant};
 
     /// Puts the topology, the guarantees and the users of a setup in force. Messages in queues are marked as ones that the reload found there.
@@ -58,7 +58,7 @@ impl Engine {
         users: Vec<User>,
     ) -> Result<(), ReloadFault>
         // Either it is done, or the first obstacle is reported and nothing has changed.
-        ensures told { TellsReload (world_of self.old) (in_force checked users.items) result (world_of self.new) }
+        ensures reported { ReportsReload (world_of self.old) (in_force checked users.items) result (world_of self.new) }
         ensures kept { OnErr result (self.new ≡ self.old) }
         // Each queue's order of consumers is kept.
         ensures lines { OnOk result (LinesMove self.old.broker self.new.broker) }

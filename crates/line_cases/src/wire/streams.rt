@@ -244,8 +244,8 @@ fn put_uncut(out: &mut LineAnswer, bytes: &[u8], whole: &str) {
     }
 }
 
-/// Appends the commands of the bytes, which have to be the same whole, in single bytes and cut in two at every index:
-/// `read` if they are written with the same bytes.
+/// Appends the commands of the bytes, or `read` if writing them gives the same bytes. They have to be the same whether the bytes come whole, one by
+/// one, or cut in two at any index; otherwise it appends which pieces give others.
 pub fn put_commands(out: &mut LineAnswer, bytes: &[u8]) {
     let whole = heard(out, bytes, &[]);
     let single = heard_by_bytes(out, bytes);

@@ -5,4 +5,4 @@ use Rattle.assembly.proofs.taking.take_method.Goals as goal
 pub returns-in-Err-clause-does : goal.returns-in-Err-clause-does
 returns-in-Err-clause-does c =
     let f = seen c.args.frame.now in
-    (map_fault _ _ c.of_method.result (λ code s. subst (λ (q : Awaited). TakesPayload c.args.keeps (pending_of q) f (Breaks code)) (sym c.requires) (Err code, s, refl)) (c.of_method.ensures _ c.in-Err.ensures.tells), refl)
+    (map_fault _ _ c.of_method.result (λ code s. subst (λ (q : Awaited). TakesPayload c.args.keeps (pending_of q) f (Breaks code)) (sym c.requires) (Err code, s, refl)) (c.of_method.ensures _ c.in-Err.ensures.read), refl)

@@ -1,54 +1,60 @@
-//! Removes the waiters and the listings of consumers that are gone.
-//!
-//! If one consumer of the connection is gone, its waiter is removed from its round, and no other waiter is looked at. Each such removal moves the
-//! waiters behind it. So if several are gone, each round is swept once instead.
+//! Finds the consumers of a connection that are gone, and removes their listings.
 
-ghost use Rattle.std.specs.Prelude.{◌≡◌, ◌<◌, ◌≤◌, ◌*◌, ℕ, true, false, length, filter, count_by, vec_capacity};
+ghost use Rattle.std.specs.Prelude.{◌≡◌, ◌<◌, ◌≤◌, ◌*◌, ℕ, length, filter, vec_capacity};
 ghost use Rattle.model.specs.Topology.{IsIn};
-ghost use Rattle.broker.specs.Rounds.{is_listed_there, is_listed_gone, gone_on, listings_of, listings_on, rounds_of, Listing, IsListedOnAny, ListsItsWaiters};
-ghost use Rattle.broker.specs.Rounds.{GoneAreRemoved, KeepRounds, LeaveLines, KeepsListings, KeepListingsOn, KeepLists, ListingsLeave, MakesNoList, gone_in};
+ghost use Rattle.marks.specs.Places.{bit_of};
+ghost use Rattle.broker.specs.declared.rounds.sleepers.leaving.Gone.TheVariants.{Nobody};
+ghost use Rattle.broker.specs.Rounds.{is_listed_there, listings_of, listings_on, Listing, IsListedOnAny, IsListedUnder, AddsGone};
+ghost use Rattle.broker.specs.Rounds.{KeepsListings, KeepListingsOn, KeepLists, ListingsLeave, MakesNoList};
 
-use crate::rounds::queue_rounds::QueueRounds;
 use crate::rounds::sleepers::{ChannelSleepers, ConnectionSleepers, Listed, Sleepers};
 use crate::rounds::waiters::{PlaceMarks, mark_between};
-use commands::Core;
+use commands::{Core, Pick};
+use marks::Places;
+
+/// The listed consumers that are gone.
+#[derive(Clone, Copy, Drop)]
+pub(crate) enum Gone {
+    Nobody,
+    /// One: the index of its queue, the consumer, and a guess of its waiter's index in the round.
+    One(usize, Pick, usize),
+    Several,
+}
+
+/// Adds `queue` to the set if it is below `count`.
+fn name(named: &mut PlaceMarks, queue: usize, count: usize)
+    requires { count ≤ length named.old * 64 }
+    ensures size { length named.new ≡ length named.old }
+    ensures there { queue < count → bit_of named.new queue ≡ 1 }
+    ensures more { (k : ℕ) → bit_of named.old k ≡ 1 → bit_of named.new k ≡ 1 }
+{
+    if queue < count {
+        named.set(queue);
+    }
+}
 
 impl Listed {
-    /// Removes its waiter if its consumer is gone.
-    fn leave(&self, core: &Core, rounds: &mut QueueRounds)
-        ensures gone { GoneAreRemoved core.now (λ (l : Listing). l ≡ self.now) rounds.old rounds.new }
-        ensures len { length rounds.new ≡ length rounds.old }
+    /// Adds the listed consumer to `gone` if it is gone. If several are, their queues' indices below `count` are added to `named`.
+    fn add_gone(&self, core: &Core, count: usize, named: &mut PlaceMarks, gone: Gone) -> Gone
+        requires { count ≤ length named.old * 64 }
+        ensures { AddsGone core.now (λ (l : Listing). l ≡ self.now) count gone named.old result named.new }
     {
         if self.is_there(core) {
-            return;
+            return gone;
         }
-        rounds.remove(self.queue, self.consumer, self.place);
-    }
-}
-
-/// Removes the waiters of those whose consumer is gone, the last first: so those in front keep their index.
-fn leave_rounds(listed: &[Listed], core: &Core, rounds: &mut QueueRounds)
-    ensures gone { GoneAreRemoved core.now (λ (l : Listing). IsIn l listed.now) rounds.old rounds.new }
-    ensures len { length rounds.new ≡ length rounds.old }
-{
-    let mut left = listed.len();
-    'listed: while left > 0 {
-        left -= 1;
-        listed[left].leave(core, rounds);
-    }
-}
-
-/// Returns how many of these have a consumer that is gone.
-fn count_gone(listed: &[Listed], core: &Core) -> usize
-    ensures { result ≡ count_by (is_listed_gone core.now) listed.now }
-{
-    let mut count = 0;
-    for one in listed {
-        if !one.is_there(core) {
-            count += 1;
+        match gone {
+            Gone::Nobody => Gone::One(self.queue, self.consumer, self.place),
+            Gone::One(queue, ..) => {
+                name(named, queue, count);
+                name(named, self.queue, count);
+                Gone::Several
+            }
+            Gone::Several => {
+                name(named, self.queue, count);
+                Gone::Several
+            }
         }
     }
-    count
 }
 
 /// Removes the listings whose consumer is gone or takes from another queue.
@@ -74,19 +80,16 @@ fn remove_gone(listed: &mut Vec<Listed>, asleep: &mut PlaceMarks, core: &Core)
 }
 
 impl ChannelSleepers {
-    /// Returns how many of its listings have a consumer that is gone.
-    fn count_gone(&self, core: &Core) -> usize
-        ensures { result ≡ gone_in core.now self.now }
+    /// Adds those of its consumers that are gone to `gone`, as [`Listed::add_gone`] does.
+    fn add_gone(&self, core: &Core, count: usize, named: &mut PlaceMarks, gone: Gone) -> Gone
+        requires { count ≤ length named.old * 64 }
+        ensures { AddsGone core.now (λ (l : Listing). IsIn l self.now.all) count gone named.old result named.new }
     {
-        count_gone(&self.listed, core)
-    }
-
-    /// Removes the waiters whose consumer is gone, one after another.
-    fn leave_rounds(&self, core: &Core, rounds: &mut QueueRounds)
-        ensures gone { GoneAreRemoved core.now (λ (l : Listing). IsIn l self.now.all) rounds.old rounds.new }
-        ensures len { length rounds.new ≡ length rounds.old }
-    {
-        leave_rounds(&self.listed, core, rounds);
+        let mut gone = gone;
+        for one in &self.listed {
+            gone = one.add_gone(core, count, named, gone);
+        }
+        gone
     }
 
     /// Removes the listings whose consumer is gone. Never allocates.
@@ -95,28 +98,6 @@ impl ChannelSleepers {
         ensures kept { KeepsListings core.now self.old self.new }
     {
         remove_gone(&mut self.listed, &mut self.asleep, core);
-    }
-}
-
-/// Returns whether more than one listed consumer is gone.
-fn are_several_gone(channels: &[ChannelSleepers], core: &Core) -> bool
-    ensures several { result ≡ true → 1 < gone_on core.now channels.now }
-    ensures few { result ≡ false → gone_on core.now channels.now ≤ 1 }
-{
-    let mut count: usize = 0;
-    for place in 0..channels.len() {
-        count = count.saturating_add(channels[place].count_gone(core));
-    }
-    count > 1
-}
-
-/// Removes the waiters whose consumer is gone, of each channel, one after another.
-fn leave_channels(channels: &[ChannelSleepers], core: &Core, rounds: &mut QueueRounds)
-    ensures gone { GoneAreRemoved core.now (IsListedOnAny channels.now) rounds.old rounds.new }
-    ensures len { length rounds.new ≡ length rounds.old }
-{
-    for place in 0..channels.len() {
-        channels[place].leave_rounds(core, rounds);
     }
 }
 
@@ -131,20 +112,16 @@ fn leave_each(channels: &mut [ChannelSleepers], core: &Core)
 }
 
 impl ConnectionSleepers {
-    /// Returns whether more than one of its consumers is gone.
-    fn are_several_gone(&self, core: &Core) -> bool
-        ensures several { result ≡ true → 1 < gone_on core.now self.now }
-        ensures few { result ≡ false → gone_on core.now self.now ≤ 1 }
+    /// Returns those of its consumers that are gone. If several are, their queues' indices below `count` are added to `named`.
+    fn find_gone(&self, core: &Core, count: usize, named: &mut PlaceMarks) -> Gone
+        requires { count ≤ length named.old * 64 }
+        ensures { AddsGone core.now (IsListedOnAny self.now) count Nobody named.old result named.new }
     {
-        are_several_gone(&self.channels, core)
-    }
-
-    /// Removes the waiters whose consumer is gone, one after another.
-    fn leave_rounds(&self, core: &Core, rounds: &mut QueueRounds)
-        ensures gone { GoneAreRemoved core.now (IsListedOnAny self.now) rounds.old rounds.new }
-        ensures len { length rounds.new ≡ length rounds.old }
-    {
-        leave_channels(&self.channels, core, rounds);
+        let mut gone = Gone::Nobody;
+        for channel in &self.channels {
+            gone = channel.add_gone(core, count, named, gone);
+        }
+        gone
     }
 
     /// Removes the listings whose consumer is gone. Never allocates.
@@ -156,27 +133,20 @@ impl ConnectionSleepers {
     }
 }
 
-/// Removes the waiters of those consumers of `connection` that are gone: of one as it is listed, of several by a sweep over all rounds.
-pub(crate) fn leave_waiters(
+/// Returns the consumers of `connection` that are gone. If several are, their queues' indices below `count` are added to `named`.
+pub(crate) fn find_gone(
     sleepers: &Sleepers,
-    rounds: &mut QueueRounds,
-    core: &Core,
     connection: u64,
-)
-    requires { ListsItsWaiters connection (rounds_of rounds.old sleepers.now.entries) }
-    ensures kept { KeepRounds core.now rounds.old rounds.new }
-    ensures lines { LeaveLines core.now connection rounds.old rounds.new }
-    ensures len { length rounds.new ≡ length rounds.old }
+    core: &Core,
+    count: usize,
+    named: &mut PlaceMarks,
+) -> Gone
+    requires { count ≤ length named.old * 64 }
+    ensures { AddsGone core.now (IsListedUnder sleepers.now.entries connection) count Nobody named.old result named.new }
 {
     match sleepers.get(&connection) {
-        Some(channels) => {
-            if channels.are_several_gone(core) {
-                rounds.leave(core, connection);
-            } else {
-                channels.leave_rounds(core, rounds);
-            }
-        }
-        None => {}
+        Some(channels) => channels.find_gone(core, count, named),
+        None => Gone::Nobody,
     }
 }
 

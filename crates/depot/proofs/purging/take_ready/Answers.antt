@@ -32,11 +32,11 @@ taking-smaller c =
 pub taking-preserved : goal.taking-preserved
 taking-preserved c =
     let i = c.taking.invariant in
-    let told = c.set_number.ensures in
+    let reported = c.set_number.ensures in
     let number : numbered c.number.result c.taking.note ≡ numbered (number_of c.in-Some.entry) c.args.note = ap (λ (n : ℕ). numbered n c.taking.note) c.number.ensures ∙ i.same (number_of c.in-Some.entry) in
     record {
-      same = λ n. ap (numbered n) told.note ∙ numbered-numbered n _ _ ∙ i.same n;
-      purging = purging_next _ _ _ _ _ _ c.in-Some.entry _ _ i.purging (sym c.in-Some.ensures.taken) (told.items ∙ ap (λ (x : Note). set c.taking.notes.items c.taking.place x) number) c.in-Some.ensures.entries;
+      same = λ n. ap (numbered n) reported.note ∙ numbered-numbered n _ _ ∙ i.same n;
+      purging = purging_next _ _ _ _ _ _ c.in-Some.entry _ _ i.purging (sym c.in-Some.ensures.taken) (reported.items ∙ ap (λ (x : Note). set c.taking.notes.items c.taking.place x) number) c.in-Some.ensures.entries;
     }
 
 pub returns-clause-noted : goal.returns-clause-noted

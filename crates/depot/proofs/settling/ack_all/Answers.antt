@@ -12,7 +12,7 @@ loop-departure-init c =
     let whole : IsStoreWhole (store_of t queues 0) = record { formed = c.requires.formed; len = entries_of-length c.args.queues.now ∙ c.requires.len } in
     let begins : AreLeaving t c.args.id.connection c.args.id.number queues queues (waiting c.args.gone.now) rest c.args.notes.now.items c.args.notes.now.items =
     leaving_begins t c.args.id.connection c.args.id.number queues (waiting c.args.gone.now) rest c.args.notes.now.items
-    (c.into_iter-departure-iterator.ensures.into_iter_gives.0 ∙ c.in_ok-departures.ensures) c.requires.within whole.len (apart_by (store_of t queues 0) whole c.requires.apart) in
+    (c.into_iter-departure-iterator.ensures.into_iter_gives.0 ∙ c.in_ok-departures.ensures) c.requires.within whole.len (apart_by (store_of t queues 0) whole c.requires.distinct) in
     record {
       len = refl;
       leaving = subst (AreLeaving t c.args.id.connection c.args.id.number queues queues (waiting c.args.gone.now) rest c.args.notes.now.items) (sym c.reserve_exact.ensures.items) begins;

@@ -9,7 +9,7 @@ returns-in-Keys c =
     let keyed = subst (λ (index : Index). IsIndex c.args.ways.now index) c.in-Keys.is c.requires in
     rw c.in-Keys.is
     (on_ok_weaker c.list_by_key.result
-    (λ e. subst (λ (es : List End). ArePassing Direct c.args.key.now c.args.ways.now es) (sym (e ∙ keyed.told c.args.key.now)) (passing_direct c.args.key.now c.args.ways.now))
+    (λ e. subst (λ (es : List End). ArePassing Direct c.args.key.now c.args.ways.now es) (sym (e ∙ keyed.reported c.args.key.now)) (passing_direct c.args.key.now c.args.ways.now))
     c.list_by_key.ensures)
 
 pub returns-in-All : goal.returns-in-All

@@ -13,9 +13,9 @@ loop-one-preserved c =
     let x = c.in-Some.one in
     let steps : into_iter_items at.one-iterator ≡ x ∷ into_iter_items c.next.new.self = c.in-Some.ensures.steps.0 in
     record {
-      told = ap (λ (z : List Guarantee). z ++ into_iter_items c.next.new.self) (c.in_ok-push.ensures.items ∙ ap (λ (z : Guarantee). at.found.items ++ z ∷ []) c.of.ensures)
+      reported = ap (λ (z : List Guarantee). z ++ into_iter_items c.next.new.self) (c.in_ok-push.ensures.items ∙ ap (λ (z : Guarantee). at.found.items ++ z ∷ []) c.of.ensures)
           ∙ append_assoc at.found.items (x ∷ []) (into_iter_items c.next.new.self)
-          ∙ rw (← steps) at.invariant.told;
+          ∙ rw (← steps) at.invariant.reported;
       counted = (let was = at.invariant.counted in let gone = c.in-Some.ensures.steps.1 in let short = ap length steps in omega arith);
       patterns = rest_of x (into_iter_items c.next.new.self) (subst (λ (z : List Guarantee). All ArePatterns z) steps at.invariant.patterns);
     }
@@ -25,4 +25,4 @@ returns c =
     let at = c.loop-one in
     let none = c.in-None.ensures.steps in
     let empty : into_iter_items at.one-iterator ≡ [] = nothing_left _ (sym at.invariant.counted ∙ none.0) in
-    sym (append-nil at.found.items) ∙ rw empty at at.invariant.told ∙ c.into_iter-one-iterator.ensures.into_iter_gives.0
+    sym (append-nil at.found.items) ∙ rw empty at at.invariant.reported ∙ c.into_iter-one-iterator.ensures.into_iter_gives.0

@@ -3,11 +3,11 @@ use Rattle.methods.proofs.Names.{too_short}
 use Rattle.methods.proofs.Whole.{tells, only}
 use Rattle.methods.proofs.reading.read_method.Goals as goal
 
-pub returns-in-None-clause-tells : goal.returns-in-None-clause-tells
-returns-in-None-clause-tells c = too_short c.in-None.ensures
+pub returns-in-None-clause-read : goal.returns-in-None-clause-read
+returns-in-None-clause-read c = too_short c.in-None.ensures
 
-pub returns-in-Some-clause-tells : goal.returns-in-Some-clause-tells
-returns-in-Some-clause-tells c = tells c.args.payload.now _ _ _ c.with_ids.result (λ i. (c.type_inv.payload i).fits) c.in-Some.ensures c.with_ids.ensures
+pub returns-in-Some-clause-read : goal.returns-in-Some-clause-read
+returns-in-Some-clause-read c = tells c.args.payload.now _ _ _ c.with_ids.result (λ i. (c.type_inv.payload i).fits) c.in-Some.ensures c.with_ids.ensures
 
 pub returns-in-Some-clause-only : goal.returns-in-Some-clause-only
 returns-in-Some-clause-only c = λ m fits s. only c.args.payload.now _ _ _ c.with_ids.result m c.in-Some.ensures c.with_ids.ensures fits s

@@ -1,10 +1,10 @@
 use Rattle.paths.proofs.Names.{None, arith, in_get, Visit}
-use Rattle.paths.specs.declared.stands.Spot.TheVariants as spot
+use Rattle.paths.specs.declared.locations.Spot.TheVariants as spot
 use Rattle.paths.proofs.Leads.{links_none, links_more, links_all}
 use Rattle.paths.proofs.leading.link_all.Goals as goal
 
 abbrev none : Visit
-none = record { stand = record { spot = spot.Default; fixed = None }; from = 0 }
+none = record { location = record { spot = spot.Default; fixed = None }; from = 0 }
 
 pub link-requires : goal.link-requires
 link-requires c = c.requires _ (in_get c.args.visits.now c.loop-visit.visit-index none (omega arith))

@@ -1,4 +1,4 @@
-use Rattle.paths.proofs.Names.{List, None, Some, subst, sym, on_ok_weaker, IsIn, Visit, IsStandThere, LinksAll}
+use Rattle.paths.proofs.Names.{List, None, Some, subst, sym, on_ok_weaker, IsIn, Visit, IsLocationThere, LinksAll}
 use Rattle.paths.proofs.Leads.{front_linked, no_front}
 use Rattle.paths.proofs.leading.link_queue.Goals as goal
 
@@ -8,7 +8,7 @@ returns-in-None c = no_front c.args.topology.now c.args.queue.now c.args.at c.ar
 pub link_all-requires : goal.link_all-requires
 link_all-requires c =
     let d = c.requires.deaths.each c.args.at (Some c.in-Some.explored.now) c.in-Some.ensures.some in
-    subst (λ (xs : List Visit). (v : Visit) → IsIn v xs → IsStandThere c.args.topology.now v.stand) (sym c.visits.ensures) d.explored.there
+    subst (λ (xs : List Visit). (v : Visit) → IsIn v xs → IsLocationThere c.args.topology.now v.location) (sym c.visits.ensures) d.explored.there
 
 pub returns-in-Some : goal.returns-in-Some
 returns-in-Some c =

@@ -1,10 +1,10 @@
 use Rattle.paths.proofs.Names.{None, arith, in_get, Visit}
-use Rattle.paths.specs.declared.stands.Spot.TheVariants as spot
+use Rattle.paths.specs.declared.locations.Spot.TheVariants as spot
 use Rattle.paths.proofs.Leads.{none_more, none_leads, one_leads}
 use Rattle.paths.proofs.leading.some_leads.Goals as goal
 
 abbrev none : Visit
-none = record { stand = record { spot = spot.Default; fixed = None }; from = 0 }
+none = record { location = record { spot = spot.Default; fixed = None }; from = 0 }
 
 pub leads-requires-clause-there : goal.leads-requires-clause-there
 leads-requires-clause-there c = c.requires.there _ (in_get c.args.visits.now c.loop-visit.visit-index none (omega arith))

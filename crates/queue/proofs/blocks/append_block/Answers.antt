@@ -9,11 +9,11 @@ settle-requires-clause-signed c =
     let is = ap (λ (bs : List Stretch). parts bs) c.push_reserved.ensures.items ∙ parts-end c.args.blocks.now.items _ c.requires.empty in
     subst (λ (ps : List (List Entry)). AreBlocksSigned ps c.args.signs.now) (sym is) (signed_end (parts c.args.blocks.now.items) c.args.signs.now c.requires.signed)
 
-pub settle-requires-clause-apart : goal.settle-requires-clause-apart
-settle-requires-clause-apart c holder =
+pub settle-requires-clause-distinct : goal.settle-requires-clause-distinct
+settle-requires-clause-distinct c holder =
     let is = ap (λ (bs : List Stretch). parts bs) c.push_reserved.ensures.items ∙ parts-end c.args.blocks.now.items _ c.requires.empty in
     subst (λ (es : List Entry). tally (is_held_as holder) es ≤ 1)
-    (sym (ap (λ (ps : List (List Entry)). joined ps) is ∙ joined_nothing (parts c.args.blocks.now.items))) (c.requires.apart holder)
+    (sym (ap (λ (ps : List (List Entry)). joined ps) is ∙ joined_nothing (parts c.args.blocks.now.items))) (c.requires.distinct holder)
 
 pub returns-clause-entries : goal.returns-clause-entries
 returns-clause-entries c =

@@ -3,12 +3,12 @@ use Rattle.std.proofs.Math.ListN.{set}
 use Rattle.queue.proofs.Removed.{entries_joined, room_joined, apart_there}
 use Rattle.queue.proofs.blocks.join_at.Goals as goal
 
-pub take_in-requires-clause-apart : goal.take_in-requires-clause-apart
-take_in-requires-clause-apart c holder =
+pub take_in-requires-clause-distinct : goal.take_in-requires-clause-distinct
+take_in-requires-clause-distinct c holder =
     let l : vec_len c.args.blocks.now ≡ length c.args.blocks.now.items = search rules in
     let lt : c.args.place + 1 < length c.args.blocks.now.items = (let w = c.requires.within in omega (arith, w, l)) in
     let at = subst (λ (bs : List Stretch). c.index_mut.result.now ≡ get_or bs c.args.place c.index_mut.result.now) c.remove-next.ensures.items (search rules) in
-    rw c.into_slots.ensures (apart_there c.args.blocks.now.items c.args.place c.index_mut.result.now c.remove-next.result holder lt at (search rules) c.requires.apart)
+    rw c.into_slots.ensures (apart_there c.args.blocks.now.items c.args.place c.index_mut.result.now c.remove-next.result holder lt at (search rules) c.requires.distinct)
 
 pub returns-clause-entries : goal.returns-clause-entries
 returns-clause-entries c =

@@ -9,16 +9,16 @@ index_mut-requires c =
     let l : vec_len c.args.entries.now ≡ length c.args.entries.now.items = search rules in
     omega arith
 
-pub returns-in-Some-clause-told : goal.returns-in-Some-clause-told
-returns-in-Some-clause-told c = sym (ap is_some ((first_in is_ready c.deref.ensures.value c.in-Some.ensures).found c.index_mut.result.now))
+pub returns-in-Some-clause-reported : goal.returns-in-Some-clause-reported
+returns-in-Some-clause-reported c = sym (ap is_some ((first_in is_ready c.deref.ensures.value c.in-Some.ensures).found c.index_mut.result.now))
 
 pub returns-in-Some-clause-entries : goal.returns-in-Some-clause-entries
 returns-in-Some-clause-entries c =
     ap (λ (e : Entry). set c.args.entries.now.items c.in-Some.place e) (c.hold.ensures ∙ ap (held_as c.args.holder) c.index_mut.ensures.value)
     ∙ sym ((first_in is_ready c.deref.ensures.value c.in-Some.ensures).changed (held_as c.args.holder) c.index_mut.result.now)
 
-pub returns-in-None-clause-told : goal.returns-in-None-clause-told
-returns-in-None-clause-told c = sym (ap is_some (nowhere_in is_ready c.deref.ensures.value c.in-None.ensures).found)
+pub returns-in-None-clause-reported : goal.returns-in-None-clause-reported
+returns-in-None-clause-reported c = sym (ap is_some (nowhere_in is_ready c.deref.ensures.value c.in-None.ensures).found)
 
 pub returns-in-None-clause-entries : goal.returns-in-None-clause-entries
 returns-in-None-clause-entries c = sym ((nowhere_in is_ready c.deref.ensures.value c.in-None.ensures).changed (held_as c.args.holder))

@@ -8,7 +8,7 @@ returns-in-Nothing-clause-looks g c = λ holds names is.
 
 pub returns-in-Refused-clause-looks : goal.returns-in-Refused-clause-looks
 returns-in-Refused-clause-looks g c = λ holds names is.
-    refused_look holds names _ _ c.in-Refused.read _ c.in-Refused.told _ (subst (λ (f : Found). IsFound holds names c.args.kept.now f) (sym c.in-Refused.ensures.value) is) c.put_refusal.ensures
+    refused_look holds names _ _ c.in-Refused.read _ c.in-Refused.report _ (subst (λ (f : Found). IsFound holds names c.args.kept.now f) (sym c.in-Refused.ensures.value) is) c.put_refusal.ensures
 
 pub returns-in-Ok-clause-looks : goal.returns-in-Ok-clause-looks
 returns-in-Ok-clause-looks g c = λ holds names is.

@@ -9,7 +9,7 @@ returns-in_err-obstacle c =
     rw (p.1, p.2) c.in_err-obstacle.ensures.wants
 
 pub returns-in-Some : goal.returns-in-Some
-returns-in-Some c = stands (world_of c.args.engine.now) c.args.setup.now _ _ _ c.in-Some.is c.in_ok-obstacle.ensures.told c.of.ensures
+returns-in-Some c = stands (world_of c.args.engine.now) c.args.setup.now _ _ _ c.in-Some.is c.in_ok-obstacle.ensures.reported c.of.ensures
 
 pub returns : goal.returns
-returns c = none_stands (world_of c.args.engine.now) c.args.setup.now _ c.in_default.is c.in_ok-obstacle.ensures.told
+returns c = none_stands (world_of c.args.engine.now) c.args.setup.now _ c.in_default.is c.in_ok-obstacle.ensures.reported

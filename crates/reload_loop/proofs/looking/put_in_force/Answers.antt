@@ -3,8 +3,8 @@ use Rattle.reload_loop.proofs.looking.put_in_force.Goals as goal
 
 pub returns-in-Ok-clause-looks : goal.returns-in-Ok-clause-looks
 returns-in-Ok-clause-looks g c = λ holds names from offered.
-    done_look holds names _ _ _ _ _ c.args.setup from offered c.in-Ok.ensures.told
+    done_look holds names _ _ _ _ _ c.args.setup from offered c.in-Ok.ensures.reported
 
 pub returns-in-Err-clause-looks : goal.returns-in-Err-clause-looks
 returns-in-Err-clause-looks g c = λ holds names from offered.
-    tried_look holds names _ _ _ _ _ c.args.setup c.in-Err.fault _ from offered c.in-Err.ensures.told c.in-Err.ensures.wants c.put_fault.ensures
+    tried_look holds names _ _ _ _ _ c.args.setup c.in-Err.fault _ from offered c.in-Err.ensures.reported c.in-Err.ensures.wants c.put_fault.ensures

@@ -1,4 +1,4 @@
-use Rattle.reload_loop.proofs.Imports.{Option, Some, None, Bor, ap, refl, ◌∙◌, Text, asks_same, memory_told, asked_by, names_in, without, serves, reloads}
+use Rattle.reload_loop.proofs.Imports.{Option, Some, None, Bor, ap, refl, ◌∙◌, Text, asks_same, memory_reported, asked_by, names_in, without, serves, reloads}
 use Rattle.server.specs.Stated.{file_named}
 use Rattle.server.proofs.Outcomes.{untouched, shows}
 use Rattle.reload_loop.proofs.Reloading.{not_to_serve}
@@ -7,7 +7,7 @@ use Rattle.reload_loop.proofs.program.program_with_sockets.Goals as goal
 pub returns-in-Err : goal.returns-in-Err
 returns-in-Err g c =
     rw c.without_clients.ensures
-    (without (shows _ _ _ _ _ c.in-Err.error _ c.in-Err.ensures (untouched _) (λ name. refl) c.refuse_words.ensures) refl (λ names listen turns every asks. memory_told _ c.in-Err.error _ _ _ c.in-Err.ensures c.refuse_words.ensures asks))
+    (without (shows _ _ _ _ _ c.in-Err.error _ c.in-Err.ensures (untouched _) (λ name. refl) c.refuse_words.ensures) refl (λ names listen turns every asks. memory_reported _ c.in-Err.error _ _ _ c.in-Err.ensures c.refuse_words.ensures asks))
 
 pub returns-in-None : goal.returns-in-None
 returns-in-None g c =

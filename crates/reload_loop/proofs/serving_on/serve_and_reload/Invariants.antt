@@ -1,18 +1,18 @@
-use Rattle.reload_loop.proofs.Imports.{Config, world_of, engine_lacks, AreKept, served, IsServed, names_of, WasFound, Standing, ServesOn, standing}
+use Rattle.reload_loop.proofs.Imports.{Config, world_of, engine_lacks, AreKept, served, IsServed, names_of, WasFound, BetweenRounds, ServesOn, between_rounds}
 use Rattle.std.specs.Prelude.{true}
-use Rattle.serving.specs.Wire.{Told}
+use Rattle.serving.specs.Wire.{Traffic}
 use Rattle.reload_loop.proofs.serving_on.serve_and_reload.Given as goal
 
 abbrev pub invariant-loop-left : goal.invariant-loop-left
 invariant-loop-left g l =
-    let told = g.W.Wire.told in
+    let traffic = g.W.Wire.past in
     let says = g.E.Write.contents in
     let holds = g.F.Files.holds in
-    let start = served (world_of l.fn.server.machine) l.fn.server.peers (told l.fn.sockets) in
-    let here = served (world_of l.server.machine) l.server.peers (told l.sockets) in
+    let start = served (world_of l.fn.server.machine) l.fn.server.peers (traffic l.fn.sockets) in
+    let here = served (world_of l.server.machine) l.server.peers (traffic l.sockets) in
     record {
-      serves : (new : Standing) → ServesOn (holds l.fn.files) (names_of l.names) l.every l.left (standing here l.kept (says l.err) l.whole) new → ServesOn (holds l.fn.files) (names_of l.names) l.every l.turns (standing start l.fn.kept (says l.fn.err) true) new;
-      served : (f : Config) (before : Told) → IsServed engine_lacks f before start → IsServed engine_lacks f before here;
+      serves : (new : BetweenRounds) → ServesOn (holds l.fn.files) (names_of l.names) l.every l.left (between_rounds here l.kept (says l.err) l.whole) new → ServesOn (holds l.fn.files) (names_of l.names) l.every l.turns (between_rounds start l.fn.kept (says l.fn.err) true) new;
+      served : (f : Config) (before : Traffic) → IsServed engine_lacks f before start → IsServed engine_lacks f before here;
       files : AreKept (holds l.fn.files) (holds l.files);
       found : WasFound (names_of l.names) l.kept l.found;
     }

@@ -1,15 +1,15 @@
 use Rattle.server.proofs.Names.{FailsToSetUp, not_set_up, not_certified, not_admitted}
 use Rattle.server.proofs.FilesKept.{certifies_kept, few_promised}
-use Rattle.server.proofs.Kept.{told_as, told_uncertified}
+use Rattle.server.proofs.Kept.{refused_as, refused_uncertified}
 use Rattle.server.proofs.replaying.in_force.Goals as goal
 
 pub returns-in-Err-clause-force : goal.returns-in-Err-clause-force
-returns-in-Err-clause-force g c = not_set_up (told_as (FailsToSetUp _ _ _) _ _ _ _ c.told_of.ensures.file c.told_of.ensures.why c.in-Err.ensures.states)
+returns-in-Err-clause-force g c = not_set_up (refused_as (FailsToSetUp _ _ _) _ _ _ _ c.report_of.ensures.file c.report_of.ensures.why c.in-Err.ensures.states)
 
 pub returns-in-Err-certificates_of-clause-force : goal.returns-in-Err-certificates_of-clause-force
 returns-in-Err-certificates_of-clause-force g c =
     not_certified (record { topology = c.in-Ok.setup.topology; users = c.in-Ok.setup.users.items }) c.in-Ok.setup.guarantees.items c.in-Ok.ensures.states
-    (told_uncertified _ _ _ _ _ _ _ c.in-Ok.ensures.files c.told_of-in-Err-certificates_of.ensures.file c.told_of-in-Err-certificates_of.ensures.why c.in-Err-certificates_of.ensures.states)
+    (refused_uncertified _ _ _ _ _ _ _ c.in-Ok.ensures.files c.report_of-in-Err-certificates_of.ensures.file c.report_of-in-Err-certificates_of.ensures.why c.in-Err-certificates_of.ensures.states)
 
 pub admitted-requires : goal.admitted-requires
 admitted-requires g c = few_promised _ _ _ _ c.in-Ok.ensures.states.promises

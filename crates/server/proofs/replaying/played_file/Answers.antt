@@ -5,18 +5,18 @@ use Rattle.server.proofs.Outcomes.{untouched}
 use Rattle.server.proofs.replaying.played_file.Goals as goal
 
 pub returns-in-Err-clause-plays : goal.returns-in-Err-clause-plays
-returns-in-Err-clause-plays g c = record { file = c.args.script.now; why = c.in-Err.why; fails = unread_script c.in-Err.why c.in-Err.ensures.said; told = c.tell.ensures }
+returns-in-Err-clause-plays g c = record { file = c.args.script.now; why = c.in-Err.why; fails = unread_script c.in-Err.why c.in-Err.ensures.said; reported = c.refuse.ensures }
 
 pub returns-in-Err-arrivals_of-clause-plays : goal.returns-in-Err-arrivals_of-clause-plays
 returns-in-Err-arrivals_of-clause-plays g c =
-    let told = c.in-Err-arrivals_of.told in
+    let report = c.in-Err-arrivals_of.report in
     let same = same_known (g.F.Files.holds c.args.files.now) (g.F.Files.holds c.script_of.new.files) c.in-Ok.ensures.files in
     record {
-      file = told.file.now;
-      why = told.why;
+      file = report.file.now;
+      why = report.why;
       fails = unloaded c.in-Ok.said.items c.in-Ok.ensures.said
-          (subst (λ (h : Text → Known). FailsToReload h c.in-Ok.said.items told.file.now told.why) same (rw c.as_slice.ensures.value at c.in-Err-arrivals_of.ensures.set_up));
-      told = c.tell-in-Err-arrivals_of.ensures;
+          (subst (λ (h : Text → Known). FailsToReload h c.in-Ok.said.items report.file.now report.why) same (rw c.as_slice.ensures.value at c.in-Err-arrivals_of.ensures.set_up));
+      reported = c.refuse-in-Err-arrivals_of.ensures;
     }
 
 pub returns-in-Ok-played-clause-plays : goal.returns-in-Ok-played-clause-plays
@@ -33,4 +33,4 @@ returns-in-Ok-played-clause-plays g c =
     )
 
 pub returns-in-Err-played-clause-plays : goal.returns-in-Err-played-clause-plays
-returns-in-Err-played-clause-plays g c = record { file = []; why = Memory; fails = no_run; told = inl c.refuse_memory.ensures }
+returns-in-Err-played-clause-plays g c = record { file = []; why = Memory; fails = no_run; reported = inl c.refuse_memory.ensures }

@@ -1,7 +1,7 @@
 use Rattle.serving.proofs.Names.{◌<◌, ◌≤◌, ◌+◌, ◌∙◌, ◌++◌, ℕ, [], List, None, length, refl, sym, subst, inl, inr, slice_index_or, arith, cases_eq, cases_lt, Bool, false, ◌||◌, Ask, Serves, served, HasEnded, write_of, writes_due}
 use Rattle.serving.proofs.Onward.{or_false, serves_then}
-use Rattle.serving.proofs.Apart.{later_on, due_on}
-use Rattle.serving.proofs.Fits.{seated_on, slot_within}
+use Rattle.serving.proofs.Others.{later_on, due_on}
+use Rattle.serving.proofs.Fits.{in_slots_on, slot_within}
 use Rattle.serving.proofs.Loudness.{all_passed}
 use Rattle.serving.proofs.Passing.{passed_on, passes_writes}
 use Rattle.serving.proofs.rounds.settle_all.Goals as goal
@@ -9,39 +9,39 @@ use Rattle.serving.proofs.rounds.settle_all.Goals as goal
 pub loop-slot-init : goal.loop-slot-init
 loop-slot-init g c =
     let world = g.M.Machine.world in
-    let told = g.W.Wire.told in
-    let start = served (world c.args.machine.now) c.args.peers.now.slots (told c.args.wire.now) in
+    let traffic = g.W.Wire.past in
+    let start = served (world c.args.machine.now) c.args.peers.now.slots (traffic c.args.wire.now) in
     let j = c.pass_marked-slot.result in
     let next = c.pass_marked-slot.ensures in
-    let passes = passes_writes {L = g.M.Machine.lacks} start.world start.peers 0 j start.told (told c.pass_marked-slot.new.wire) (omega arith) (next.told start.world c.requires.seated.quiet) in
+    let passes = passes_writes {L = g.M.Machine.lacks} start.world start.peers 0 j start.traffic (traffic c.pass_marked-slot.new.wire) (omega arith) (next.traffic start.world c.requires.in_slots.quiet) in
     record {
-      seated = c.requires.seated;
+      in_slots = c.requires.in_slots;
       full = c.requires.full;
       length = refl;
       capacity = refl;
       loud = next.loud;
-      ended = λ k lt. next.ended start.world c.requires.seated.quiet c.requires.full k (omega arith) lt;
+      ended = λ k lt. next.ended start.world c.requires.in_slots.quiet c.requires.full k (omega arith) lt;
       so_far = (
         passes.asked,
         passes.serves,
-        passed_on start.world start.peers start.peers 0 j [] (writes_due start) start.told (told c.pass_marked-slot.new.wire) (omega arith) passes refl refl,
+        passed_on start.world start.peers start.peers 0 j [] (writes_due start) start.traffic (traffic c.pass_marked-slot.new.wire) (omega arith) passes refl refl,
       );
     }
 
 pub loop-slot-preserved : goal.loop-slot-preserved
 loop-slot-preserved g c =
     let world = g.M.Machine.world in
-    let told = g.W.Wire.told in
+    let traffic = g.W.Wire.past in
     let inv = c.loop-slot.invariant in
     let i = c.loop-slot.slot in
     let j = c.pass_marked-slot-in-loop-slot.result in
-    let start = served (world c.args.machine.now) c.args.peers.now.slots (told c.args.wire.now) in
-    let here = served (world c.loop-slot.machine) c.loop-slot.peers.slots (told c.loop-slot.wire) in
-    let settled = served (world c.settle_slot-done.new.machine) c.settle_slot-done.new.peers.slots (told c.settle_slot-done.new.wire) in
-    let passed = served settled.world settled.peers (told c.pass_marked-slot-in-loop-slot.new.wire) in
+    let start = served (world c.args.machine.now) c.args.peers.now.slots (traffic c.args.wire.now) in
+    let here = served (world c.loop-slot.machine) c.loop-slot.peers.slots (traffic c.loop-slot.wire) in
+    let settled = served (world c.settle_slot-done.new.machine) c.settle_slot-done.new.peers.slots (traffic c.settle_slot-done.new.wire) in
+    let passed = served settled.world settled.peers (traffic c.pass_marked-slot-in-loop-slot.new.wire) in
     let one = c.settle_slot-done.ensures in
     let next = c.pass_marked-slot-in-loop-slot.ensures in
-    let passes = passes_writes {L = g.M.Machine.lacks} settled.world settled.peers (i + 1) j settled.told passed.told next.least (next.told settled.world one.quiet) in
+    let passes = passes_writes {L = g.M.Machine.lacks} settled.world settled.peers (i + 1) j settled.traffic passed.traffic next.least (next.traffic settled.world one.quiet) in
     let asked = inv.so_far.0 ++ write_of here.world (slice_index_or here.peers i None) in
     let before : (k : ℕ) → k < i + 1 → HasEnded settled.world settled.peers k = λ k lt. elim (cases_eq k i) [
       | inl e ↦ subst (λ (n : ℕ). HasEnded settled.world settled.peers n) (sym e) one.ended
@@ -52,7 +52,7 @@ loop-slot-preserved g c =
     let acted = c.loop-slot.done || c.settle_slot-done.result in
     let all = serves_then start settled passed asked passes.asked acted false (serves_then start here settled _ _ _ _ inv.so_far.1 one.serves) passes.serves in
     record {
-      seated = seated_on here settled _ _ _ _ one.serves inv.seated one.quiet;
+      in_slots = in_slots_on here settled _ _ _ _ one.serves inv.in_slots one.quiet;
       full = one.full;
       length = one.length ∙ inv.length;
       capacity = one.capacity ∙ inv.capacity;
@@ -64,7 +64,7 @@ loop-slot-preserved g c =
       so_far = (
         asked ++ passes.asked,
         subst (λ (x : Bool). Serves g.M.Machine.lacks start (asked ++ passes.asked) x passed) (or_false acted) all,
-        passed_on settled.world start.peers settled.peers (i + 1) j asked (writes_due start) settled.told passed.told next.least passes later due,
+        passed_on settled.world start.peers settled.peers (i + 1) j asked (writes_due start) settled.traffic passed.traffic next.least passes later due,
       );
     }
 
@@ -79,10 +79,10 @@ returns-clause-ended g c = λ i p at.
 pub returns-clause-serves : goal.returns-clause-serves
 returns-clause-serves g c =
     let world = g.M.Machine.world in
-    let told = g.W.Wire.told in
+    let traffic = g.W.Wire.past in
     let inv = c.loop-slot.invariant in
-    let start = served (world c.args.machine.now) c.args.peers.now.slots (told c.args.wire.now) in
-    let here = served (world c.loop-slot.machine) c.loop-slot.peers.slots (told c.loop-slot.wire) in
+    let start = served (world c.args.machine.now) c.args.peers.now.slots (traffic c.args.wire.now) in
+    let here = served (world c.loop-slot.machine) c.loop-slot.peers.slots (traffic c.loop-slot.wire) in
     let all : length start.peers ≤ c.capacity-end.result = c.capacity-end.ensures.slots in
     let test = c.loop-slot-test.false in
     let asked = all_passed here.world start.peers here.peers c.loop-slot.slot inv.so_far.0 (writes_due start) (omega (arith, all, test)) inv.so_far.2 in

@@ -12,7 +12,7 @@ loop-place-preserved-in_default t c =
 pub loop-place-preserved : goal.loop-place-preserved
 loop-place-preserved t c =
     added_more c.args.patterns.now c.args.links.now.nodes.now c.args.words.now c.args.from.node c.loop-place.place c.in-Some.next.node c.in-Some.next.counts.items c.args.steps.now c.index-steps-place.result
-    c.args.met.now.items c.loop-place.met.items c.walk.new.met.items c.loop-place-test.true c.index-steps-place.is c.requires.taken.apart
+    c.args.met.now.items c.loop-place.met.items c.walk.new.met.items c.loop-place-test.true c.index-steps-place.is c.requires.taken.distinct
     (found_step c.args.patterns.now c.args.links.now.nodes.now c.args.words.now c.args.from.node c.index-steps-place.result c.in_ok-next.field-0 c.in-Some.next c.in-Some.is c.in_ok-next.ensures.next)
     c.in_ok-walk.ensures c.loop-place.invariant
 

@@ -1,4 +1,4 @@
-use Rattle.broker.proofs.Names.{ℕ, refl, sym, subst, IfSome, CanDeliver, Rounds, HasConsumer, WithTurn, with_turn, Kept, Pick, IsPick, IsPickFrom, pick_from, LinesStay, IsToldInTurn}
+use Rattle.broker.proofs.Names.{ℕ, refl, sym, subst, IfSome, CanDeliver, Rounds, HasConsumer, WithTurn, with_turn, Kept, Pick, IsPick, IsPickFrom, pick_from, LinesStay, IsPickedInTurn}
 use Rattle.broker.specs.Turns as seen
 use Rattle.commands.specs.State.{broker_of, topology_kept}
 use Rattle.broker.proofs.Outcomes.{if_some}
@@ -27,7 +27,7 @@ invariant_of-self c =
     serves kept after
     (serves_kept kept before after c.pick-self-inside.ensures.kept (notes_keep kept before.lists after.lists c.pick-self-inside.ensures.noted) c.pick-self-inside.ensures.len (holds kept before c.self.invariant))
     (running_still (broker_of kept) (broker_of kept) before.lists after.lists (λ d none. none) c.pick-self-inside.ensures.no_list c.self.invariant.running)
-    (own_picked kept before after c.pick-self-inside.result c.pick-self-inside.ensures.told c.pick-self-inside.ensures.on c.self.invariant.own)
+    (own_picked kept before after c.pick-self-inside.result c.pick-self-inside.ensures.reported c.pick-self-inside.ensures.on c.self.invariant.own)
     (listed_same kept before.lists after.lists c.pick-self-inside.ensures.same c.self.invariant.listed)
 
 pub returns-clause-in_turn : goal.returns-clause-in_turn
@@ -35,8 +35,8 @@ returns-clause-in_turn c =
     let kept : Kept = c.self.inside.core in
     let before : Rounds = c.self.inside.rounds in
     let after : Rounds = c.pick-self-inside.new.self in
-    subst (λ (b : WithTurn). IfSome c.pick-self-inside.result (λ p. IsToldInTurn b p (with_turn kept after c.pick-self-inside.result))) c.self.view_is
-    (told_first kept before after c.self.inside.turn c.pick-self-inside.result (holds kept before c.self.invariant) c.pick-self-inside.ensures.told)
+    subst (λ (b : WithTurn). IfSome c.pick-self-inside.result (λ p. IsPickedInTurn b p (with_turn kept after c.pick-self-inside.result))) c.self.view_is
+    (told_first kept before after c.self.inside.turn c.pick-self-inside.result (holds kept before c.self.invariant) c.pick-self-inside.ensures.reported)
 
 pub returns-clause-stay : goal.returns-clause-stay
 returns-clause-stay c = λ none.

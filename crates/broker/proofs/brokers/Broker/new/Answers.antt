@@ -15,7 +15,7 @@ nothing_agreed : (b : Broker) → Is nothing b → IsAgreed b
 nothing_agreed b is = record {
   held = λ q e holder i m. absurd (subst (λ (es : List Entry). IsIn e es) (is.queues q) i);
   given = λ c h ch o e i. absurd (no_channel b is c h ch e);
-  apart = λ q holder. subst (λ (es : List Entry). count_by (is_held_as holder) es ≤ 1) (sym (is.queues q)) (omega arith);
+  distinct = λ q holder. subst (λ (es : List Entry). count_by (is_held_as holder) es ≤ 1) (sym (is.queues q)) (omega arith);
   rising = λ c h ch e. absurd (no_channel b is c h ch e);
   before = λ c h ch e. absurd (no_channel b is c h ch e);
   closed = λ c h ch e. absurd (no_channel b is c h ch e);

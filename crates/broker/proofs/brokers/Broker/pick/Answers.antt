@@ -1,4 +1,4 @@
-use Rattle.broker.proofs.Names.{◌∙◌, inl, refl, sym, ap, subst, IsPick, WithTurn, AllStand}
+use Rattle.broker.proofs.Names.{◌∙◌, inl, refl, sym, ap, subst, IsPick, WithTurn, AllInLine}
 use Rattle.broker.specs.Turns.{broker_of}
 use Rattle.broker.proofs.Joined.{holds}
 use Rattle.broker.proofs.Turning.{all_stand}
@@ -11,13 +11,13 @@ pub returns-in-None-clause-again : goal.returns-in-None-clause-again
 returns-in-None-clause-again c = λ p is pick.
     absurd (c.in-None.ensures.none refl p (ap (λ (b : WithTurn). b.turn) c.self.view_is ∙ is) (subst (λ (b : WithTurn). IsPick (broker_of b) p) (sym c.self.view_is) pick))
 
-pub returns-in-Some-clause-stand : goal.returns-in-Some-clause-stand
-returns-in-Some-clause-stand c =
-    subst AllStand c.self.view_is (all_stand c.self.inside.core c.self.inside.rounds c.self.inside.turn (holds c.self.inside.core c.self.inside.rounds c.self.invariant) c.self.invariant.own)
+pub returns-in-Some-clause-complete : goal.returns-in-Some-clause-complete
+returns-in-Some-clause-complete c =
+    subst AllInLine c.self.view_is (all_stand c.self.inside.core c.self.inside.rounds c.self.inside.turn (holds c.self.inside.core c.self.inside.rounds c.self.invariant) c.self.invariant.own)
 
-pub returns-in-None-clause-stand : goal.returns-in-None-clause-stand
-returns-in-None-clause-stand c =
-    subst AllStand c.self.view_is (all_stand c.self.inside.core c.self.inside.rounds c.self.inside.turn (holds c.self.inside.core c.self.inside.rounds c.self.invariant) c.self.invariant.own)
+pub returns-in-None-clause-complete : goal.returns-in-None-clause-complete
+returns-in-None-clause-complete c =
+    subst AllInLine c.self.view_is (all_stand c.self.inside.core c.self.inside.rounds c.self.inside.turn (holds c.self.inside.core c.self.inside.rounds c.self.invariant) c.self.invariant.own)
 
 -- the same is told again
 pub returns-in-Some-clause-in_turn : goal.returns-in-Some-clause-in_turn

@@ -1,4 +1,4 @@
-use Rattle.broker.proofs.Names.{◌∙◌, ◌<◌, ℕ, [], length, get_or, inl, inr, sym, ap, subst, arith, get_or-set_other, place_now, same_default, Waiters, round_at, order, IsMoved, ArePlacesApart}
+use Rattle.broker.proofs.Names.{◌∙◌, ◌<◌, ℕ, [], length, get_or, inl, inr, sym, ap, subst, arith, get_or-set_other, place_now, same_default, Waiters, round_at, order, IsMoved, IndicesDiffer}
 use Rattle.std.proofs.Common.{◌≡◌}
 use Rattle.broker.proofs.Moving.{one_moved}
 use Rattle.broker.proofs.rounds.queue_rounds.move_rounds.Goals as goal
@@ -25,7 +25,7 @@ loop-from-preserved c =
     record {
       behind = λ i le. get_or-set_other old from i c.move_round.new.round none (λ same. omega (arith, same, le)) ∙ c.loop-from.invariant.behind i (omega (arith, le));
       moved = λ i le there.
-          one_moved places olds mid new from lt (subst (ArePlacesApart places) (sym len) c.requires.apart) (λ j less at. c.loop-from.invariant.moved j less (omega (arith, at, len))) here
+          one_moved places olds mid new from lt (subst (IndicesDiffer places) (sym len) c.requires.distinct) (λ j less at. c.loop-from.invariant.moved j less (omega (arith, at, len))) here
           (λ j far. c.move_round.ensures.others j (λ same. far (same ∙ now))) i le (omega (arith, there, len));
       came = λ i. elim (c.move_round.ensures.came i) [
         | inl same ↦ elim (c.loop-from.invariant.came i) [

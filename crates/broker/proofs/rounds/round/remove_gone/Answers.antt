@@ -21,8 +21,8 @@ returns-then-len-count-clause-kept c =
     swept c.args.core.now c.args.queue (remains c.args.core.now c.args.queue c.args.connection) (round_of c.args.waiters.now.items c.args.awake.now) (round_of c.sweep.new.waiters.items c.mark_between.new.marks)
     (of_remains c.args.core.now c.args.queue c.args.connection) c.sweep.ensures.waiters (λ i lt. c.mark_between.ensures.marked i (omega arith) (let is = c.len-then-len-count.ensures in omega (arith, is, lt)))
 
-pub returns-then-len-count-clause-apart : goal.returns-then-len-count-clause-apart
-returns-then-len-count-clause-apart c = apart_swept (remains c.args.core.now c.args.queue c.args.connection) c.args.waiters.now.items c.sweep.new.waiters.items c.sweep.ensures.waiters
+pub returns-then-len-count-clause-distinct : goal.returns-then-len-count-clause-distinct
+returns-then-len-count-clause-distinct c = apart_swept (remains c.args.core.now c.args.queue c.args.connection) c.args.waiters.now.items c.sweep.new.waiters.items c.sweep.ensures.waiters
 
 pub returns-then-len-count-clause-line : goal.returns-then-len-count-clause-line
 returns-then-len-count-clause-line c =
@@ -54,8 +54,8 @@ returns-else-len-count-clause-kept c =
     subst (λ (xs : List Waiter). KeepsRound c.args.core.now c.args.queue (round_of c.args.waiters.now.items c.args.awake.now) (round_of xs c.args.awake.now)) (sym (c.sweep.ensures.waiters ∙ filter_full test c.args.waiters.now.items full))
     (λ lists p i has. i)
 
-pub returns-else-len-count-clause-apart : goal.returns-else-len-count-clause-apart
-returns-else-len-count-clause-apart c = apart_swept (remains c.args.core.now c.args.queue c.args.connection) c.args.waiters.now.items c.sweep.new.waiters.items c.sweep.ensures.waiters
+pub returns-else-len-count-clause-distinct : goal.returns-else-len-count-clause-distinct
+returns-else-len-count-clause-distinct c = apart_swept (remains c.args.core.now c.args.queue c.args.connection) c.args.waiters.now.items c.sweep.new.waiters.items c.sweep.ensures.waiters
 
 pub returns-else-len-count-clause-line : goal.returns-else-len-count-clause-line
 returns-else-len-count-clause-line c =

@@ -4,7 +4,7 @@ use Rattle.broker.proofs.rounds.sleepers.mark_in.Goals as goal
 
 -- the list is as it was
 pub returns-in-Some-clause-same : goal.returns-in-Some-clause-same
-returns-in-Some-clause-same c = ap (λ (l : Listing). set c.args.listed.now c.in-Some.at l) c.stand.ensures ∙ set-get_or c.args.listed.now c.in-Some.at _
+returns-in-Some-clause-same c = ap (λ (l : Listing). set c.args.listed.now c.in-Some.at l) c.move_to.ensures ∙ set-get_or c.args.listed.now c.in-Some.at _
 
 pub returns-in-Some-clause-marked : goal.returns-in-Some-clause-marked
 returns-in-Some-clause-marked c =

@@ -6,8 +6,8 @@ pub ack-requires-clause-within : goal.ack-requires-clause-within
 ack-requires-clause-within c =
     all_within c.args.id.connection c.args.id.number c.args.ack.now.delivery_tag c.args.ack.now.multiple c.in_ok-span.span c.args.depot.now c.args.channel.now (waiting c.at.result.now) c.requires c.in_ok-span.ensures.span c.at.ensures
 
-pub ack-requires-clause-apart : goal.ack-requires-clause-apart
-ack-requires-clause-apart c = c.requires.agreed.apart
+pub ack-requires-clause-distinct : goal.ack-requires-clause-distinct
+ack-requires-clause-distinct c = c.requires.agreed.distinct
 
 pub returns-clause-commands : goal.returns-clause-commands
 returns-clause-commands c = λ content old new turns. (

@@ -10,8 +10,8 @@ pub reject-requires-clause-ordered : goal.reject-requires-clause-ordered
 reject-requires-clause-ordered c =
     all_rise c.args.id.connection c.args.id.number c.args.nack.now.delivery_tag c.args.nack.now.multiple c.in_ok-span.span c.args.depot.now c.args.channel.now (waiting c.at.result.now) c.requires c.in_ok-span.ensures.span c.at.ensures
 
-pub reject-requires-clause-apart : goal.reject-requires-clause-apart
-reject-requires-clause-apart c = c.requires.agreed.apart
+pub reject-requires-clause-distinct : goal.reject-requires-clause-distinct
+reject-requires-clause-distinct c = c.requires.agreed.distinct
 
 pub returns-clause-commands : goal.returns-clause-commands
 returns-clause-commands c = λ content old new turns. (

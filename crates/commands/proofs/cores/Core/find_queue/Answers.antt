@@ -12,4 +12,4 @@ returns-clause-ok c =
     subst (λ (k : Kept). IfOk c.answer_queue_declare.result (λ s. Finds (broker_of k) c.args.connection c.args.channel asked s.sends.items s.notes.items (broker_of k))) c.self.view_is
     (both_ok c.answer_queue_declare.result _ _ _ c.answer_queue_declare.ensures.sends c.answer_queue_declare.ensures.notes
     (λ s sent noted. found_is kept c.args.connection c.args.channel place c.ready_at-ready.result c.count_consumers-consumers.result asked s.sends.items s.notes.items
-    c.self.invariant c.ghost_is_whole.ensures.formed.queues_apart at.within at.named c.ghost_is_named.ensures c.ready_at-ready.ensures c.count_consumers-consumers.ensures sent noted))
+    c.self.invariant c.ghost_is_whole.ensures.formed.queues_distinct at.within at.named c.ghost_is_named.ensures c.ready_at-ready.ensures c.count_consumers-consumers.ensures sent noted))

@@ -6,4 +6,4 @@ pub returns : goal.returns
 returns c =
     let kept : Kept = record { store = c.self.inside.depot; connections = c.self.inside.connections } in
     subst (λ (k : Kept). IsNextPicked k c.args.from c.next_ready.result) c.self.view_is
-    (next_is kept c.args.from c.next_ready.result (λ place lt. c.ghost_indices_are_named.ensures kept.store place c.ghost_is_whole.ensures lt) c.next_ready.ensures.told)
+    (next_is kept c.args.from c.next_ready.result (λ place lt. c.ghost_indices_are_named.ensures kept.store place c.ghost_is_whole.ensures lt) c.next_ready.ensures.reported)

@@ -2,12 +2,12 @@ use Rattle.commands.proofs.Names.{◌∙◌, ap, subst, queue_at, is_consumed, S
 use Rattle.commands.proofs.LiveQueues.{standing, judged, wanted}
 use Rattle.commands.proofs.cores.Core.obstacle.Goals as goal
 
-pub returns-clause-told : goal.returns-clause-told
-returns-clause-told c =
+pub returns-clause-reported : goal.returns-clause-reported
+returns-clause-reported c =
     let kept : Kept = record { store = c.self.inside.depot; connections = c.self.inside.connections } in
     judged c.obstacle.result c.args.self.now c.topology.result.now c.args.topology.now c.args.guarantees.now (c.topology.ensures ∙ ap topology_kept c.self.view_is)
     (subst (λ (k : Kept). ShowsQueues (topology_kept k) (λ place. queue_at k.store place) (λ place. is_consumed k.connections place) (broker_of k)) c.self.view_is
-    (standing c.ghost_indices_are_named.ensures kept c.ghost_is_whole.ensures c.self.invariant c.ghost_takers_are_found.ensures)) c.obstacle.ensures.told
+    (standing c.ghost_indices_are_named.ensures kept c.ghost_is_whole.ensures c.self.invariant c.ghost_takers_are_found.ensures)) c.obstacle.ensures.reported
 
 pub returns-clause-wants : goal.returns-clause-wants
 returns-clause-wants c =

@@ -4,10 +4,10 @@ use Rattle.commands.proofs.Exchanges.{refused_by}
 use Rattle.commands.proofs.refusals.publishes.check_access.Goals as goal
 
 pub returns-in-Open : goal.returns-in-Open
-returns-in-Open c = λ t exchange told. refused_by t exchange c.args.access Open told (cc)
+returns-in-Open c = λ t exchange reported. refused_by t exchange c.args.access Open reported (cc)
 
 pub returns-in-Internal : goal.returns-in-Internal
-returns-in-Internal c = λ t exchange told. refused_by t exchange c.args.access Internal told (cc)
+returns-in-Internal c = λ t exchange reported. refused_by t exchange c.args.access Internal reported (cc)
 
 pub returns-in-Absent : goal.returns-in-Absent
-returns-in-Absent c = λ t exchange told. refused_by t exchange c.args.access Absent told (cc)
+returns-in-Absent c = λ t exchange reported. refused_by t exchange c.args.access Absent reported (cc)

@@ -28,11 +28,11 @@ returns-clause-ok c =
     let e = c.purge_in.ensures in
     subst (λ (s : Store). IfOk c.purge_in.result (λ count. IsPurgedBy s (queue_name s.topology place) before after count now)) c.self.view_is
     (if_ok c.purge_in.result
-    (λ count told noted entries.
-    purged_by was now place before after count whole lt refl refl (told ∙ ap ready_in lent)
+    (λ count reported noted entries.
+    purged_by was now place before after count whole lt refl refl (reported ∙ ap ready_in lent)
     (noted ∙ ap (λ (q : Text). before ++ purge_notes q (filter is_ready c.queue_mut.result.now.entries)) name ∙ ap (λ (es : List Entry). before ++ purge_notes (queue_name t place) (filter is_ready es)) lent)
     (changed_write stays lines place w no_line within (entries ∙ ap (λ (l : Line). stays l.entries) c.queue_mut.ensures.value)))
-    e.told e.noted e.entries)
+    e.reported e.noted e.entries)
 
 pub returns-clause-store : goal.returns-clause-store
 returns-clause-store c = on_err c.purge_in.result (λ same. same_store c.self.inside.router c.self.inside.queues c.self.inside.published c.args.place _ c.queue_mut.result.now c.purge_in.new.queue c.self.view_is c.queue_mut.ensures.value same) c.purge_in.ensures.queue

@@ -1,8 +1,8 @@
 use Rattle.depot.proofs.Absent.{absent, told_absent, taken_absent, noted_absent}
 use Rattle.depot.proofs.depots.Depot.take.Goals as goal
 
-pub returns-in_default-clause-told : goal.returns-in_default-clause-told
-returns-in_default-clause-told c =
+pub returns-in_default-clause-reported : goal.returns-in_default-clause-reported
+returns-in_default-clause-reported c =
     told_absent c.args.self.now c.args.name.now c.args.how
     (absent c.args.self.now c.topology.result.now c.args.name.now c.topology.ensures c.in_default.ensures.absent)
 

@@ -1,4 +1,4 @@
-use Rattle.depot.proofs.Names.{◌∙◌, ◌++◌, List, ap, sym, subst, is_ready, Entry, CanGive, TellsArrival, given_notes, given_so}
+use Rattle.depot.proofs.Names.{◌∙◌, ◌++◌, List, ap, sym, subst, is_ready, Entry, CanGive, ReturnsArrival, given_notes, given_so}
 use Rattle.std.proofs.Common.{find}
 use Rattle.depot.proofs.Lending.{lent_queue, store_changed}
 use Rattle.depot.proofs.depots.Depot.take_at.Goals as goal
@@ -8,10 +8,10 @@ give-arrival-requires-clause-free c =
     let is = lent_queue c.self.inside.router c.self.inside.queues c.self.inside.published c.args.index _ c.queue_mut-queue.result.now c.self.view_is c.self.invariant c.requires.within c.queue_mut-queue.ensures.value in
     subst (CanGive c.args.how) (sym is) c.requires.free
 
-pub returns-clause-told : goal.returns-clause-told
-returns-clause-told c =
+pub returns-clause-reported : goal.returns-clause-reported
+returns-clause-reported c =
     let is = lent_queue c.self.inside.router c.self.inside.queues c.self.inside.published c.args.index _ c.queue_mut-queue.result.now c.self.view_is c.self.invariant c.requires.within c.queue_mut-queue.ensures.value in
-    subst (λ (es : List Entry). TellsArrival c.args.how (find is_ready es) c.give-arrival.result) is c.give-arrival.ensures.told
+    subst (λ (es : List Entry). ReturnsArrival c.args.how (find is_ready es) c.give-arrival.result) is c.give-arrival.ensures.reported
 
 pub returns-clause-notes : goal.returns-clause-notes
 returns-clause-notes c =

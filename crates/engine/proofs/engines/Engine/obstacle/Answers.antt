@@ -1,13 +1,13 @@
-use Rattle.engine.proofs.Names.{◌∙◌, subst, IfOk, OnErr, To_reload, TellsWhatStands, engine_lacks, Parts, world_of}
+use Rattle.engine.proofs.Names.{◌∙◌, subst, IfOk, OnErr, To_reload, JudgesOffered, engine_lacks, Parts, world_of}
 use Rattle.engine.proofs.Offered.{may_want, what_stands}
 use Rattle.engine.proofs.engines.Engine.obstacle.Goals as goal
 
-pub returns-clause-told : goal.returns-clause-told
-returns-clause-told c =
+pub returns-clause-reported : goal.returns-clause-reported
+returns-clause-reported c =
     let i = c.self.inside in
     let all : Parts = record { broker = i.broker; guarantees = i.guarantees.items; users = i.users.items; given = i.given; connections = i.connections.items } in
-    subst (λ (p : Parts). IfOk c.obstacle.result (TellsWhatStands (world_of p) c.args.setup.now)) c.self.view_is
-    (what_stands all c.topology.result.now c.guarantees.result.now c.args.setup.now c.obstacle.result (c.topology.ensures ∙ c.checked-checked.ensures.topology) (c.guarantees.ensures ∙ c.checked-checked.ensures.guarantees) c.obstacle.ensures.told)
+    subst (λ (p : Parts). IfOk c.obstacle.result (JudgesOffered (world_of p) c.args.setup.now)) c.self.view_is
+    (what_stands all c.topology.result.now c.guarantees.result.now c.args.setup.now c.obstacle.result (c.topology.ensures ∙ c.checked-checked.ensures.topology) (c.guarantees.ensures ∙ c.checked-checked.ensures.guarantees) c.obstacle.ensures.reported)
 
 pub returns-clause-wants : goal.returns-clause-wants
 returns-clause-wants c =

@@ -1,4 +1,4 @@
-use Rattle.engine.proofs.Names.{ℕ, List, set, refl, sym, subst, CanDeliver, AreNamed, Same, Note, Kept, IsPick, WithTurn, Idles, Parts, world_of, HasConnection, IsPump, ServesOne, TellsOne, TellsNobody, Connection}
+use Rattle.engine.proofs.Names.{ℕ, List, set, refl, sym, subst, CanDeliver, AreNamed, Same, Note, Kept, IsPick, WithTurn, Idles, Parts, world_of, HasConnection, IsPump, ServesOne, PicksOne, PicksNobody, Connection}
 use Rattle.std.proofs.Common.{Ok, Err}
 use Rattle.commands.specs.State.{topology_kept, broker_of}
 use Rattle.engine.proofs.Asked.{on_err}
@@ -48,10 +48,10 @@ returns-in_err-notes-clause-wanted c =
     let i = c.self.inside in
     on_err c.from_residual.result _ (subst (λ (p : Parts). (d : ℕ) × CanDeliver (world_of p).state.broker d) c.self.view_is (c.in-Some.pick.connection, c.in-Some.ensures.some.0))
 
-pub returns-in_err-notes-clause-told : goal.returns-in_err-notes-clause-told
-returns-in_err-notes-clause-told c =
-    on_err c.from_residual.result _ (subst (λ (p : Parts). TellsOne p.broker c.pump_connection.new.broker) c.self.view_is
-    (subst (λ (b : WithTurn). TellsOne c.self.inside.broker b) (sym c.in_err-notes.ensures.broker_kept)
+pub returns-in_err-notes-clause-reported : goal.returns-in_err-notes-clause-reported
+returns-in_err-notes-clause-reported c =
+    on_err c.from_residual.result _ (subst (λ (p : Parts). PicksOne p.broker c.pump_connection.new.broker) c.self.view_is
+    (subst (λ (b : WithTurn). PicksOne c.self.inside.broker b) (sym c.in_err-notes.ensures.broker_kept)
     (tells_one c.self.inside.broker c.pick.new.self c.in-Some.pick c.in-Some.ensures.kept c.in-Some.ensures.in_turn c.in-Some.ensures.turn c.in-Some.ensures.again)))
 
 pub returns-clause-ok : goal.returns-clause-ok
@@ -91,4 +91,4 @@ returns-in_default-clause-ok c =
 
 pub returns-in_default-clause-in_turn : goal.returns-in_default-clause-in_turn
 returns-in_default-clause-in_turn c =
-    subst (λ (p : Parts). TellsNobody p.broker c.pick.new.self) c.self.view_is (record { turn = c.in_default.ensures.turn; kept = c.in_default.ensures.kept; lines = c.in_default.ensures.stay refl })
+    subst (λ (p : Parts). PicksNobody p.broker c.pick.new.self) c.self.view_is (record { turn = c.in_default.ensures.turn; kept = c.in_default.ensures.kept; lines = c.in_default.ensures.stay refl })

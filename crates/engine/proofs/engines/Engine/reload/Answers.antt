@@ -1,4 +1,4 @@
-use Rattle.engine.proofs.Names.{◌∙◌, ap, subst, err_from_is_err_and, Topology, MayWant, LinesMove, IsPutInForce, TellsReload, IsMemory, in_force, Parts, world_of}
+use Rattle.engine.proofs.Names.{◌∙◌, ap, subst, err_from_is_err_and, Topology, MayWant, LinesMove, IsPutInForce, ReportsReload, IsMemory, in_force, Parts, world_of}
 use Rattle.std.specs.Prelude.{Ok, Err}
 use Rattle.broker.specs.Turns.{topology_kept, broker_of}
 use Rattle.engine.proofs.Putting.{takes, offered_sound, put_world, put_engine, refused_is, refused_engine, refused_told, tells_offered}
@@ -10,13 +10,13 @@ invariant_of-self c =
     let old : Parts = record { broker = i.broker; guarantees = i.guarantees.items; users = i.users.items; given = i.given; connections = i.connections.items } in
     refused_engine old c.put.new.broker _ c.in_err-put.field-0.0 c.self.invariant (c.in_err-put.ensures.put c.args.users.items)
 
-pub returns-in_err-put-clause-told : goal.returns-in_err-put-clause-told
-returns-in_err-put-clause-told c =
+pub returns-in_err-put-clause-reported : goal.returns-in_err-put-clause-reported
+returns-in_err-put-clause-reported c =
     let i = c.self.inside in
     let old : Parts = record { broker = i.broker; guarantees = i.guarantees.items; users = i.users.items; given = i.given; connections = i.connections.items } in
     let parts = c.into_parts-topology in
     let p = err_from_is_err_and c.from_residual.result c.from_residual.ensures.1 in
-    subst (λ (z : Parts). TellsReload (world_of z) (in_force c.args.checked c.args.users.items) c.from_residual.result (world_of (record old { broker = c.put.new.broker }))) c.self.view_is
+    subst (λ (z : Parts). ReportsReload (world_of z) (in_force c.args.checked c.args.users.items) c.from_residual.result (world_of (record old { broker = c.put.new.broker }))) c.self.view_is
     (refused_told old c.put.new.broker (in_force c.args.checked c.args.users.items) c.from_residual.result p.0 c.in_err-put.field-0.0 p.1 p.2
     (tells_offered i.broker c.put.new.broker c.args.checked c.args.users.items parts.result.0 c.as_slice.result.now parts.result.1.items (Err c.in_err-put.field-0.0) parts.ensures.topology c.as_slice.ensures.value parts.ensures.guarantees
     (c.in_err-put.ensures.put c.args.users.items)))
@@ -47,8 +47,8 @@ invariant_of-self-2 c =
     put_engine old _ _ c.self.invariant (offered_sound c.args.checked c.args.users.items parts.result.0 parts.result.1.items parts.ensures.topology parts.ensures.guarantees parts.ensures.hold parts.ensures.well_formed)
     (takes old c.put.new.broker c.args.checked c.args.users.items parts.result.1.items parts.ensures.guarantees tells)
 
-pub returns-clause-told : goal.returns-clause-told
-returns-clause-told c =
+pub returns-clause-reported : goal.returns-clause-reported
+returns-clause-reported c =
     let i = c.self.inside in
     let old : Parts = record { broker = i.broker; guarantees = i.guarantees.items; users = i.users.items; given = i.given; connections = i.connections.items } in
     let parts = c.into_parts-topology in

@@ -1,9 +1,9 @@
-use Rattle.paths.proofs.Names.{List, subst, sym, Decides, IsIn, Visit, IsStandThere, SomeLeads}
+use Rattle.paths.proofs.Names.{List, subst, sym, Decides, IsIn, Visit, IsLocationThere, SomeLeads}
 use Rattle.paths.proofs.Leads.{some_tells}
 use Rattle.paths.proofs.leading.Leading.leads.Goals as goal
 
 pub some_leads-requires-clause-there : goal.some_leads-requires-clause-there
-some_leads-requires-clause-there c = subst (λ (xs : List Visit). (v : Visit) → IsIn v xs → IsStandThere c.args.topology.now v.stand) (sym c.visits.ensures) c.requires.explored.explored.there
+some_leads-requires-clause-there c = subst (λ (xs : List Visit). (v : Visit) → IsIn v xs → IsLocationThere c.args.topology.now v.location) (sym c.visits.ensures) c.requires.explored.explored.there
 
 pub returns : goal.returns
 returns c x key e =

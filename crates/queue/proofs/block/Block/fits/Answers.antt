@@ -12,7 +12,7 @@ overflow_sub-result c =
     omega (arith, a, n, l, k, capacity)
 
 pub returns-clause-yes : goal.returns-clause-yes
-returns-clause-yes c told =
+returns-clause-yes c reported =
     let a = live_most _ _ _ c.self.invariant.0 in
     let n = contents-length c.self.inside.slots.items in
     let l : vec_len c.self.inside.slots ≡ length c.self.inside.slots.items = search rules in
@@ -22,5 +22,5 @@ returns-clause-yes c told =
     let seen = ap (λ (b : Stretch). length b.entries) c.self.view_is in
     let slots = ap (λ (b : Stretch). b.slots) c.self.view_is in
     let capacity = c.capacity.ensures in
-    let le = leb-true _ _ told in
+    let le = leb-true _ _ reported in
     omega (arith, a, n, l, k, live, other, seen, slots, capacity, le)

@@ -10,16 +10,16 @@ invariant_of-self c = (
   same_bits _ _ _ _ c.self.invariant.1 c.hold_at.ensures.capacity c.clear.ensures.places,
 )
 
-pub returns-in-None-clause-told : goal.returns-in-None-clause-told
-returns-in-None-clause-told c = subst (λ (l : Stretch). false ≡ is_some (find is_ready l.entries)) c.self.view_is
+pub returns-in-None-clause-reported : goal.returns-in-None-clause-reported
+returns-in-None-clause-reported c = subst (λ (l : Stretch). false ≡ is_some (find is_ready l.entries)) c.self.view_is
     (ap is_some (sym (none_found is_ready _ (none_by_marks is_ready _ _ c.self.invariant.0.signed c.in-None.ensures.none))))
 
 pub returns-in-None-clause-entries : goal.returns-in-None-clause-entries
 returns-in-None-clause-entries c = subst (λ (l : Stretch). l.entries ≡ change_first is_ready (held_as c.args.holder) l.entries) c.self.view_is
     (sym (none_changed is_ready _ _ (none_by_marks is_ready _ _ c.self.invariant.0.signed c.in-None.ensures.none)))
 
-pub returns-in-Some-clause-told : goal.returns-in-Some-clause-told
-returns-in-Some-clause-told c = subst (λ (l : Stretch). true ≡ is_some (find is_ready l.entries)) c.self.view_is
+pub returns-in-Some-clause-reported : goal.returns-in-Some-clause-reported
+returns-in-Some-clause-reported c = subst (λ (l : Stretch). true ≡ is_some (find is_ready l.entries)) c.self.view_is
     (sym (some_at is_ready _ _ (first_by_marks is_ready _ _ _ c.self.invariant.0.signed c.in-Some.ensures.some)))
 
 pub returns-in-Some-clause-entries : goal.returns-in-Some-clause-entries

@@ -12,8 +12,8 @@ invariant_of-self c =
       same_bits _ _ _ _ c.self.invariant.1 c.free_at.ensures.capacity c.set_ready.ensures.places,
     )
 
-pub returns-in-None-clause-told : goal.returns-in-None-clause-told
-returns-in-None-clause-told c =
+pub returns-in-None-clause-reported : goal.returns-in-None-clause-reported
+returns-in-None-clause-reported c =
     let n : NonePasses (is_held_as c.args.holder.now) (contents c.deref.result.now) = record { no = c.in-None.ensures.none } in
     subst (λ (l : Stretch). false ≡ is_some (find (is_held_as c.args.holder.now) l.entries)) c.self.view_is
     (ap is_some (sym (none_found _ _ (subst (λ (ss : List Slot). NonePasses (is_held_as c.args.holder.now) (contents ss)) c.deref.ensures.value n))))
@@ -24,8 +24,8 @@ returns-in-None-clause-entries c =
     subst (λ (l : Stretch). l.entries ≡ requeued (is_under c.args.holder.now) l.entries) c.self.view_is
     (sym (none_mapped _ _ (freed_same (is_under c.args.holder.now)) _ (subst (λ (ss : List Slot). NonePasses (is_held_as c.args.holder.now) (contents ss)) c.deref.ensures.value n)))
 
-pub returns-in-Some-clause-told : goal.returns-in-Some-clause-told
-returns-in-Some-clause-told c =
+pub returns-in-Some-clause-reported : goal.returns-in-Some-clause-reported
+returns-in-Some-clause-reported c =
     let t = subst (λ (ss : List Slot). slot_has (is_held_as c.args.holder.now) (get_or (contents ss) c.in-Some.place None) ≡ true) c.deref.ensures.value c.in-Some.ensures.some in
     subst (λ (l : Stretch). true ≡ is_some (find (is_held_as c.args.holder.now) l.entries)) c.self.view_is
     (sym (some_at _ _ _ (only_first _ _ _ (only_held _ _ _ _ c.args.holder.now c.self.invariant.0 t))))

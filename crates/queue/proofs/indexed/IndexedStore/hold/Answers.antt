@@ -17,8 +17,8 @@ overflow_sub-self-in-Some c =
     let there = (ready_there (parts c.self.inside.blocks.items) c.self.inside.ready_count c.self.inside.live c.self.inside.ready_bytes c.in-Some.place c.self.invariant.2 (first_signed (parts c.self.inside.blocks.items) c.self.inside.signs c.in-Some.place c.self.invariant.0 c.in-Some.ensures.some)).1.1 in
     omega (arith, size, there)
 
-pub hold_at-arrival-requires-clause-apart : goal.hold_at-arrival-requires-clause-apart
-hold_at-arrival-requires-clause-apart c = free_there (parts c.self.inside.blocks.items) c.in-Some.place c.args.holder (subst (λ (l : Line). find (is_held_as c.args.holder) l.entries ≡ None) (sym c.self.view_is) c.requires)
+pub hold_at-arrival-requires-clause-distinct : goal.hold_at-arrival-requires-clause-distinct
+hold_at-arrival-requires-clause-distinct c = free_there (parts c.self.inside.blocks.items) c.in-Some.place c.args.holder (subst (λ (l : Line). find (is_held_as c.args.holder) l.entries ≡ None) (sym c.self.view_is) c.requires)
 
 pub sign-requires : goal.sign-requires
 sign-requires c =
@@ -47,17 +47,17 @@ invariant_of-self c =
       spare_same c.self.inside.spares.items (vec_len c.self.inside.spares) (vec_len c.self.inside.blocks) (vec_len c.hold_at-arrival.new.blocks) c.self.inside.signs.places c.sign.new.signs.places (let n = c.hold_at-arrival.ensures.len in omega (arith, n)) c.sign.ensures.places c.self.invariant.5,
     )
 
-pub returns-in-None-clause-told : goal.returns-in-None-clause-told
-returns-in-None-clause-told c = subst (λ (l : Line). false ≡ is_some (find is_ready l.entries)) c.self.view_is
+pub returns-in-None-clause-reported : goal.returns-in-None-clause-reported
+returns-in-None-clause-reported c = subst (λ (l : Line). false ≡ is_some (find is_ready l.entries)) c.self.view_is
     (ap is_some (sym (joined_none is_ready (parts c.self.inside.blocks.items) (none_signed (parts c.self.inside.blocks.items) c.self.inside.signs c.self.invariant.0 c.in-None.ensures.none))))
 
 pub returns-in-None-clause-entries : goal.returns-in-None-clause-entries
 returns-in-None-clause-entries c = subst (λ (l : Line). l.entries ≡ change_first is_ready (held_as c.args.holder) l.entries) c.self.view_is
     (sym (none_changed_in is_ready (held_as c.args.holder) (joined (parts c.self.inside.blocks.items)) (joined_none is_ready (parts c.self.inside.blocks.items) (none_signed (parts c.self.inside.blocks.items) c.self.inside.signs c.self.invariant.0 c.in-None.ensures.none))))
 
-pub returns-in-Some-clause-told : goal.returns-in-Some-clause-told
-returns-in-Some-clause-told c = subst (λ (l : Line). is_some c.hold_at-arrival.result ≡ is_some (find is_ready l.entries)) c.self.view_is
-    (c.hold_at-arrival.ensures.told ∙ sym (ap is_some (joined_found is_ready (parts c.self.inside.blocks.items) c.in-Some.place (first_signed (parts c.self.inside.blocks.items) c.self.inside.signs c.in-Some.place c.self.invariant.0 c.in-Some.ensures.some))))
+pub returns-in-Some-clause-reported : goal.returns-in-Some-clause-reported
+returns-in-Some-clause-reported c = subst (λ (l : Line). is_some c.hold_at-arrival.result ≡ is_some (find is_ready l.entries)) c.self.view_is
+    (c.hold_at-arrival.ensures.reported ∙ sym (ap is_some (joined_found is_ready (parts c.self.inside.blocks.items) c.in-Some.place (first_signed (parts c.self.inside.blocks.items) c.self.inside.signs c.in-Some.place c.self.invariant.0 c.in-Some.ensures.some))))
 
 pub returns-in-Some-clause-entries : goal.returns-in-Some-clause-entries
 returns-in-Some-clause-entries c = subst (λ (l : Line). joined (parts c.hold_at-arrival.new.blocks.items) ≡ change_first is_ready (held_as c.args.holder) l.entries) c.self.view_is

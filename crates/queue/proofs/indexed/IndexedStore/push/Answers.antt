@@ -31,8 +31,8 @@ open_spare-requires-clause-room c =
     let t = c.self.invariant.3.there in
     omega (arith, r, t)
 
-pub open_spare-requires-clause-apart : goal.open_spare-requires-clause-apart
-open_spare-requires-clause-apart c = c.self.invariant.2.apart
+pub open_spare-requires-clause-distinct : goal.open_spare-requires-clause-distinct
+open_spare-requires-clause-distinct c = c.self.invariant.2.distinct
 
 pub set_ready-requires : goal.set_ready-requires
 set_ready-requires c = let p = c.push_last-place.ensures.place in let u = c.open_spare.ensures.places.used in omega (arith, p, u)

@@ -57,8 +57,8 @@ invariant_of-self c =
       spare_same c.self.inside.spares.items (vec_len c.self.inside.spares) (vec_len c.self.inside.blocks) (vec_len c.free_at.new.blocks) c.self.inside.signs.places c.sign.new.signs.places (let n = c.free_at.ensures.len in omega (arith, n)) c.sign.ensures.places c.self.invariant.5,
     )
 
-pub returns-in-None-clause-told : goal.returns-in-None-clause-told
-returns-in-None-clause-told c =
+pub returns-in-None-clause-reported : goal.returns-in-None-clause-reported
+returns-in-None-clause-reported c =
     let n : NoneIn (is_held_as c.args.holder.now) (parts c.deref.result.now) = record { no = c.in-None.ensures.none } in
     subst (λ (l : Line). false ≡ is_some (find (is_held_as c.args.holder.now) l.entries)) c.self.view_is
     (ap is_some (sym (nothing_found (is_held_as c.args.holder.now) (parts c.self.inside.blocks.items) (subst (λ (bs : List Stretch). NoneIn (is_held_as c.args.holder.now) (parts bs)) c.deref.ensures.value n))))
@@ -69,8 +69,8 @@ returns-in-None-clause-entries c =
     subst (λ (l : Line). l.entries ≡ requeued (is_under c.args.holder.now) l.entries) c.self.view_is
     (sym (nothing_freed (parts c.self.inside.blocks.items) c.args.holder.now (subst (λ (bs : List Stretch). NoneIn (is_held_as c.args.holder.now) (parts bs)) c.deref.ensures.value n)))
 
-pub returns-in-Some-clause-told : goal.returns-in-Some-clause-told
-returns-in-Some-clause-told c =
+pub returns-in-Some-clause-reported : goal.returns-in-Some-clause-reported
+returns-in-Some-clause-reported c =
     let t = subst (λ (bs : List Stretch). some_pass (is_held_as c.args.holder.now) (get_or (parts bs) c.in-Some.field-0.block []) ≡ true) c.deref.ensures.value c.in-Some.ensures.some in
     subst (λ (l : Line). true ≡ is_some (find (is_held_as c.args.holder.now) l.entries)) c.self.view_is
     (sym (ap is_some (joined_found (is_held_as c.args.holder.now) (parts c.self.inside.blocks.items) c.in-Some.field-0.block (held_first (parts c.self.inside.blocks.items) c.self.inside.ready_count c.self.inside.live c.self.inside.ready_bytes c.in-Some.field-0.block c.args.holder.now c.self.invariant.2 t)) ∙ t))

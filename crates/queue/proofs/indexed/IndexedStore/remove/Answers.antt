@@ -23,12 +23,12 @@ sign-requires c =
     omega (arith, lt)
 
 pub remove_at-entry-requires-clause-once : goal.remove_at-entry-requires-clause-once
-remove_at-entry-requires-clause-once c = part_once (is_held_as c.args.holder.now) (parts c.self.inside.blocks.items) c.in-Some.field-0.block (c.self.invariant.2.apart c.args.holder.now)
+remove_at-entry-requires-clause-once c = part_once (is_held_as c.args.holder.now) (parts c.self.inside.blocks.items) c.in-Some.field-0.block (c.self.invariant.2.distinct c.args.holder.now)
 
-pub settle-requires-clause-apart : goal.settle-requires-clause-apart
-settle-requires-clause-apart c =
+pub settle-requires-clause-distinct : goal.settle-requires-clause-distinct
+settle-requires-clause-distinct c =
     let t = subst (λ (bs : List Stretch). some_pass (is_held_as c.args.holder.now) (get_or (parts bs) c.in-Some.field-0.block []) ≡ true) c.deref.ensures.value c.in-Some.ensures.some in
-    (remove_now (parts c.self.inside.blocks.items) (parts c.remove_at-entry.new.blocks.items) _ _ _ c.in-Some.field-0.block c.args.holder.now c.self.invariant.2 t c.remove_at-entry.ensures.parts).apart
+    (remove_now (parts c.self.inside.blocks.items) (parts c.remove_at-entry.new.blocks.items) _ _ _ c.in-Some.field-0.block c.args.holder.now c.self.invariant.2 t c.remove_at-entry.ensures.parts).distinct
 
 pub invariant_of-self : goal.invariant_of-self
 invariant_of-self c =

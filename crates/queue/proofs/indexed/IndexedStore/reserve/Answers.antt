@@ -2,8 +2,8 @@ use Rattle.queue.proofs.Names.{◌≡◌, sym, subst, arith, rules, length, List
 use Rattle.queue.proofs.Filled.{bounded}
 use Rattle.queue.proofs.indexed.IndexedStore.reserve.Goals as goal
 
-pub make_room-requires-clause-apart : goal.make_room-requires-clause-apart
-make_room-requires-clause-apart c = c.self.invariant.2.apart
+pub make_room-requires-clause-distinct : goal.make_room-requires-clause-distinct
+make_room-requires-clause-distinct c = c.self.invariant.2.distinct
 
 pub invariant_of-self : goal.invariant_of-self
 invariant_of-self c =

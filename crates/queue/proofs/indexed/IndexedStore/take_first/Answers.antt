@@ -28,12 +28,12 @@ sign-requires c =
     let u = c.self.invariant.1.used in
     omega (arith, lt)
 
-pub settle-requires-clause-apart : goal.settle-requires-clause-apart
-settle-requires-clause-apart c =
+pub settle-requires-clause-distinct : goal.settle-requires-clause-distinct
+settle-requires-clause-distinct c =
     let first : FirstIn is_ready (parts c.self.inside.blocks.items) c.in-Some.place = first_signed (parts c.self.inside.blocks.items) c.self.inside.signs c.in-Some.place c.self.invariant.0 c.in-Some.ensures.some in
     let size : c.ready_bytes_at.result ≡ size_of body_bytes (find is_ready (get_or (parts c.self.inside.blocks.items) c.in-Some.place []))
     = c.ready_bytes_at.ensures ∙ ap (λ (bs : List Stretch). size_of body_bytes (find is_ready (get_or (parts bs) c.in-Some.place []))) c.deref.ensures.value in
-    (take_now (parts c.self.inside.blocks.items) (parts c.take_at-entry.new.blocks.items) _ _ _ c.ready_bytes_at.result c.in-Some.place c.self.invariant.2 first c.take_at-entry.ensures.parts size).apart
+    (take_now (parts c.self.inside.blocks.items) (parts c.take_at-entry.new.blocks.items) _ _ _ c.ready_bytes_at.result c.in-Some.place c.self.invariant.2 first c.take_at-entry.ensures.parts size).distinct
 
 pub invariant_of-self : goal.invariant_of-self
 invariant_of-self c =

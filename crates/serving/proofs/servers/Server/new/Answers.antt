@@ -11,7 +11,7 @@ invariant_of-result g c =
     let none : ps ≡ [] = c.in_ok-peers.ensures.empty in
     record {
       settled = record {
-        seated = record { fit = subst (λ (qs : List (Option Peer)). IsFit w qs) (sym none) (fit_none w); quiet = none_quiet w ps c.in_ok-quiet.quiet none };
+        in_slots = record { fit = subst (λ (qs : List (Option Peer)). IsFit w qs) (sym none) (fit_none w); quiet = none_quiet w ps c.in_ok-quiet.quiet none };
         ended = none_ended w ps none;
         most = c.in_ok-peers.ensures.capacity;
       };

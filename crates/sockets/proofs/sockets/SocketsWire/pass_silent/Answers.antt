@@ -1,10 +1,10 @@
 use Rattle.std.proofs.Common.{◌≡◌, ◌<◌, ◌+◌, ◌-◌, ◌∙◌, ℕ, zero, suc, List, [], ◌∷◌, true, Option, Some, None, refl, sym, ap, subst, drop, arith, ◌⊎◌, inl, inr}
 use Rattle.std.proofs.lemmas.Bool.{false≢true}
 use Rattle.std.specs.Prelude.{is_some, slice_index_or}
-use Rattle.serving.specs.Wire.{Accepted, AllWait, Nothing_got, Tells, Told, least_room}
+use Rattle.serving.specs.Wire.{Accepted, AllWait, Nothing_got, AddsCalls, Traffic, least_room}
 use Rattle.serving.specs.declared.peers.Peer.{Peer}
-use Rattle.sockets.specs.Counts.{told_with}
-use Rattle.sockets.specs.Told.{told_by}
+use Rattle.sockets.specs.Counts.{traffic_with}
+use Rattle.sockets.specs.Traffic.{traffic_of}
 use Rattle.sockets.specs.declared.counts.Count.{Count}
 use Rattle.sockets.proofs.sockets.SocketsWire.pass_silent.Goals as goal
 
@@ -12,18 +12,18 @@ none_accepted : (r s : ℕ) → (Accepted r ≡ Nothing_got s least_room) ⊎ �
 none_accepted r s (inl e) = cc e
 none_accepted r s (inr i) = i
 
--- sockets that tell no calls tell nothing else of a read that got nothing
-nothing_told : (failures given : ℕ) (counts : List (Option Count)) (s : ℕ) → Tells (told_with failures given counts) (Nothing_got s least_room ∷ []) (told_with failures given counts)
-nothing_told failures given counts s = record { calls = tt; failures = omega arith; kept = λ r e. e; given = λ r i. absurd (none_accepted r s i); totals = λ r t e. e }
+-- sockets that report no calls report nothing else of a read that got nothing
+nothing_added : (failures given : ℕ) (counts : List (Option Count)) (s : ℕ) → AddsCalls (traffic_with failures given counts) (Nothing_got s least_room ∷ []) (traffic_with failures given counts)
+nothing_added failures given counts s = record { calls = tt; failures = omega arith; kept = λ r e. e; given = λ r i. absurd (none_accepted r s i); totals = λ r t e. e }
 
--- so they tell nothing of any number of them
+-- so they report nothing of any number of them
 all_wait : (failures given : ℕ) (counts : List (Option Count)) (n : ℕ) (ps : List (Option Peer)) → ((i : ℕ) → i < n → is_some (slice_index_or ps i None) ≡ true)
-    → AllWait n ps (told_with failures given counts) (told_with failures given counts)
+    → AllWait n ps (traffic_with failures given counts) (traffic_with failures given counts)
 all_wait failures given counts zero ps taken = refl
 all_wait failures given counts (suc n) [] taken = absurd (false≢true (taken 0 (omega arith)))
 all_wait failures given counts (suc n) (None ∷ ps) taken = absurd (false≢true (taken 0 (omega arith)))
 all_wait failures given counts (suc n) (Some p ∷ ps) taken =
-    (told_with failures given counts, nothing_told failures given counts p.socket, all_wait failures given counts n ps (λ i lt. taken (suc i) (omega (arith, lt))))
+    (traffic_with failures given counts, nothing_added failures given counts p.socket, all_wait failures given counts n ps (λ i lt. taken (suc i) (omega (arith, lt))))
 
 at_drop : (ps : List (Option Peer)) (i j : ℕ) → slice_index_or (drop i ps) j None ≡ slice_index_or ps (i + j) None
 at_drop [] zero j = refl
@@ -35,15 +35,15 @@ at_drop (o ∷ ps) (suc i) j =
     let same : suc (i + j) ≡ suc i + j = omega arith in
     at_drop ps i j ∙ ap (λ (k : ℕ). slice_index_or (o ∷ ps) k None) same
 
-pub returns-clause-told : goal.returns-clause-told
-returns-clause-told c =
+pub returns-clause-traffic : goal.returns-clause-traffic
+returns-clause-traffic c =
     let old = c.args.self.now in
     let new = c.first_asked.new.self in
     let same = c.first_asked.ensures in
     let ps = c.args.peers.now.slots in
     let from = c.args.from in
-    let told : told_by new ≡ told_by old = ap (λ (n : ℕ). told_with n new.given new.counts.items) same.failures ∙ ap (λ (n : ℕ). told_with old.failures n new.counts.items) same.given
-    ∙ ap (λ counts. told_with old.failures old.given counts.items) same.counts in
+    let traffic : traffic_of new ≡ traffic_of old = ap (λ (n : ℕ). traffic_with n new.given new.counts.items) same.failures ∙ ap (λ (n : ℕ). traffic_with old.failures n new.counts.items) same.given
+    ∙ ap (λ counts. traffic_with old.failures old.given counts.items) same.counts in
     let taken : (i : ℕ) → i < c.first_asked.result - from → is_some (slice_index_or (drop from ps) i None) ≡ true =
     λ i lt. ap is_some (at_drop ps from i) ∙ same.taken (from + i) (omega arith) (omega (arith, lt)) in
-    subst (λ (t : Told). AllWait (c.first_asked.result - from) (drop from ps) (told_by old) t) (sym told) (all_wait old.failures old.given old.counts.items (c.first_asked.result - from) (drop from ps) taken)
+    subst (λ (t : Traffic). AllWait (c.first_asked.result - from) (drop from ps) (traffic_of old) t) (sym traffic) (all_wait old.failures old.given old.counts.items (c.first_asked.result - from) (drop from ps) taken)

@@ -1,4 +1,4 @@
-use Rattle.topic_match.proofs.Names.{◌≡◌, ◌<◌, List, rules, subst, ap, ◌∙◌, length, Text, words, Token, Met, IsCounted, AreMatches, told_in}
+use Rattle.topic_match.proofs.Names.{◌≡◌, ◌<◌, List, rules, subst, ap, ◌∙◌, length, Text, words, Token, Met, IsCounted, AreMatches, trues_in}
 use Rattle.topic_match.proofs.Law.{sound}
 use Rattle.topic_match.proofs.Pairs.{counted}
 use Rattle.topic_match.proofs.Sorting.{law, same_met, same_sound, same_rising}
@@ -24,9 +24,9 @@ returns-clause-places c =
 
 pub returns-clause-count : goal.returns-clause-count
 returns-clause-count c =
-    subst (λ (z : List (List Token)). IsCounted z c.args.key.now c.told_in.result) c.self.view_is
-    (counted c.self.inside.patterns.items c.self.inside.nodes.items c.self.inside.slots.items c.self.inside.ends.items c.self.inside.places.items c.args.key.now c.in_ok-met.met.items c.told_in.result
+    subst (λ (z : List (List Token)). IsCounted z c.args.key.now c.trues_in.result) c.self.view_is
+    (counted c.self.inside.patterns.items c.self.inside.nodes.items c.self.inside.slots.items c.self.inside.ends.items c.self.inside.places.items c.args.key.now c.in_ok-met.met.items c.trues_in.result
     c.self.invariant.0 (let h : 0 < length c.self.inside.patterns.items = search rules in h)
     (same_met c.as_slice.result.now c.self.inside.patterns.items c.as_slice-2.result.now c.self.inside.nodes.items c.as_slice-5.result.now (words c.args.key.now) c.in_ok-met.met.items
     c.as_slice.ensures.value c.as_slice-2.ensures.value (c.as_slice-5.ensures ∙ c.in_ok-words.ensures) c.in_ok-met.ensures)
-    (c.told_in.ensures ∙ ap (λ (z : List Met). told_in z) c.as_slice-8.ensures.value))
+    (c.trues_in.ensures ∙ ap (λ (z : List Met). trues_in z) c.as_slice-8.ensures.value))

@@ -1,4 +1,4 @@
-use Rattle.broker.proofs.Names.{◌<◌, ◌++◌, [], ◌∷◌, List, length, set, sym, subst, IsIn, Waiters, round_at, order, HasRoom, KeepsRound, KeepRounds, AllAddTheirOwn}
+use Rattle.broker.proofs.Names.{◌<◌, ◌++◌, [], ◌∷◌, List, length, set, sym, subst, arith, length-set, IsIn, Waiters, round_at, order, HasRoom, KeepsRound, KeepRounds, AllAddTheirOwn}
 use Rattle.std.proofs.Common.{◌≡◌}
 use Rattle.broker.proofs.Marked.{borrowed, marked_more, marked_set, keep_set}
 use Rattle.broker.proofs.Orders.{adds_set}
@@ -33,6 +33,8 @@ returns-clause-adds c = λ k its.
     (subst (λ (r : Waiters). order new ≡ order r ++ c.args.consumer ∷ []) (sym (borrowed items c.args.queue c.index_mut.result.now lt c.index_mut.ensures.value)) c.join.ensures.line) its)
 
 pub invariant_of-self : goal.invariant_of-self
-invariant_of-self c =
-    marked_set c.self.inside.rounds.items c.set.new.self c.args.queue c.join.new.self c.set.ensures.set.there
-    (marked_more c.self.inside.rounds.items c.self.inside.awake c.set.new.self c.args.queue c.set.ensures.size c.set.ensures.set c.self.invariant)
+invariant_of-self c = (
+  marked_set c.self.inside.rounds.items c.set.new.self c.args.queue c.join.new.self c.set.ensures.set.there
+      (marked_more c.self.inside.rounds.items c.self.inside.awake c.set.new.self c.args.queue c.set.ensures.size c.set.ensures.set c.self.invariant.0),
+  let room = c.self.invariant.1 in let long = length-set c.self.inside.rounds.items c.args.queue c.join.new.self in omega (arith, room, long),
+)

@@ -1,4 +1,4 @@
-use Rattle.broker.proofs.Names.{◌<◌, [], List, length, set, sym, subst, get_or-set_same, Waiters, HasRoom, IsAwake, Wakens, AllWaken}
+use Rattle.broker.proofs.Names.{◌<◌, [], List, length, set, sym, subst, arith, length-set, get_or-set_same, Waiters, HasRoom, IsAwake, Wakens, AllWaken}
 use Rattle.broker.proofs.Marked.{borrowed, marked_still, waken_set}
 use Rattle.broker.proofs.Outcomes.{on_ok}
 use Rattle.broker.proofs.rounds.queue_rounds.QueueRounds.reserve.Goals as goal
@@ -18,6 +18,8 @@ returns-clause-wakens c =
 pub invariant_of-self : goal.invariant_of-self
 invariant_of-self c =
     let items = c.self.inside.rounds.items in
-    let lt = subst (λ (xs : List Waiters). c.args.queue < length xs) (sym c.self.view_is) c.requires in
-    marked_still items c.self.inside.awake c.args.queue c.reserve.new.self lt
-    (λ p up. subst (λ (r : Waiters). IsAwake r p) (sym (borrowed items c.args.queue c.index_mut.result.now lt c.index_mut.ensures.value)) (c.reserve.ensures.none p up)) c.self.invariant
+    let lt = subst (λ (xs : List Waiters). c.args.queue < length xs) (sym c.self.view_is) c.requires in (
+      marked_still items c.self.inside.awake c.args.queue c.reserve.new.self lt
+          (λ p up. subst (λ (r : Waiters). IsAwake r p) (sym (borrowed items c.args.queue c.index_mut.result.now lt c.index_mut.ensures.value)) (c.reserve.ensures.none p up)) c.self.invariant.0,
+      let room = c.self.invariant.1 in let long = length-set items c.args.queue c.reserve.new.self in omega (arith, room, long),
+    )

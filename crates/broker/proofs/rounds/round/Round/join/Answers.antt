@@ -1,4 +1,4 @@
-use Rattle.broker.proofs.Names.{◌∙◌, ◌++◌, List, [], ◌∷◌, length, sym, ap, subst, arith, IsIn, Pick, turned, AreDistinct, Waiters, picks, order, IsInRound}
+use Rattle.broker.proofs.Names.{◌∙◌, ◌++◌, List, [], ◌∷◌, length, sym, ap, subst, arith, IsIn, Pick, turned, AllDistinct, Waiters, picks, order, IsInRound}
 use Rattle.commands.specs.State.{broker_of}
 use Rattle.broker.proofs.Inserting.{distinct_list}
 use Rattle.broker.proofs.Lining.{distinct_end}
@@ -33,4 +33,4 @@ invariant_of-self c =
     let next = c.self.inside.next in
     let absent = subst (λ (ps : List Pick). IsIn c.args.consumer ps → ⊥) (sym (ap order c.self.view_is)) c.requires.absent in
     let once = distinct_end c.args.consumer (turned next old) (distinct_turned next old c.self.invariant.1) absent in
-    (c.add_waiter.ensures.marks, distinct_list (picks c.add_waiter.new.waiters.items) c.add_waiter.new.next (subst (λ (ps : List Pick). AreDistinct ps) (sym c.add_waiter.ensures.last) once))
+    (c.add_waiter.ensures.marks, distinct_list (picks c.add_waiter.new.waiters.items) c.add_waiter.new.next (subst (λ (ps : List Pick). AllDistinct ps) (sym c.add_waiter.ensures.last) once))

@@ -10,4 +10,4 @@ pub returns-clause-line : goal.returns-clause-line
 returns-clause-line c = c.remove_gone.ensures.line ∙ ap (filter (remains c.args.core.now c.args.queue c.args.connection)) (ap order c.self.view_is)
 
 pub invariant_of-self : goal.invariant_of-self
-invariant_of-self c = (c.remove_gone.ensures.room, c.remove_gone.ensures.apart c.self.invariant.1)
+invariant_of-self c = (c.remove_gone.ensures.room, c.remove_gone.ensures.distinct c.self.invariant.1)

@@ -1,4 +1,4 @@
-use Rattle.broker.proofs.Names.{◌∙◌, ◌<◌, List, length, get_or, set, refl, sym, ap, subst, arith, rules, length-set, get_or-set_same, same_default, AreDistinct, Pick, Waiter, Waiters, asleep_waiter, awake_waiter, picks, IsAwake, IsAsleep}
+use Rattle.broker.proofs.Names.{◌∙◌, ◌<◌, List, length, get_or, set, refl, sym, ap, subst, arith, rules, length-set, get_or-set_same, same_default, AllDistinct, Pick, Waiter, Waiters, asleep_waiter, awake_waiter, picks, IsAwake, IsAsleep}
 use Rattle.std.proofs.Common.{◌≡◌}
 use Rattle.broker.proofs.Picks.{picks_set}
 use Rattle.broker.proofs.Sleeping.{roused}
@@ -46,4 +46,4 @@ invariant_of-self c =
     let long = length-set items c.in-Some.place (awake_waiter s.pick) in
     let size = c.set.ensures.size in
     let room = c.self.invariant.0 in
-    (omega (arith, long, size, room), subst (λ (ps : List Pick). AreDistinct ps) (sym same) c.self.invariant.1)
+    (omega (arith, long, size, room), subst (λ (ps : List Pick). AllDistinct ps) (sym same) c.self.invariant.1)

@@ -1,10 +1,10 @@
-use Rattle.broker.proofs.Names.{◌∙◌, List, length, sym, ap, subst, arith, take_at, Pick, Waiter, turned, AreDistinct, Waiters, round_of, picks, order, IsAwake, StandsIn}
+use Rattle.broker.proofs.Names.{◌∙◌, List, length, sym, ap, subst, arith, take_at, Pick, Waiter, turned, AllDistinct, Waiters, round_of, picks, order, IsAwake, HasWaiter}
 use Rattle.broker.proofs.Moving.{all_roused}
 use Rattle.broker.proofs.Picks.{picks_awake}
 use Rattle.broker.proofs.rounds.round.Round.wake_all.Goals as goal
 
 pub returns-clause-roused : goal.returns-clause-roused
-returns-clause-roused c = λ p stands.
+returns-clause-roused c = λ p in_line.
     let old = c.self.inside.awake in
     let new = c.mark_between.new.marks in
     let waiters = c.deref_mut.result.now in
@@ -12,7 +12,7 @@ returns-clause-roused c = λ p stands.
     let long = c.deref_mut.ensures.len in
     subst (λ (xs : List Waiter). IsAwake (round_of xs new) p) (sym (take_at c.wake_all_up.new.waiters _ c.self.inside.waiters.len (c.wake_all_up.auto.waiters ∙ long) ∙ c.wake_all_up.ensures))
     (all_roused waiters old new (λ i lt. c.mark_between.ensures.marked i (omega arith) (omega (arith, lt, count, long))) p
-    (subst (λ (xs : List Waiter). StandsIn (round_of xs old) p) (sym c.deref_mut.ensures.value) (subst (λ (r : Waiters). StandsIn r p) (sym c.self.view_is) stands)))
+    (subst (λ (xs : List Waiter). HasWaiter (round_of xs old) p) (sym c.deref_mut.ensures.value) (subst (λ (r : Waiters). HasWaiter r p) (sym c.self.view_is) in_line)))
 
 pub returns-clause-same : goal.returns-clause-same
 returns-clause-same c =
@@ -29,4 +29,4 @@ invariant_of-self c =
     let three = ap (λ (xs : List Waiter). length xs) c.deref_mut.ensures.value in
     let room = c.self.invariant.0 in
     let marks = c.mark_between.ensures.len in
-    (omega (arith, one, two, three, room, marks), subst (λ (ps : List Pick). AreDistinct ps) (sym same) c.self.invariant.1)
+    (omega (arith, one, two, three, room, marks), subst (λ (ps : List Pick). AllDistinct ps) (sym same) c.self.invariant.1)
