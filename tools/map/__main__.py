@@ -110,6 +110,15 @@ def turns_of(text):
     return found
 
 
+def wrong_calls(root, name, calls, nothing):
+    """What is wrong with the calls that an item or a rule names; `nothing` says that it names none."""
+    if not calls:
+        yield f"{name}: {nothing}"
+    for call in calls:
+        if not bodies(root, call):
+            yield f"{name}: `{call}` is not there"
+
+
 def wrong_turn(root, name, sentence, items):
     """What is wrong with a turn."""
     callers = [it for call in CALL.findall(sentence) for it in bodies(root, call)]
@@ -118,11 +127,8 @@ def wrong_turn(root, name, sentence, items):
     last = 0
     for number, item in enumerate(items, 1):
         calls = CALL.findall(item)
-        if not calls:
-            yield f"{name}, {number}: it names no call: {item[:60]}"
+        yield from wrong_calls(root, f"{name}, {number}", calls, f"it names no call: {item[:60]}")
         for call in calls:
-            if not bodies(root, call):
-                yield f"{name}, {number}: `{call}` is not there"
             places = [place for it in callers for place in made_in(it, call)]
             if callers and not any(last <= it for it in places):
                 yield f"{name}, {number}: `{call}` is not called, or is called before"
@@ -159,11 +165,7 @@ def wrong_rules(root, page):
             continue
         rule, _, place = line.strip("| ").partition(" | ")
         calls = CALL.findall(place)
-        if not calls:
-            yield f"{rule}: the table names no function"
-        for call in calls:
-            if not bodies(root, call):
-                yield f"{rule}: `{call}` is not there"
+        yield from wrong_calls(root, rule, calls, "the table names no function")
 
 
 def text_of(root, name):

@@ -103,7 +103,7 @@ impl Pool {
 
     /// Allocates storages until as many are spare as the reserve has. If an allocation fails, those that were allocated are spare.
     pub(crate) fn hold(&mut self, alloc: Global) -> Result<(), AllocError>
-        // On success the reserve is spare, and no more unless there was more; a pool that has the reserve is unchanged and never fails.
+        // On success the reserve is spare, and more than it only if more was spare before; a pool that has the reserve is unchanged and never fails.
         ensures whole { OnOk result (reserve_of self.old.kind ≤ self.new.count) }
         ensures few { self.old.count ≤ reserve_of self.old.kind → self.new.count ≤ reserve_of self.old.kind }
         ensures many { reserve_of self.old.kind ≤ self.old.count → self.new ≡ self.old }

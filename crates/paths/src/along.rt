@@ -191,8 +191,8 @@ fn path_along(
     }
 }
 
-/// Returns the path that [`find_path`] returns, but reads from `deaths` how a message goes on under a key that a queue set, and routes it under no such key
-/// again. Only if that leads to no path, `find_path` searches for one. Fails only if an allocation fails.
+/// Returns a path, or `None` if there is none, as [`find_path`] does, but perhaps another one. Reads from `deaths` how a message goes on under a key that a
+/// queue set, and routes it under no such key again. Only if that leads to no path, `find_path` searches for one. Fails only if an allocation fails.
 pub fn find_path_by(
     alloc: Global,
     topology: &Topology,
