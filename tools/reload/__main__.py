@@ -81,7 +81,8 @@ def work(given):
         if probe:
             return swap_and_look(given, client, probe, old)
         swap(given.folder, given.new)
-        unknown = "no queue and no exchange came or went, so the broker can't be asked whether it is in force; --mark makes it so"
+        mend = "the files are as before" if given.mark else "--mark makes it so"
+        unknown = f"no queue and no exchange came or went, so the broker can't be asked whether it is in force; {mend}"
         tell("reload", f"{given.folder} leads to {given.new}; {unknown}")
         return NOT_WHOLE
 

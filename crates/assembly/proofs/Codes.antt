@@ -11,14 +11,9 @@ pub map_fault : (P Q : ℕ → Type 0) (e : Fault) → ((code : ℕ) → P code 
 map_fault P Q (Broken code) f p = f code p
 map_fault P Q Memory f p = tt
 
--- what was answered is a value
-abbrev IsValue : {A E : Type 0} → Result A E → Type 0
-IsValue (Ok a) = Unit {0}
-IsValue (Err e) = ⊥
-
 -- a method that is no publish is a command
 pub plain : (keeps : Bool) (h : ℕ) (m n : Method) → split m ≡ Err n → (n ≡ m) × (Makes (Plain h n) ≡ taken_method keeps h (Ok m))
-plain keeps h (BasicPublish p) n e = absurd (subst IsValue e tt)
+plain keeps h (BasicPublish p) n e = absurd cc
 plain keeps h m n e = let same : n ≡ m = cc in (same, ap (λ x. Makes (Plain h x)) same)
 
 -- a method that is read has a spelling
@@ -40,22 +35,15 @@ the_publish (WantsHeader p) h = (p, refl)
 the_publish (WantsBody g) h = absurd h
 the_publish (Drops d) h = absurd h
 
-abbrev publish_in : Awaited → Publish → Publish
-publish_in Nothing p = p
-publish_in (WantsHeader q) p = q
-publish_in (WantsBody g) p = p
-publish_in (Drops d) p = p
-
 -- it is one
 pub one_publish : (q : Awaited) (a b : Publish) → q ≡ WantsHeader a → q ≡ WantsHeader b → a ≡ b
-one_publish q a b e f = ap (λ (r : Awaited). publish_in r a) (sym e ∙ f)
+one_publish q a b e f = cc
 
 -- of a content that is too large
 pub takes_large : (keeps : Bool) (q : Awaited) (f : Frame) (size : ℕ) (t : Taken) → HasPublish q → SaysSize f.payload (Ok size) → is_too_large f.payload size ≡ true → t ≡ taken_dropped f.channel size 0 → TakesPayload keeps (pending_of q) f t
-takes_large keeps Nothing f size t h s e d = absurd h
-takes_large keeps (WantsHeader p) f size t h s e d = (Ok size, s, match_true (is_too_large f.payload size) _ _ e d)
-takes_large keeps (WantsBody g) f size t h s e d = absurd h
-takes_large keeps (Drops dropping) f size t h s e d = absurd h
+takes_large keeps q f size t h s e d =
+    let was = the_publish q h in
+    subst (λ (r : Awaited). TakesPayload keeps (pending_of r) f t) (sym was.1) (Ok size, s, match_true (is_too_large f.payload size) _ _ e d)
 
 -- of any other
 pub takes_small : (keeps : Bool) (p : Publish) (f : Frame) (size : ℕ) (t : Taken) → SaysSize f.payload (Ok size) → is_too_large f.payload size ≡ false → (r : Result Header ℕ) × SaysHeader f.payload r × (t ≡ taken_header keeps f.channel p r) → TakesPayload keeps (Wants_header p) f t
@@ -63,7 +51,4 @@ takes_small keeps p f size t s e d = (Ok size, s, match_false (is_too_large f.pa
 
 -- one that declares no size
 pub takes_unsized : (keeps : Bool) (q : Awaited) (f : Frame) (code : ℕ) → HasPublish q → SaysSize f.payload (Err code) → TakesPayload keeps (pending_of q) f (Breaks code)
-takes_unsized keeps Nothing f code h s = absurd h
-takes_unsized keeps (WantsHeader p) f code h s = (Err code, s, refl)
-takes_unsized keeps (WantsBody g) f code h s = absurd h
-takes_unsized keeps (Drops d) f code h s = absurd h
+takes_unsized keeps q f code h s = subst (λ (r : Awaited). TakesPayload keeps (pending_of r) f (Breaks code)) (sym (the_publish q h).1) (Err code, s, refl)

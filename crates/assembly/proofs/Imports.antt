@@ -22,6 +22,6 @@ pub use Rattle.model.specs.declared.events.Command.TheVariants.{Full, Head, Plai
 pub use Rattle.model.specs.declared.methods.Method.TheVariants.{BasicPublish}
 pub use Rattle.model.specs.declared.methods.Publish.{Publish}
 pub use Rattle.std.proofs.Common.{Bool, Err, List, MatchBool, None, Ok, Option, Result, Some, [], ap, append-nil, arith, drop, false, get_or, get_or-set_other, get_or-set_same, if◌then◌else◌, inl, inr, is_err, length, length-append, refl, rules, set, subst, suc, sym, take, tests, true, vec_len, zero, ℕ, ◌++◌, ◌+◌, ◌-◌, ◌<◌, ◌==◌, ◌^◌, ◌∙◌, ◌∷◌, ◌≡◌, ◌≤◌}
-pub use Rattle.std.proofs.lemmas.Bool.{eq-eqb, eqb-false, false≢true, ltb-false}
+pub use Rattle.std.proofs.lemmas.Bool.{eq-eqb, eqb-false, eqb-true, false≢true, ltb-false}
 pub use Rattle.std.proofs.lemmas.List.{append_cancel_left, drop-drop, get_or_default}
 pub use Rattle.std.specs.Prelude.{OnErr, OnOk, nat_lt, ◌||◌}

@@ -1,5 +1,5 @@
 -- A stream has one next command, or one end.
-use Rattle.assembly.proofs.Imports.{◌≡◌, ◌==◌, ◌<◌, ◌^◌, ℕ, Bool, true, false, List, [], MatchBool, Option, Some, None, Result, Ok, Err, sym, ap, subst, refl, ◌∙◌, ◌++◌, length, take, append-nil, arith, length-append, append_cancel_left, false≢true, Text, Frame, Begins, IsBroken, Stream, Pending, Wants_header, Wants_body, Taken, Goes_on, Makes, Breaks, TakesOn, TakesPayload, TakesSized, is_too_large, taken_method, taken_header, taken_dropped, taken_heartbeat, is_on_wrong_channel, awaited, after_frame, TakesFirst, Takes, Yields, first, now, later, Ends, early, short, broken, faulty, beyond, Header, SaysHeader, Command, Head, Publish}
+use Rattle.assembly.proofs.Imports.{◌≡◌, ◌==◌, ◌<◌, ◌^◌, ℕ, Bool, true, false, List, [], MatchBool, Option, Some, None, Result, Ok, Err, sym, ap, subst, refl, ◌∙◌, ◌++◌, length, take, append-nil, arith, length-append, append_cancel_left, Text, Frame, Begins, IsBroken, Stream, Pending, Wants_header, Wants_body, Taken, Goes_on, Makes, Breaks, TakesOn, TakesPayload, TakesSized, is_too_large, taken_method, taken_header, taken_dropped, taken_heartbeat, is_on_wrong_channel, awaited, after_frame, TakesFirst, Takes, Yields, first, now, later, Ends, early, short, broken, faulty, beyond, Header, SaysHeader, Command, Head, Publish}
 use Rattle.std.proofs.Math.Seq.{take-append_seam}
 use Rattle.model.specs.Commands.{Nothing, Drops}
 use Rattle.frame.proofs.Fronts.{shows, one_front}
@@ -63,10 +63,6 @@ whole_or s a t x b = b.never [] x.rest x.frame (subst (λ (z : List ℕ). Begins
 
 -- ---- the first eight bytes
 
--- a stream awaits them or does not
-either : (b : Bool) → b ≡ true → b ≡ false → ⊥
-either b t f = false≢true (sym f ∙ t)
-
 front_of : (unread bytes rest : List ℕ) → unread ≡ bytes ++ rest → length bytes ≡ 8 → take 8 unread ≡ bytes
 front_of unread bytes rest e n = ap (λ (z : List ℕ). take 8 z) e ∙ ap (λ (k : ℕ). take k (bytes ++ rest)) (sym n) ∙ take-append_seam bytes rest
 
@@ -87,43 +83,30 @@ first_once s x y a b t u =
 enough : (unread bytes rest : List ℕ) → unread ≡ bytes ++ rest → length bytes ≡ 8 → length unread < 8 → ⊥
 enough unread bytes rest e n few = let l : length unread ≡ length (bytes ++ rest) = ap length e in omega (arith, l, n, few, length-append bytes rest)
 
--- ---- effects differ
+-- ---- a taken frame decides
 
-abbrev IsGoing : Taken → Type 0
-IsGoing (Goes_on p) = Unit {0}
-IsGoing (Makes c) = ⊥
-IsGoing (Breaks code) = ⊥
+abbrev EndsBy : Taken → Stream → Option ℕ → Type 0
+EndsBy (Goes_on p) next o = Ends next o
+EndsBy (Makes c) next o = ⊥
+EndsBy (Breaks code) next o = o ≡ Some code
 
-abbrev IsMaking : Taken → Type 0
-IsMaking (Goes_on p) = ⊥
-IsMaking (Makes c) = Unit {0}
-IsMaking (Breaks code) = ⊥
+-- a stream whose first frame is taken ends only as that frame has it
+ends_by : (s next : Stream) (t : Taken) (o : Option ℕ) → s.max < 2 ^ 32 → Takes s t next → Ends s o → EndsBy t next o
+ends_by s next t o below k (early n few) = absurd (cc (n, k.begun))
+ends_by s next t o below k (short m n b) = absurd (n k.frame k.rest k.front)
+ends_by s next t o below k (broken m b) = absurd (whole_or s next t k b)
+ends_by s next t o below k (faulty {next = other} {code = code} u) = subst (λ (v : Taken). EndsBy v next (Some code)) (sym (takes_once s next other t (Breaks code) below k u).effect) refl
+ends_by s next t o below k (beyond {mid = mid} {p = p} u e) =
+    let same = takes_once s next mid t (Goes_on p) below k u in
+    subst (λ (v : Taken). EndsBy v next o) (sym same.effect) (subst (λ (z : Stream). Ends z o) (sym same.left) e)
 
-going_making : (p : Pending) (c : Command) → Goes_on p ≡ Makes c → ⊥
-going_making p c e = subst IsGoing e tt
-
-going_breaking : (p : Pending) (code : ℕ) → Goes_on p ≡ Breaks code → ⊥
-going_breaking p code e = subst IsGoing e tt
-
-making_breaking : (c : Command) (code : ℕ) → Makes c ≡ Breaks code → ⊥
-making_breaking c code e = subst IsMaking e tt
-
-abbrev made_of : Taken → Option Command
-made_of (Goes_on p) = None
-made_of (Makes c) = Some c
-made_of (Breaks code) = None
-
-abbrev command_in : Option Command → Command → Command
-command_in None d = d
-command_in (Some c) d = c
-
-one_made : (c d : Command) → Makes c ≡ Makes d → c ≡ d
-one_made c d e = ap (λ (t : Taken). command_in (made_of t) c) e
-
-abbrev code_of : Taken → ℕ
-code_of (Goes_on p) = 0
-code_of (Makes c) = 0
-code_of (Breaks code) = code
+-- and one that awaits its first eight bytes ends if there are fewer
+ends_new : (s : Stream) (o : Option ℕ) → Ends s o → s.is_new ≡ true → (length s.unread < 8) × (o ≡ None)
+ends_new s o (early n few) awaited = (few, refl)
+ends_new s o (short m n b) awaited = absurd (cc (m, awaited))
+ends_new s o (broken m b) awaited = absurd (cc (m, awaited))
+ends_new s o (faulty u) awaited = absurd (cc (u.begun, awaited))
+ends_new s o (beyond u e) awaited = absurd (cc (u.begun, awaited))
 
 max_still : (s next : Stream) (t : Taken) → s.max < 2 ^ 32 → Takes s t next → next.max < 2 ^ 32
 max_still s next t below k = subst (λ (z : Stream). z.max < 2 ^ 32) (sym k.left) below
@@ -132,62 +115,33 @@ max_still s next t below k = subst (λ (z : Stream). z.max < 2 ^ 32) (sym k.left
 
 pub one_command : (s a b : Stream) (c d : Command) → s.max < 2 ^ 32 → Yields s c a → Yields s d b → (c ≡ d) × (a ≡ b)
 one_command s a b c d below (first {bytes = m} t) (first {bytes = n} u) = let k = first_once s a b m n t u in (ap (λ (z : Text). Head z) k.bytes, k.left)
-one_command s a b c d below (first t) (now u) = absurd (either s.is_new t.awaited u.begun)
-one_command s a b c d below (first t) (later u y) = absurd (either s.is_new t.awaited u.begun)
-one_command s a b c d below (now t) (first u) = absurd (either s.is_new u.awaited t.begun)
-one_command s a b c d below (later t x) (first u) = absurd (either s.is_new u.awaited t.begun)
-one_command s a b c d below (now t) (now u) = let k = takes_once s a b (Makes c) (Makes d) below t u in (one_made c d k.effect, k.left)
-one_command s a b c d below (now t) (later {mid = mid} {p = p} u y) = absurd (going_making p c (sym (takes_once s a mid (Makes c) (Goes_on p) below t u).effect))
-one_command s a b c d below (later {mid = mid} {p = p} t x) (now u) = absurd (going_making p d (takes_once s mid b (Goes_on p) (Makes d) below t u).effect)
+one_command s a b c d below (first t) (now u) = absurd (cc (t.awaited, u.begun))
+one_command s a b c d below (first t) (later u y) = absurd (cc (t.awaited, u.begun))
+one_command s a b c d below (now t) (first u) = absurd (cc (u.awaited, t.begun))
+one_command s a b c d below (later t x) (first u) = absurd (cc (u.awaited, t.begun))
+one_command s a b c d below (now t) (now u) = let k = takes_once s a b (Makes c) (Makes d) below t u in (cc (k.effect), k.left)
+one_command s a b c d below (now t) (later {mid = mid} {p = p} u y) = absurd (cc ((takes_once s a mid (Makes c) (Goes_on p) below t u).effect))
+one_command s a b c d below (later {mid = mid} {p = p} t x) (now u) = absurd (cc ((takes_once s mid b (Goes_on p) (Makes d) below t u).effect))
 one_command s a b c d below (later {mid = mid} {p = p} t x) (later {mid = other} {p = q} u y) =
     let k = takes_once s mid other (Goes_on p) (Goes_on q) below t u in
     one_command mid a b c d (max_still s mid _ below t) x (subst (λ (z : Stream). Yields z d b) (sym k.left) y)
 
 pub one_of_them : (s a : Stream) (c : Command) (o : Option ℕ) → s.max < 2 ^ 32 → Yields s c a → Ends s o → ⊥
-one_of_them s a c o below (first {bytes = m} t) (early n few) = enough s.unread m t.rest t.front t.size few
-one_of_them s a c o below (first t) (short n m k) = either s.is_new t.awaited n
-one_of_them s a c o below (first t) (broken n b) = either s.is_new t.awaited n
-one_of_them s a c o below (first t) (faulty u) = either s.is_new t.awaited u.begun
-one_of_them s a c o below (first t) (beyond u e) = either s.is_new t.awaited u.begun
-one_of_them s a c o below (now t) (early n few) = either s.is_new n t.begun
-one_of_them s a c o below (later t x) (early n few) = either s.is_new n t.begun
-one_of_them s a c o below (now t) (short m n k) = n t.frame t.rest t.front
-one_of_them s a c o below (now t) (broken m b) = whole_or s a _ t b
-one_of_them s a c o below (now t) (faulty {next = next} {code = code} u) = making_breaking c code (takes_once s a next (Makes c) (Breaks code) below t u).effect
-one_of_them s a c o below (now t) (beyond {mid = mid} {p = p} u e) = going_making p c (sym (takes_once s a mid (Makes c) (Goes_on p) below t u).effect)
-one_of_them s a c o below (later t x) (short m n k) = n t.frame t.rest t.front
-one_of_them s a c o below (later {mid = mid} t x) (broken m b) = whole_or s mid _ t b
-one_of_them s a c o below (later {mid = mid} {p = p} t x) (faulty {next = next} {code = code} u) = going_breaking p code (takes_once s mid next (Goes_on p) (Breaks code) below t u).effect
-one_of_them s a c o below (later {mid = mid} {p = p} t x) (beyond {mid = other} {p = q} u e) =
-    let k = takes_once s mid other (Goes_on p) (Goes_on q) below t u in
-    one_of_them mid a c o (max_still s mid _ below t) x (subst (λ (z : Stream). Ends z o) (sym k.left) e)
+one_of_them s a c o below (first {bytes = m} t) e = enough s.unread m t.rest t.front t.size (ends_new s o e t.awaited).0
+one_of_them s a c o below (now t) e = ends_by s a (Makes c) o below t e
+one_of_them s a c o below (later {mid = mid} {p = p} t x) e = one_of_them mid a c o (max_still s mid _ below t) x (ends_by s mid (Goes_on p) o below t e)
 
 pub one_end : (s : Stream) (o q : Option ℕ) → s.max < 2 ^ 32 → Ends s o → Ends s q → o ≡ q
-one_end s o q below (early n few) (early m few2) = refl
-one_end s o q below (early n few) (short m a b) = refl
-one_end s o q below (early n few) (broken m b) = absurd (either s.is_new n m)
-one_end s o q below (early n few) (faulty u) = absurd (either s.is_new n u.begun)
-one_end s o q below (early n few) (beyond u e) = absurd (either s.is_new n u.begun)
-one_end s o q below (short m a b) (early n few) = refl
-one_end s o q below (broken m b) (early n few) = absurd (either s.is_new n m)
-one_end s o q below (faulty t) (early n few) = absurd (either s.is_new n t.begun)
-one_end s o q below (beyond t e) (early n few) = absurd (either s.is_new n t.begun)
-one_end s o q below (short w n k) (short w2 n2 k2) = refl
+one_end s o q below (early n few) e = sym (ends_new s q e n).1
+one_end s o q below (faulty {next = next} {code = code} t) e = sym (ends_by s next (Breaks code) q below t e)
+one_end s o q below (beyond {mid = mid} {p = p} t e) f = one_end mid o q (max_still s mid _ below t) e (ends_by s mid (Goes_on p) q below t f)
+one_end s o q below (short w n k) (early m few) = refl
+one_end s o q below (short w n k) (short v m b) = refl
 one_end s o q below (short w n k) (broken v b) = absurd (k b)
 one_end s o q below (short w n k) (faulty u) = absurd (n u.frame u.rest u.front)
 one_end s o q below (short w n k) (beyond u e) = absurd (n u.frame u.rest u.front)
+one_end s o q below (broken w b) (early n few) = absurd (cc (w, n))
 one_end s o q below (broken w b) (short v n k) = absurd (k b)
-one_end s o q below (broken w b) (broken v b2) = refl
+one_end s o q below (broken w b) (broken v c) = refl
 one_end s o q below (broken w b) (faulty {next = next} u) = absurd (whole_or s next _ u b)
 one_end s o q below (broken w b) (beyond {mid = mid} u e) = absurd (whole_or s mid _ u b)
-one_end s o q below (faulty t) (short v n k) = absurd (n t.frame t.rest t.front)
-one_end s o q below (faulty {next = next} t) (broken v b) = absurd (whole_or s next _ t b)
-one_end s o q below (faulty {next = next} {code = code} t) (faulty {next = other} {code = last} u) =
-    ap (λ (x : Taken). Some (code_of x)) (takes_once s next other (Breaks code) (Breaks last) below t u).effect
-one_end s o q below (faulty {next = next} {code = code} t) (beyond {mid = mid} {p = p} u e) = absurd (going_breaking p code (sym (takes_once s next mid (Breaks code) (Goes_on p) below t u).effect))
-one_end s o q below (beyond t e) (short v n k) = absurd (n t.frame t.rest t.front)
-one_end s o q below (beyond {mid = mid} t e) (broken v b) = absurd (whole_or s mid _ t b)
-one_end s o q below (beyond {mid = mid} {p = p} t e) (faulty {next = next} {code = code} u) = absurd (going_breaking p code (takes_once s mid next (Goes_on p) (Breaks code) below t u).effect)
-one_end s o q below (beyond {mid = mid} {p = p} t e) (beyond {mid = other} {p = r} u f) =
-    let k = takes_once s mid other (Goes_on p) (Goes_on r) below t u in
-    one_end mid o q (max_still s mid _ below t) e (subst (λ (z : Stream). Ends z q) (sym k.left) f)

@@ -26,13 +26,6 @@ shorter max bytes rest f b =
     let e2 : length (frame_bytes f ++ rest) ≡ 8 + length f.payload + length rest = grind (arith, length-append) in
     omega (arith, e, e2)
 
--- no whole frame, and no broken one
-pub ends_short : (s : Stream) → s.is_new ≡ false → IsUnfinished s.max s.unread → Ends s None
-ends_short s begun u = short begun (λ f rest b. u.none rest f b) u.unbroken
-
-pub ends_broken : (s : Stream) (code : ℕ) → s.is_new ≡ false → code ≡ 501 → IsBroken s.max s.unread → Ends s (Some code)
-ends_broken s code begun e b = subst (λ (k : ℕ). Ends s (Some k)) (sym e) (broken begun b)
-
 -- one more frame behind others
 pub goes_then : {a b c : Stream} {p : Pending} → GoesOn a b → Takes b (Goes_on p) c → GoesOn a c
 goes_then stays t = goes t stays
@@ -58,14 +51,15 @@ goes_same a b c g e = subst (λ (s : Stream). GoesOn a s) (sym e) g
 pub ended : (old : Stream) (max : ℕ) (keeps : Bool) (pending : ℕ → Pending) (bytes unread : List ℕ) → GoesOn old (of_parts max keeps pending unread) → bytes ≡ unread → IsUnfinished max bytes
     → YieldsNext old (Ok None) (of_parts max keeps pending unread)
 ended old max keeps pending bytes unread g e u =
-    let end : Ends (of_parts max keeps pending unread) None = ends_short (of_parts max keeps pending unread) refl (subst (IsUnfinished max) e u) in
+    let there : IsUnfinished max unread = subst (IsUnfinished max) e u in
+    let end : Ends (of_parts max keeps pending unread) None = short refl (λ f rest b. there.none rest f b) there.unbroken in
     record { same = g; ends = ends_then g end; still = end }
 
 -- and none can
 pub unframed : (old : Stream) (max : ℕ) (keeps : Bool) (pending : ℕ → Pending) (bytes unread : List ℕ) (code : ℕ) → GoesOn old (of_parts max keeps pending unread) → bytes ≡ unread → (code ≡ 501) × IsBroken max bytes
     → YieldsNext old (Err (Broken code)) (of_parts max keeps pending unread)
 unframed old max keeps pending bytes unread code g e b =
-    let end : Ends (of_parts max keeps pending unread) (Some code) = ends_broken (of_parts max keeps pending unread) code refl b.0 (subst (IsBroken max) e b.1) in
+    let end : Ends (of_parts max keeps pending unread) (Some code) = subst (λ (k : ℕ). Ends (of_parts max keeps pending unread) (Some k)) (sym b.0) (broken refl (subst (IsBroken max) e b.1)) in
     record { same = g; ends = ends_then g end; still = end }
 
 -- a frame is a fault, or memory was refused

@@ -1,5 +1,5 @@
 -- What channels await, when one of them is changed.
-use Rattle.assembly.proofs.Imports.{◌≡◌, ◌<◌, ℕ, zero, suc, ◌==◌, Bool, true, false, List, [], ◌∷◌, ◌++◌, length, get_or, set, if◌then◌else◌, Option, Some, None, Result, Ok, Err, sym, ap, subst, refl, ◌∙◌, rules, tests, MatchBool, get_or-set_other, get_or-set_same, eqb-false, eq-eqb, false≢true, get_or_default, with_one, Frame, Taken, Goes_on, Makes, Breaks, TakesOn, TakesPayload, awaited, taken_heartbeat, is_on_wrong_channel, Command, Awaited, Fault, Broken, Memory, IsFault, pending_of, pending_at, content_at, AreSpelledSoFar, IsSpelledSoFar, TakesEffect, DoesAt}
+use Rattle.assembly.proofs.Imports.{◌≡◌, ◌<◌, ℕ, zero, suc, ◌==◌, Bool, true, false, List, [], ◌∷◌, ◌++◌, length, get_or, set, if◌then◌else◌, Option, Some, None, Result, Ok, Err, sym, ap, subst, refl, ◌∙◌, rules, tests, MatchBool, get_or-set_other, get_or-set_same, eqb-false, eqb-true, eq-eqb, false≢true, get_or_default, with_one, Frame, Taken, Goes_on, Makes, Breaks, TakesOn, TakesPayload, awaited, taken_heartbeat, is_on_wrong_channel, Command, Awaited, Fault, Broken, Memory, IsFault, pending_of, pending_at, content_at, AreSpelledSoFar, IsSpelledSoFar, TakesEffect, DoesAt}
 use Rattle.std.proofs.Math.Path.{fun_ext}
 use Rattle.model.specs.Commands
 use Rattle.assembly.specs.declared.contents.Awaited.TheVariants.{Nothing}
@@ -9,16 +9,13 @@ choice : {A : Type 0} (a b : A) (m n : ℕ) (t : Bool) → (m == n) ≡ t → (t
 choice a b m n true e f = sym (f refl)
 choice a b m n false e f = refl
 
-eq_of : (m n : ℕ) → (m == n) ≡ true → m ≡ n
-eq_of m n e = search (rules, e)
-
 -- a function with the value that it has
 pub with_one_same : {A : Type 0} (f : ℕ → A) (n : ℕ) → f ≡ with_one f n (f n)
-with_one_same f n = fun_ext (λ m. choice (f n) (f m) m n (m == n) refl (λ e. ap f (sym (eq_of m n e))))
+with_one_same f n = fun_ext (λ m. choice (f n) (f m) m n (m == n) refl (λ e. ap f (sym (eqb-true m n e))))
 
 -- what one channel awaits is changed
 place : (xs : List Awaited) (h m : ℕ) (p : Awaited) → h < length xs → (t : Bool) → (m == h) ≡ t → pending_at (set xs h p) m ≡ (if t then pending_of p else pending_at xs m)
-place xs h m p lt true e = ap pending_of (subst (λ k. get_or (set xs h p) k Nothing ≡ p) (sym (eq_of m h e)) (get_or-set_same xs h p Nothing lt))
+place xs h m p lt true e = ap pending_of (subst (λ k. get_or (set xs h p) k Nothing ≡ p) (sym (eqb-true m h e)) (get_or-set_same xs h p Nothing lt))
 place xs h m p lt false e = ap pending_of (get_or-set_other xs h m p Nothing (eqb-false m h e))
 
 pub pending_at-set : (xs : List Awaited) (h : ℕ) (p : Awaited) → h < length xs → pending_at (set xs h p) ≡ with_one (pending_at xs) h (pending_of p)

@@ -1,6 +1,7 @@
 -- The three frames of a publish are read at once.
 use Rattle.assembly.proofs.Imports.{◌≡◌, ◌∙◌, ◌+◌, ◌<◌, ◌≤◌, ◌==◌, ℕ, List, [], length, drop, drop-drop, Bool, true, false, Ok, if◌then◌else◌, sym, ap, subst, refl, arith, rules, tests, eq-eqb, with_one, Frame, Begins, Stream, Pending, Wants_header, Wants_body, Taken, Goes_on, Makes, TakesOn, Takes, pending_after, taken_body, now, later, GoesOn, is_on_wrong_channel, most_body, most_header, header_bytes, IsCommand, Command, Full, Publish, Awaited, pending_at, GivesCommand}
 use Rattle.std.proofs.Math.Path.{fun_ext}
+use Rattle.laws.proofs.Linked.{with_here}
 use Rattle.model.specs.Commands.{Nothing}
 use Rattle.model.specs.declared.contents.Content.{Content}
 use Rattle.model.specs.declared.contents.Fields.{Fields as Properties}
@@ -14,9 +15,6 @@ use Rattle.assembly.proofs.Places.{match_true, takes_other, with_one_same}
 
 -- ---- one channel
 
-one_here : {A : Type 0} (f : ℕ → A) (h : ℕ) (a : A) → with_one f h a h ≡ a
-one_here f h a = search (tests, rules)
-
 over : {A : Type 0} (a b c : A) (t : Bool) → (if t then b else (if t then a else c)) ≡ (if t then b else c)
 over a b c true = refl
 over a b c false = refl
@@ -29,7 +27,7 @@ step : (max : ℕ) (keeps : Bool) (at : ℕ → Pending) (p : Pending) (unread r
     → Takes (of_parts max keeps (with_one at f.channel p) unread) t (of_parts max keeps (with_one at f.channel (pending_after t)) rest)
 step max keeps at p unread rest f t b e =
     takes max keeps (with_one at f.channel p) (with_one at f.channel (pending_after t)) unread rest f t b
-    (subst (λ (q : Pending). TakesOn keeps q f t) (sym (one_here at f.channel p)) e)
+    (subst (λ (q : Pending). TakesOn keeps q f t) (sym (with_here at f.channel p)) e)
     (sym (one_again at f.channel p (pending_after t)))
 
 -- ---- a body in one piece

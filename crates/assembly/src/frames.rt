@@ -16,8 +16,9 @@ use frame::Frame;
 use model::Command;
 use std::alloc::{AllocError, Global};
 
-/// Handles a whole frame. Returns the command that it completes, or `None` if its channel awaits more.
-#[inline(always)]
+/// Handles a whole frame. Returns the command that it completes, or `None` if its channel awaits more. Not inlined, so that a publish that is read
+/// at once does not clear the slots of the values that are moved here.
+#[inline(never)]
 pub(crate) fn take_frame(
     alloc: Global,
     keeps: bool,

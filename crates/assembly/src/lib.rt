@@ -22,5 +22,5 @@ mod unread;
 
 pub use faults::Fault;
 pub use model::Command;
-pub use single::one_next;
+pub use single::ghost_one_next;
 pub use streams::Stream;

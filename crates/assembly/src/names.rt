@@ -95,14 +95,8 @@ fn known_at(slot: &Option<Known>, payload: &[u8]) -> Option<Publish>
     ensures { IfSome result (λ p. SpellsPublish payload.now p) }
 {
     match slot {
-        Some(known) => {
-            if known.payload.as_slice() == payload {
-                copy_of(&known.publish)
-            } else {
-                None
-            }
-        }
-        None => None,
+        Some(known) if known.payload.as_slice() == payload => copy_of(&known.publish),
+        _ => None,
     }
 }
 

@@ -85,17 +85,15 @@ fn content_frames(max: u32, channel: u16, rest: &[u8]) -> Option<ContentFrames<'
 }
 
 /// Returns the payload of the frame at the front of `bytes`, and the frame's length in bytes, if it has this `kind` and `channel` and may have both.
+#[inline(always)]
 fn payload_of(max: u32, kind: u8, channel: u16, bytes: &[u8]) -> Option<(&[u8], usize)>
     requires { 4096 ≤ max }
     ensures { IfSome result (λ found. IsFrontPayload max kind channel bytes.now found.0.now found.1) }
 {
     match read_frame(bytes, max) {
-        Read::Whole(frame, size) => {
-            if frame.kind == kind && frame.channel == channel && !is_on_wrong_channel(&frame) {
-                Some((frame.payload, size))
-            } else {
-                None
-            }
+        Read::Whole(frame, size)
+            if frame.kind == kind && frame.channel == channel && !is_on_wrong_channel(&frame) => {
+            Some((frame.payload, size))
         }
         _ => None,
     }

@@ -17,8 +17,8 @@ use std::alloc::Global;
 
 /// Takes frames up to the end of a command. A frame that is a fault, or for which an allocation fails, is not taken.
 ///
-/// The functions from here to a channel's content are inlined: each call of a function clears the slots of the values
-/// that it moves. If the functions are inlined, this happens once a command instead of once a frame.
+/// Each call of a function clears the slots of the values that it moves. So what reads a whole publish is inlined here, and what handles
+/// any other frame is not.
 #[inline(always)]
 pub(crate) fn next_command(
     alloc: Global,

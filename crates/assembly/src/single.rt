@@ -2,7 +2,7 @@
 
 ghost use Rattle.assembly.specs.Laws.{OneNext};
 
-/// Proves that a stream has one next command or one end. Does nothing when called.
-pub fn one_next()
+/// Proves that a stream has one next command or one end. Does nothing at run time.
+pub fn ghost_one_next()
     ensures { OneNext }
 {}

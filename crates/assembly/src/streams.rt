@@ -191,6 +191,7 @@ impl Stream {
     }
 
     /// Takes the first eight bytes, or returns `None` if there are fewer.
+    #[inline(never)]
     fn first(&mut self) -> Option<Command>
         requires is_new { self.old.is_new ≡ true }
         requires fault { self.old.fault ≡ None }

@@ -1,5 +1,5 @@
 -- A waiter comes in as the last of its line.
-use Rattle.broker.proofs.Names.{◌∙◌, ◌<◌, ◌≤◌, ◌+◌, ◌++◌, ℕ, zero, suc, List, [], ◌∷◌, Bool, Result, if◌then◌else◌, length, take, drop, get_or, min, inl, inr, refl, sym, ap, subst, arith, insert, is_ok, IsOk, leb_tells, drop_min, take_min, drop_all, take_all, append-nil, take-append-drop, IsIn, bit_of, Kept, Pick, Waiter, turned, AllDistinct, round_of, picks, awake_waiter, asleep_waiter, bit_for, IsAwake, KeepsRound}
+use Rattle.broker.proofs.Names.{◌∙◌, ◌<◌, ◌≤◌, ◌+◌, ◌++◌, ℕ, zero, suc, List, [], ◌∷◌, Bool, Result, if◌then◌else◌, length, take, drop, get_or, min, inl, inr, refl, sym, ap, subst, arith, insert, is_ok, IsOk, leb_tells, drop_min, take_min, drop_all, take_all, append-nil, take-append-drop, IsIn, bit_of, Kept, Pick, Waiter, turned, AllDistinct, round_of, picks, awake_waiter, asleep_waiter, Inserts, IsAwake, KeepsRound}
 use Rattle.std.proofs.Common.{◌≡◌, ◌⊎◌}
 use Rattle.std.proofs.lemmas.List.{append_assoc}
 use Rattle.broker.proofs.Lining.{in_place}
@@ -86,12 +86,7 @@ picks_inserted waiters zero s le = refl
 picks_inserted [] (suc n) s le = absurd (omega (arith, le))
 picks_inserted (t ∷ waiters) (suc n) s le = ap (λ (ps : List Pick). t.pick ∷ ps) (picks_inserted waiters n s (omega (arith, le)))
 
--- the marks of those before this index stay, and picks look at those behind it that are awake
-pub record MarksFrom (waiters : List Waiter) (old new : List ℕ) (place : ℕ) : Type 0 where
-  pub before : (i : ℕ) → i < place → bit_of new i ≡ bit_of old i
-  pub fits : (i : ℕ) (d : Waiter) → place ≤ i → i < length waiters → bit_of new i ≡ bit_for (get_or waiters i d).asleep
-
-module _ (waiters : List Waiter) (place : ℕ) (s : Waiter) (old new : List ℕ) (le : place ≤ length waiters) (m : MarksFrom (insert waiters place s) old new place) where
+module _ (waiters : List Waiter) (place : ℕ) (s : Waiter) (old new : List ℕ) (size : ℕ) (le : place ≤ length waiters) (room : length waiters + 1 ≤ size) (m : Inserts (bit_of old) (bit_of new) place size) where
   long : length (insert waiters place s) ≡ length waiters + 1
   long = insert_length waiters place s le
 
@@ -100,12 +95,12 @@ module _ (waiters : List Waiter) (place : ℕ) (s : Waiter) (old new : List ℕ)
     | inl behind ↦
         let ge = behind.1 in
         let lt = at.within in
-        let is : (d : Waiter) → get_or (insert waiters place s) (suc i) d ≡ awake_waiter p = λ d. insert_behind waiters place s i d le (omega (arith, ge)) ∙ at.there d in (
+        let next : suc i ≡ i + 1 = omega arith in (
           suc i,
           record {
             within = omega (arith, long, lt);
-            there = is;
-            marked = m.fits (suc i) s (omega (arith, ge)) (omega (arith, long, lt)) ∙ ap (λ (z : Waiter). bit_for z.asleep) (is s);
+            there = λ d. insert_behind waiters place s i d le (omega (arith, ge)) ∙ at.there d;
+            marked = ap (bit_of new) next ∙ m.behind i ge (omega (arith, lt)) ∙ at.marked;
           },
         )
     | inr before ↦

@@ -1,5 +1,5 @@
 -- Waiters of consumers: among others, after a sweep, and at each event.
-use Rattle.broker.proofs.Names.{◌∙◌, ℕ, List, [], ◌∷◌, ◌++◌, Bool, true, false, Option, Some, None, length, inl, inr, refl, sym, ap, subst, if◌then◌else◌, option_map, is_some, not, ◌==◌, ◌&&◌, eqb-true, eq-eqb, false≢true, same_Some, Text, Topology, IsIn, IsAgreed, Broker, Channel, Connection, with_pair, with_row, Is, Acts, Refuses, Decides, OnConnection, Refusal, Ignored, Of_channel, Of_connection, refusal, channel_or_new, consumer_of, ids_of, Content, Method, BasicConsume, Send, Event, Command, Note, WasConsumer, IsMadeBy, ConsumersAreMade, open_in, running_in, channel_in, channel_at, connection_at, limits_of, Kept, names_of, Rounds, Lists, Listing, round_at, listing, is_of, wakes, HasConsumer, AllAreInRounds, AllAreNoted, AllAreConsumers, AllListedAreThere, HasJoined, IsServing, AllRun, HasNoList, MakesNoList, NotesStay, IsNoted, IsInItsRound, IsAwake, KeepsWaiters, KeepsAll, next_number, next_consumer, is_seating, consumer_to_make, consumed, IsConsumed, Pick}
+use Rattle.broker.proofs.Names.{◌∙◌, ℕ, List, [], ◌∷◌, ◌++◌, Bool, true, false, Option, Some, None, length, inl, inr, refl, sym, ap, subst, if◌then◌else◌, option_map, is_some, not, ◌==◌, ◌&&◌, eqb-true, eq-eqb, false≢true, same_Some, Text, Topology, IsIn, IsAgreed, Broker, Channel, Connection, with_pair, with_row, Is, Acts, Refuses, Decides, OnConnection, Refusal, Ignored, Of_channel, Of_connection, refusal, channel_or_new, consumer_of, ids_of, Content, Method, BasicConsume, Send, Event, Command, Note, WasConsumer, IsMadeBy, ConsumersAreMade, open_in, running_in, channel_in, channel_at, connection_at, limits_of, Kept, names_of, Rounds, Lists, Listing, round_at, listing, is_of, wakes, HasConsumer, AllAreInRounds, AllAreNoted, AllAreConsumers, AllListedAreThere, HasJoined, IsServing, AllRun, HasNoList, MakesNoList, NotesStay, IsNoted, IsInItsRound, IsAwake, KeepsWaiters, KeepsAll, next_number, next_consumer, makes_consumer, consumer_to_make, consumed, IsConsumed, Pick}
 use Rattle.std.proofs.Common.{◌≡◌, ◌⊎◌}
 use Rattle.model.specs.Broker as seen
 use Rattle.model.specs.declared.methods.Consume.{Consume}
@@ -158,11 +158,11 @@ module _ (t : Topology) (old new : Broker) (c h : ℕ) (m : Consume) (content : 
   came (Some conn) p has = decided (refusal t old conn h (BasicConsume m) (old.channel c h)) p has
 
 -- a consume that makes no consumer leaves those of its channel
-stays_unseated : (kept : Kept) (new : Broker) (c h : ℕ) (m : Consume) (content : Option Content) (sends : List Send) (notes : List Note) (k : seen.Consumer) (o : Option Running) → running_in kept.connections c ≡ o
-    → is_seating kept h (BasicConsume m) o ≡ false → OnConnection (topology_kept kept) (broker_of kept) c h (BasicConsume m) content sends notes new (connection_at o)
+stays_unmade : (kept : Kept) (new : Broker) (c h : ℕ) (m : Consume) (content : Option Content) (sends : List Send) (notes : List Note) (k : seen.Consumer) (o : Option Running) → running_in kept.connections c ≡ o
+    → makes_consumer kept h (BasicConsume m) o ≡ false → OnConnection (topology_kept kept) (broker_of kept) c h (BasicConsume m) content sends notes new (connection_at o)
     → WasConsumer new c h k → WasConsumer (broker_of kept) c h k
-stays_unseated kept new c h m content sends notes k None e f p = same_there (topology_kept kept) (broker_of kept) new c h m content sends notes k (p.left.channels c h)
-stays_unseated kept new c h m content sends notes k (Some l) e f p =
+stays_unmade kept new c h m content sends notes k None e f p = same_there (topology_kept kept) (broker_of kept) new c h m content sends notes k (p.left.channels c h)
+stays_unmade kept new c h m content sends notes k (Some l) e f p =
     let t = topology_kept kept in
     let b = broker_of kept in
     let reason = λ (x : Option Running). refusal t b (limits_of l) h (BasicConsume m) (option_map (open_in (names_of kept)) (channel_at x h)) in
@@ -196,7 +196,7 @@ came_there law kept new e sends notes acts place p has = go (law t b new e sends
     before was = inl (record { consumer = k; was = was; numbered = has.numbered; within = has.within; named = has.named })
 
     made : IsMadeBy b e c h k → Came_here
-    made (m, content, is, numbered) = seated (is_seating kept h (BasicConsume m) (running_in kept.connections c)) refl
+    made (m, content, is, numbered) = if_made (makes_consumer kept h (BasicConsume m) (running_in kept.connections c)) refl
       where
         same : OnConnection t b c h (BasicConsume m) content sends notes new (b.connection c)
         same = subst (λ (x : Event). Acts t b x sends notes new) is acts
@@ -207,24 +207,24 @@ came_there law kept new e sends notes acts place p has = go (law t b new e sends
         here : k.queue ≡ m.queue → IsConsumed t e place
         here queue = record { within = has.within; named = ap consumed is ∙ ap (λ (q : Text). Some q) (sym queue ∙ sym has.named) }
 
-        seat : is_seating kept h (BasicConsume m) (running_in kept.connections c) ≡ true → consumer_to_make kept e ≡ next_consumer c h (running_in kept.connections c)
-        seat makes = ap (consumer_to_make kept) is ∙ ap (λ (v : Bool). if v then next_consumer c h (running_in kept.connections c) else None) makes
+        to_make : makes_consumer kept h (BasicConsume m) (running_in kept.connections c) ≡ true → consumer_to_make kept e ≡ next_consumer c h (running_in kept.connections c)
+        to_make makes = ap (consumer_to_make kept) is ∙ ap (λ (v : Bool). if v then next_consumer c h (running_in kept.connections c) else None) makes
 
         next : k.queue ≡ m.queue → consumer_to_make kept e ≡ next_consumer c h (running_in kept.connections c) → (o : Option Pick) → next_consumer c h (running_in kept.connections c) ≡ o → Came_here
-        next queue its_seat None f =
+        next queue its_numbers None f =
             let stays = ignored_stays t b c h (BasicConsume m) content sends notes new (b.connection c) (no_next t kept c h m f) same in
             before (has.was.0, sym (stays.channels c h) ∙ has.was.1, has.was.2)
-        next queue its_seat (Some q) f =
+        next queue its_numbers (Some q) f =
             let one = next_number_is (names_of kept) c h (running_in kept.connections c) q f ∙ ap (λ (n : ℕ). record { connection = c; channel = h; number = n }) (sym numbered) ∙ its in
-            inr (here queue, its_seat ∙ f ∙ ap Some one)
+            inr (here queue, its_numbers ∙ f ∙ ap Some one)
 
         on : consumer_to_make kept e ≡ next_consumer c h (running_in kept.connections c) → WasConsumer b c h k ⊎ (k.queue ≡ m.queue) → Came_here
-        on its_seat (inl there) = before there
-        on its_seat (inr queue) = next queue its_seat (next_consumer c h (running_in kept.connections c)) refl
+        on its_numbers (inl there) = before there
+        on its_numbers (inr queue) = next queue its_numbers (next_consumer c h (running_in kept.connections c)) refl
 
-        seated : (v : Bool) → is_seating kept h (BasicConsume m) (running_in kept.connections c) ≡ v → Came_here
-        seated true makes = on (seat makes) (came t b new c h m content sends notes k (b.connection c) same has.was)
-        seated false makes = before (stays_unseated kept new c h m content sends notes k (running_in kept.connections c) refl makes same has.was)
+        if_made : (v : Bool) → makes_consumer kept h (BasicConsume m) (running_in kept.connections c) ≡ v → Came_here
+        if_made true makes = on (to_make makes) (came t b new c h m content sends notes k (b.connection c) same has.was)
+        if_made false makes = before (stays_unmade kept new c h m content sends notes k (running_in kept.connections c) refl makes same has.was)
 
     go : WasConsumer b c h k ⊎ IsMadeBy b e c h k → Came_here
     go (inl was) = before was

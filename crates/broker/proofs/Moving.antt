@@ -1,5 +1,5 @@
 -- Rounds of queues that have new indices, and the consumers in them.
-use Rattle.broker.proofs.Names.{◌∙◌, ◌<◌, ◌+◌, ℕ, zero, suc, List, [], ◌∷◌, Bool, true, false, Option, Some, None, length, map, get_or, set, inl, inr, refl, sym, ap, subst, arith, ◌==◌, nat_eq, option_map, lookup, eqb-true, leb_tells, length-set, length-map, get_or-set_same, get_or-set_other, lookup-map_values, IsIn, bit_of, place_now, Pick, Waiter, Waiters, Lists, Listing, Listings, round_of, round_at, awake_waiter, asleep_waiter, listings_on, channels_of, order, IsAwake, QueuesAreMarked, all_awake, HasWaiter, AllRoused, IsMoved, IsOfEither, IndicesDiffer, listing_moved, channels_moved, all_moved, ListsAreMoved}
+use Rattle.broker.proofs.Names.{◌∙◌, ◌<◌, ◌+◌, ℕ, zero, suc, List, [], ◌∷◌, Bool, true, false, Option, Some, None, length, map, get_or, set, inl, inr, refl, sym, ap, subst, arith, ◌==◌, nat_eq, option_map, lookup, eqb-true, leb_tells, length-set, length-map, get_or-set_same, get_or-set_other, lookup-map_values, IsIn, bit_of, place_now, Pick, Waiter, Waiters, Lists, Listing, Listings, round_of, round_at, awake_waiter, asleep_waiter, listings_on, channels_of, order, IsAwake, QueuesAreMarked, all_awake, HasWaiter, AllAreAwake, IsMoved, IsOfEither, IndicesDiffer, listing_moved, channels_moved, all_moved, ListsAreMoved}
 use Rattle.std.proofs.Common.{◌≡◌}
 use Rattle.broker.proofs.Among.{place_in}
 use Rattle.broker.proofs.Sleeping.{distinct}
@@ -12,8 +12,8 @@ awake_at (s ∷ waiters) zero d e lt = refl
 awake_at (s ∷ waiters) (suc i) d e lt = awake_at waiters i d e (omega (arith, lt))
 
 -- all waiters of a round are awake
-pub all_roused : (waiters : List Waiter) (old new : List ℕ) → ((i : ℕ) → i < length waiters → bit_of new i ≡ 1) → AllRoused (round_of waiters old) (round_of (all_awake waiters) new)
-all_roused waiters old new marked p in_line = go in_line
+pub all_are_awake : (waiters : List Waiter) (old new : List ℕ) → ((i : ℕ) → i < length waiters → bit_of new i ≡ 1) → AllAreAwake (round_of waiters old) (round_of (all_awake waiters) new)
+all_are_awake waiters old new marked p in_line = go in_line
   where
     at : (i : ℕ) (e : Waiter) → i < length waiters → (get_or waiters i e).pick ≡ p → IsAwake (round_of (all_awake waiters) new) p
     at i e lt is = (

@@ -1,7 +1,7 @@
 -- The names that several files of these proofs use.
 pub use Rattle.broker.specs.Lines.{AllDistinct, IsPassed, ahead, count_before, turned}
-pub use Rattle.broker.specs.Moving.{AllRoused, IndicesDiffer, IsMoved, IsOfEither, LinesCome, ListsAreMoved, RoundsAreMoved, HasWaiter, all_awake, all_moved, channels_moved, listing_moved, listings_moved}
-pub use Rattle.broker.specs.Rounds.{AddsGone, AddsItsOwn, AddsListing, AllAddTheirOwn, AllAreConsumers, AllAreEmpty, AllAreInRounds, AllAreNoted, AllListedAreThere, AllRun, AllWaken, AreBelow, CanListOn, AreItsConsumers, AreItsListings, Dozes, FallsAsleep, FindsWaiter, GoesLast, GoesOn, HasConsumer, HasJoined, HasListRoom, HasNoList, HasNoWaiter, HasRoom, IsAsleep, IsAsleepAt, IsAmongGone, IsAsleepIn, IsAt, IsAwake, IsAwakeAt, IsExpected, IsInItsRound, IsInRound, IsItsOwn, IsListed, IsListedAt, IsListedOn, IsListedOnAny, IsListedUnder, IsNextMarked, IsNoted, IsNotedOn, IsServing, IsWoken, KeepListingsOn, KeepLists, KeepRounds, KeepsAll, KeepsIn, KeepsListings, KeepsRound, KeepsWaiters, LeaveLine, LeaveLines, LeaveNamed, LeavesIfNamed, Listing, Listings, ListingsLeave, Lists, ListsItsOwn, ListsItsWaiters, ListsMore, ListsOneMore, ListsRunning, ListsStay, LosesOne, LosesWaiter, MakesNoList, NoneAwake, NoneAwakePassed, NoneBetween, NoneInRound, NoneMarked, NonePassed, NotesStay, NumbersRise, OthersStay, PicksFirst, PicksFrom, QueuesAreMarked, Rounds, SameListed, SameOrders, SleepMore, StaysAt, Waiters, Wakens, WakesListed, WakesWaiter, asleep_waiter, awake_waiter, bit_for, channels_of, has_remained, has_taker, is_able, is_consumer, is_listed_there, is_listing, is_numbered_of, is_of, is_on_channel, is_other, is_waiter_of, listed_on, listing, listings_of, listings_on, number_of, only_gone, order, picks, remains, round_at, round_of, rounds_of, takes_from, wakes, wakes_on}
+pub use Rattle.broker.specs.Moving.{AllAreAwake, IndicesDiffer, IsMoved, IsOfEither, LinesCome, ListsAreMoved, RoundsAreMoved, HasWaiter, all_awake, all_moved, channels_moved, listing_moved, listings_moved}
+pub use Rattle.broker.specs.Rounds.{AddsGone, AddsItsOwn, AddsListing, AllAddTheirOwn, AllAreConsumers, AllAreEmpty, AllAreInRounds, AllAreNoted, AllListedAreThere, AllRun, AllWaken, AreBelow, CanListOn, AreItsConsumers, AreItsListings, FallsAsleepIfUnable, FallsAsleep, FindsWaiter, GoesLast, GoesOn, HasConsumer, HasJoined, HasListRoom, HasNoList, HasNoWaiter, HasRoom, IsAsleep, IsAsleepAt, IsAmongGone, IsAsleepIn, IsAt, IsAwake, IsAwakeAt, IsExpected, IsInItsRound, IsInRound, IsItsOwn, IsListed, IsListedAt, IsListedOn, IsListedOnAny, IsListedUnder, IsNextMarked, IsNoted, IsNotedOn, IsServing, IsWoken, KeepListingsOn, KeepLists, KeepRounds, KeepsAll, KeepsIn, KeepsListings, KeepsRound, KeepsWaiters, LeaveLine, LeaveLines, LeaveNamed, LeavesIfNamed, Listing, Listings, ListingsLeave, Lists, ListsItsOwn, ListsItsWaiters, ListsMore, ListsOneMore, ListsRunning, ListsStay, LosesOne, LosesWaiter, MakesNoList, NoneAwake, NoneAwakePassed, NoneBetween, NoneInRound, NoneMarked, NonePassed, NotesStay, NumbersRise, OthersStay, PicksFirst, PicksFrom, QueuesAreMarked, Rounds, SameListed, SameOrders, SleepMore, StaysAt, Waiters, Wakens, WakesListed, WakesWaiter, asleep_waiter, awake_waiter, channels_of, has_remained, has_taker, is_able, is_consumer, is_listed_there, is_listing, is_numbered_of, is_of, is_on_channel, is_other, is_waiter_of, listed_on, listing, listings_of, listings_on, number_of, only_gone, order, picks, remains, round_at, round_of, rounds_of, takes_from, wakes, wakes_on}
 pub use Rattle.broker.specs.Turns.{WithTurn, with_turn}
 pub use Rattle.broker.specs.Waiting.{AllInLine, CanGive, IsFirst, IsServedSoon, IsPickedInTurn, LinesMove, LinesStay, NobodyIsPutBack, NobodyWaits, NoneIsLater, QueueWaits, ServesSoon, IsInLine, WaitersAreConsumers, Waits, ahead_at, line_at, owed, queues, count_before_at}
 pub use Rattle.broker.specs.declared.rounds.finding.Found.{Found}
@@ -18,9 +18,9 @@ pub use Rattle.commands.proofs.Ending.{delivery_runs, loss_ended, opening_runs, 
 pub use Rattle.commands.proofs.Picking.{pick_from, same_place}
 pub use Rattle.commands.proofs.Remaining.{one_stays, same_stay}
 pub use Rattle.commands.proofs.Stepping.{seen_there}
-pub use Rattle.commands.specs.Ended.{AllConsumersStay, AllRunStill, TellsEnd, TellsStay}
+pub use Rattle.commands.specs.Ended.{AllConsumersStay, AllRunStill, ReportsConsumers, ReportsEnd}
 pub use Rattle.commands.specs.Picked.{CannotTake, IsKeptAs, IsPick, IsPickFrom, TakesAs}
-pub use Rattle.commands.specs.NewConsumers.{IsConsumed, IsNewest, consumed, has_consumer, is_seating, next_consumer, consumer_to_make}
+pub use Rattle.commands.specs.NewConsumers.{IsConsumed, IsNewest, consumed, has_consumer, makes_consumer, next_consumer, consumer_to_make}
 pub use Rattle.commands.specs.State.{ArePlaced, Kept, names_of}
 pub use Rattle.commands.specs.declared.acted.Ends.{Ends}
 pub use Rattle.commands.specs.declared.picks.Pick.{Pick}
@@ -30,7 +30,7 @@ pub use Rattle.depot.specs.Store.{HasReady, IsStoreWhole, queue_at}
 pub use Rattle.exchange_graph.specs.Marks.{queue_name}
 pub use Rattle.laws.proofs.Counts.{count-append, count-cons, count-map}
 pub use Rattle.laws.specs.Consumers.{ConsumersAreMade, IsMadeBy, WasConsumer}
-pub use Rattle.marks.specs.Places.{Differs, bit_of}
+pub use Rattle.marks.specs.Sets.{Differs, Inserts, Removes, bit_of}
 pub use Rattle.model.specs.Agreement.{IsAgreed}
 pub use Rattle.model.specs.Broker.{Broker, Channel, Connection, Outstanding, is_ready, with_one, with_pair, with_row}
 pub use Rattle.model.specs.Consuming.{CanDeliver, MayTake, consumer_of, may_take, taker_of}

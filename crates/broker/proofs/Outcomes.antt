@@ -23,8 +23,8 @@ if_some None P Q f p = p
 if_some (Some x) P Q f p = f x p
 
 -- what is there is as it is told
-pub told_some : {A : Type 0} (o : Option A) (x : A) (P : A → Type 0) → o ≡ Some x → IfSome o P → P x
-told_some o x P is p = subst (λ (z : Option _). IfSome z P) is p
+pub some_holds : {A : Type 0} (o : Option A) (x : A) (P : A → Type 0) → o ≡ Some x → IfSome o P → P x
+some_holds o x P is p = subst (λ (z : Option _). IfSome z P) is p
 
 -- what follows of it from two facts follows
 pub if_both : {A : Type 0} (o : Option A) (P Q R : A → Type 0) → ((x : A) → P x → Q x → R x) → IfSome o P → IfSome o Q → IfSome o R

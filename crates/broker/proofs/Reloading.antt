@@ -14,8 +14,8 @@ use Rattle.broker.proofs.Takers.{has_of, of_has, order_at}
 -- ---- what is held and what is outstanding
 
 -- a mark is no holder
-pub agreed_stood : (b new : Broker) → Is (with_all_survived b) new → IsAgreed b → IsAgreed new
-agreed_stood b new is a = record {
+pub agreed_survived : (b new : Broker) → Is (with_all_survived b) new → IsAgreed b → IsAgreed new
+agreed_survived b new is a = record {
   held = λ q e holder i m.
       let was = seen_of survived_now e (b.queue q) (subst (λ (es : List Entry). IsIn e es) (is.queues q) i) in
       let out = a.held q was.one holder was.among (ap (λ (x : Entry). x.mark) was.is ∙ m) in record {
@@ -123,7 +123,7 @@ module _ (old new : Kept) (places : List ℕ) (after : IsStoreWhole new.store) (
       let within = has.within in
       let now = was.now in
       inl (subst (λ (n : ℕ). IsAwake (round_at left.rounds n) p) was.now
-      ((rounds was.from was.within (omega (arith, within, now, len))).roused p (in_line (broker_of old) before.lists was.from (round_at before.rounds was.from) p (joined was.from p was.has))))
+      ((rounds was.from was.within (omega (arith, within, now, len))).awake p (in_line (broker_of old) before.lists was.from (round_at before.rounds was.from) p (joined was.from p was.has))))
 
   -- and is listed there
   noted_moved : (before left : Rounds) → AllAreNoted (topology_kept old) (broker_of old) before.lists → ListsAreMoved places before.lists left.lists → AllAreNoted (topology_kept new) (broker_of new) left.lists
@@ -196,7 +196,7 @@ module _ (old new : Kept) (places : List ℕ) (after : IsStoreWhole new.store) (
       → length left.rounds ≡ length (topology_kept new).queues → IsServing new left
   serves_moved none_stranded before empty left serving rounds came none lists len =
       serves new left
-      (record { agreed = agreed_stood (broker_of old) (broker_of new) survived serving.agreed; rounds_for = len; joined = joined_moved before left serving.joined rounds len; noted = noted_moved before left serving.noted lists })
+      (record { agreed = agreed_survived (broker_of old) (broker_of new) survived serving.agreed; rounds_for = len; joined = joined_moved before left serving.joined rounds len; noted = noted_moved before left serving.noted lists })
       (running_still (broker_of old) (broker_of new) before.lists left.lists (λ d none. sym (survived.connections d) ∙ none) lists.made serving.running)
       (own_moved before empty left serving.own came none len) (listed_moved none_stranded before.lists left.lists serving.listed lists)
 

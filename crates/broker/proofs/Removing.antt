@@ -1,5 +1,5 @@
 -- A waiter is removed from its round: who stays, and in what order.
-use Rattle.broker.proofs.Names.{◌∙◌, ◌<◌, ◌≤◌, ◌+◌, ℕ, zero, suc, List, [], ◌∷◌, Bool, true, false, cond, length, take, get_or, filter, inl, inr, refl, sym, ap, subst, arith, not, leb_tells, drop_all, take_all, get_or_past, length-remove, get_or-remove_above, get_or-remove_below, remove, count-cons, IsIn, bit_of, Pick, Waiter, turned, AllDistinct, round_of, picks, awake_waiter, asleep_waiter, bit_for, is_consumer, is_other, Waiters, round_at, order, OthersStay, LosesOne, LosesWaiter, IsAwake}
+use Rattle.broker.proofs.Names.{◌∙◌, ◌<◌, ◌≤◌, ◌+◌, ℕ, zero, suc, List, [], ◌∷◌, Bool, true, false, cond, length, take, get_or, filter, inl, inr, refl, sym, ap, subst, arith, not, leb_tells, drop_all, take_all, get_or_past, length-remove, get_or-remove_above, get_or-remove_below, remove, count-cons, IsIn, bit_of, Pick, Waiter, turned, AllDistinct, round_of, picks, awake_waiter, asleep_waiter, Removes, is_consumer, is_other, Waiters, round_at, order, OthersStay, LosesOne, LosesWaiter, IsAwake}
 use Rattle.std.proofs.Common.{◌≡◌, ◌⊎◌}
 use Rattle.std.specs.Prelude.{count_by}
 use Rattle.broker.proofs.Among.{stays, one_consumer, same_consumer}
@@ -130,16 +130,16 @@ module _ (p : Pick) where
   ]
 
   -- all others stay where picks look at those that are awake
-  pub others_stay : (ws : List Waiter) (i : ℕ) (e : Waiter) (old new : List ℕ) → AllDistinct (picks ws) → i < length ws → ((d : Waiter) → (get_or ws i d).pick ≡ p) → ((k : ℕ) → k < i → bit_of new k ≡ bit_of old k)
-      → ((k : ℕ) (d : Waiter) → i ≤ k → k < length (remove ws i) → bit_of new k ≡ bit_for (get_or (remove ws i) k d).asleep) → OthersStay p (round_of ws old) (round_of (remove ws i) new)
-  others_stay ws i e old new once lt here before fits b lists queue q far (inr f) =
+  pub others_stay : (ws : List Waiter) (i : ℕ) (e : Waiter) (old new : List ℕ) → AllDistinct (picks ws) → i < length ws → ((d : Waiter) → (get_or ws i d).pick ≡ p)
+      → Removes (bit_of old) (bit_of new) i → OthersStay p (round_of ws old) (round_of (remove ws i) new)
+  others_stay ws i e old new once lt here m b lists queue q far (inr f) =
       inr (record {
         asleep = subst (λ (xs : List Waiter). IsIn (asleep_waiter q) xs) (sym (removed_is ws i e once lt (here e)))
             (stays test (asleep_waiter q) ws f.asleep (other p q (λ same. far (sym same))));
         cannot = f.cannot;
         listed = f.listed;
       })
-  others_stay ws i e old new once lt here before fits b lists queue q far (inl (j, at)) = elim (leb_tells (j + 1) i) [
+  others_stay ws i e old new once lt here m b lists queue q far (inl (j, at)) = elim (leb_tells (j + 1) i) [
     | inl a ↦
         let less = a.1 in
         let long = length-remove ws i lt in
@@ -148,10 +148,10 @@ module _ (p : Pick) where
           record {
             within = omega (arith, less, long, lt);
             there = λ d. get_or-remove_below ws i d j (omega (arith, less)) lt ∙ at.there d;
-            marked = before j (omega (arith, less)) ∙ at.marked;
+            marked = m.before j (omega (arith, less)) ∙ at.marked;
           },
         )
-    | inr a ↦ inl (behind j a.1 at.within at.there)
+    | inr a ↦ inl (behind j a.1 at.within at.there at.marked)
   ]
     where
       now : Waiters
@@ -161,16 +161,20 @@ module _ (p : Pick) where
       same_one : (j : ℕ) → j ≡ i → ((d : Waiter) → get_or ws j d ≡ awake_waiter q) → q ≡ p
       same_one j is there = sym (ap (λ (z : Waiter). z.pick) (there e)) ∙ ap (λ (n : ℕ). (get_or ws n e).pick) is ∙ here e
 
-      behind : (j : ℕ) → i < j + 1 → j < length ws → ((d : Waiter) → get_or ws j d ≡ awake_waiter q) → IsAwake now q
-      behind zero gt within there = absurd (far (same_one zero (omega (arith, gt)) there))
-      behind (suc k) gt within there = elim (leb_tells i k) [
+      behind : (j : ℕ) → i < j + 1 → j < length ws → ((d : Waiter) → get_or ws j d ≡ awake_waiter q) → bit_of old j ≡ 1 → IsAwake now q
+      behind zero gt within there marked = absurd (far (same_one zero (omega (arith, gt)) there))
+      behind (suc k) gt within there marked = elim (leb_tells i k) [
         | inl a ↦
             let le = a.1 in
             let long = length-remove ws i lt in
-            let lower : k < length (remove ws i) = omega (arith, long, within) in
-            let next : k + 1 ≡ suc k = omega arith in
-            let is : (d : Waiter) → get_or (remove ws i) k d ≡ awake_waiter q = λ d. get_or-remove_above ws i d k le lt ∙ ap (λ (n : ℕ). get_or ws n d) next ∙ there d in
-            (k, record { within = lower; there = is; marked = fits k e le lower ∙ ap (λ (z : Waiter). bit_for z.asleep) (is e) })
+            let next : k + 1 ≡ suc k = omega arith in (
+              k,
+              record {
+                within = omega (arith, long, within);
+                there = λ d. get_or-remove_above ws i d k le lt ∙ ap (λ (n : ℕ). get_or ws n d) next ∙ there d;
+                marked = m.behind k le ∙ ap (bit_of old) next ∙ marked;
+              },
+            )
         | inr a ↦
             let less = a.1 in
             absurd (far (same_one (suc k) (omega (arith, gt, less)) there))

@@ -1,5 +1,5 @@
 -- Waiters that fall asleep and are woken.
-use Rattle.broker.proofs.Names.{◌∙◌, ◌<◌, ◌≤◌, ◌+◌, ℕ, List, ◌++◌, Bool, true, false, length, get_or, set, filter, inl, inr, refl, sym, ap, subst, arith, ◌==◌, eqb-true, eq-eqb, false≢true, leb_tells, length-append, length-set, get_or-set_same, get_or-set_other, IsIn, Broker, MayTake, bit_of, Differs, same_default, Kept, IsPickFrom, CannotTake, Pick, Waiter, Waiters, Lists, Listing, round_of, picks, awake_waiter, asleep_waiter, is_of, listing, IsAwakeAt, IsAwake, IsAsleep, IsListed, IsInRound, KeepsIn, KeepsRound, ListsMore, ListsStay, NoneAwake, Dozes, FallsAsleep, NoneInRound, StaysAt, Wakens, AllWaken, IsWoken}
+use Rattle.broker.proofs.Names.{◌∙◌, ◌<◌, ◌≤◌, ◌+◌, ℕ, List, ◌++◌, Bool, true, false, length, get_or, set, filter, inl, inr, refl, sym, ap, subst, arith, ◌==◌, eqb-true, eq-eqb, false≢true, leb_tells, length-append, length-set, get_or-set_same, get_or-set_other, IsIn, Broker, MayTake, bit_of, Differs, same_default, Kept, IsPickFrom, CannotTake, Pick, Waiter, Waiters, Lists, Listing, round_of, picks, awake_waiter, asleep_waiter, is_of, listing, IsAwakeAt, IsAwake, IsAsleep, IsListed, IsInRound, KeepsIn, KeepsRound, ListsMore, ListsStay, NoneAwake, FallsAsleepIfUnable, FallsAsleep, NoneInRound, StaysAt, Wakens, AllWaken, IsWoken}
 use Rattle.std.proofs.Common.{◌≡◌, ◌⊎◌}
 use Rattle.commands.specs.State.{broker_of}
 use Rattle.broker.proofs.Picks.{picks_set, of_waiter}
@@ -64,8 +64,8 @@ module _ (waiters : List Waiter) (old new : List ℕ) (place : ℕ) (s : Waiter)
   asleep_here t p is = in_at (set waiters place t) place (asleep_waiter p) s (let long = length-set waiters place t in omega (arith, within, long)) (get_or-set_same waiters place t s within ∙ is)
 
   -- it is woken
-  pub roused : ((d : Waiter) → get_or waiters place d ≡ s) → Differs (bit_of old) (bit_of new) place 1 → Wakens (round_of waiters old) (round_of (set waiters place (awake_waiter s.pick)) new)
-  roused there d = record { awake = awake; asleep = asleep; same = picks_set waiters place (awake_waiter s.pick) s within (ap (λ (z : Waiter). z.pick) (sym (there s))); next = refl }
+  pub one_woken : ((d : Waiter) → get_or waiters place d ≡ s) → Differs (bit_of old) (bit_of new) place 1 → Wakens (round_of waiters old) (round_of (set waiters place (awake_waiter s.pick)) new)
+  one_woken there d = record { awake = awake; asleep = asleep; same = picks_set waiters place (awake_waiter s.pick) s within (ap (λ (z : Waiter). z.pick) (sym (there s))); next = refl }
     where
       here : (p : Pick) → s.pick ≡ p → IsAwake (round_of (set waiters place (awake_waiter s.pick)) new) p
       here p is = (place, awake_here (awake_waiter s.pick) p (ap awake_waiter is) d.there)
@@ -89,7 +89,7 @@ module _ (waiters : List Waiter) (old new : List ℕ) (place : ℕ) (s : Waiter)
 
   -- it was looked at, and fell asleep if it might
   pub rested : (kept : Kept) (queue : ℕ) (before after : Lists) (t : Waiter) → ((d : Waiter) → get_or waiters place d ≡ s) → ListsMore before after → (s.asleep ≡ true → t ≡ s)
-      → ((bit_of new place ≡ bit_of old place) × (t ≡ s)) ⊎ Dozes kept after queue s t
+      → ((bit_of new place ≡ bit_of old place) × (t ≡ s)) ⊎ FallsAsleepIfUnable kept after queue s t
       → ((k : ℕ) → (k ≡ place → ⊥) → bit_of new k ≡ bit_of old k) → KeepsIn kept queue before after (round_of waiters old) (round_of (set waiters place t) new)
   rested kept queue before after t there more still fell others p = keep
     where
@@ -105,7 +105,7 @@ module _ (waiters : List Waiter) (old new : List ℕ) (place : ℕ) (s : Waiter)
             listed = subst (λ (q : Pick). IsListed after (record { queue = queue; consumer = q })) own f.listed;
           })
 
-      looked : s ≡ awake_waiter p → bit_of old place ≡ 1 → is_of kept queue p ≡ true → ((bit_of new place ≡ bit_of old place) × (t ≡ s)) ⊎ Dozes kept after queue s t → Now
+      looked : s ≡ awake_waiter p → bit_of old place ≡ 1 → is_of kept queue p ≡ true → ((bit_of new place ≡ bit_of old place) × (t ≡ s)) ⊎ FallsAsleepIfUnable kept after queue s t → Now
       looked is one has (inl same) = inl (place, awake_here t p (same.1 ∙ is) (same.0 ∙ one))
       looked is one has (inr f) = fallen is (f (ap (λ (z : Waiter). z.asleep) is) (ap (λ (z : Waiter). is_of kept queue z.pick) is ∙ has))
 

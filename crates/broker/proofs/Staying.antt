@@ -190,17 +190,17 @@ last_own kept place front back q old new was now own = record {
     there p (inl j) = in_right p front (q ∷ back) (inr j)
     there p (inr j) = ahead p (in_either p front (q ∷ []) j)
 
-own_told : (kept : Kept) (old new : Rounds) (q : Pick) → PicksFirst kept old new q → AllAreConsumers kept old.rounds → AllAreConsumers kept new.rounds
-own_told kept old new q reported own place = go (place == reported.queue) refl
+own_first : (kept : Kept) (old new : Rounds) (q : Pick) → PicksFirst kept old new q → AllAreConsumers kept old.rounds → AllAreConsumers kept new.rounds
+own_first kept old new q picked own place = go (place == picked.queue) refl
   where
-    its : AreItsConsumers kept reported.queue (order (round_at new.rounds reported.queue))
-    its = let goes = reported.reported.round in last_own kept reported.queue goes.front goes.back q (order (round_at old.rounds reported.queue)) (order (round_at new.rounds reported.queue)) goes.was goes.now (own reported.queue)
+    its : AreItsConsumers kept picked.queue (order (round_at new.rounds picked.queue))
+    its = let goes = picked.picked.round in last_own kept picked.queue goes.front goes.back q (order (round_at old.rounds picked.queue)) (order (round_at new.rounds picked.queue)) goes.was goes.now (own picked.queue)
 
-    go : (v : Bool) → (place == reported.queue) ≡ v → AreItsConsumers kept place (order (round_at new.rounds place))
-    go true f = subst (λ (n : ℕ). AreItsConsumers kept n (order (round_at new.rounds n))) (sym (eqb-true place reported.queue f)) its
-    go false f = subst (AreItsConsumers kept place) (sym (reported.reported.others place (distinct place reported.queue f))) (own place)
+    go : (v : Bool) → (place == picked.queue) ≡ v → AreItsConsumers kept place (order (round_at new.rounds place))
+    go true f = subst (λ (n : ℕ). AreItsConsumers kept n (order (round_at new.rounds n))) (sym (eqb-true place picked.queue f)) its
+    go false f = subst (AreItsConsumers kept place) (sym (picked.picked.others place (distinct place picked.queue f))) (own place)
 
 -- a pick leaves each line its consumers
 pub own_picked : (kept : Kept) (old new : Rounds) (o : Option Pick) → IfSome o (PicksFirst kept old new) → (o ≡ None → GoesOn old new) → AllAreConsumers kept old.rounds → AllAreConsumers kept new.rounds
-own_picked kept old new None reported on own = own_same kept old.rounds new.rounds (on refl).same own
-own_picked kept old new (Some q) reported on own = own_told kept old new q reported own
+own_picked kept old new None picked on own = own_same kept old.rounds new.rounds (on refl).same own
+own_picked kept old new (Some q) picked on own = own_first kept old new q picked own

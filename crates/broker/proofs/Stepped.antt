@@ -1,11 +1,11 @@
 -- What a step leaves.
-use Rattle.broker.proofs.Names.{◌∙◌, ◌++◌, ℕ, List, [], ◌∷◌, true, false, Option, Some, None, length, inl, inr, refl, sym, ap, subst, ◌==◌, IfSome, Broker, Acts, IsIn, Event, Send, Note, WasConsumer, ConsumersAreMade, connection_of_event, AllRunStill, AllConsumersStay, TellsEnd, Kept, consumer_to_make, IsConsumed, Ends, Pick, Rounds, Waiters, Lists, KeepsIn, KeepLists, round_at, listing, is_of, wakes, IsServing, AllRun, AllAreConsumers, AllListedAreThere, SameListed, ListsItsOwn, ListsItsWaiters, ListingsLeave, HasJoined, AllAddTheirOwn, AllWaken, KeepsWaiters, KeepsAll, LeaveLines, ListsRunning, HasNoList, MakesNoList, NotesStay, IsExpected, WakesWaiter, GoesOn}
+use Rattle.broker.proofs.Names.{◌∙◌, ◌++◌, ℕ, List, [], ◌∷◌, true, false, Option, Some, None, length, inl, inr, refl, sym, ap, subst, ◌==◌, IfSome, Broker, Acts, IsIn, Event, Send, Note, WasConsumer, ConsumersAreMade, connection_of_event, AllRunStill, AllConsumersStay, ReportsEnd, Kept, consumer_to_make, IsConsumed, Ends, Pick, Rounds, Waiters, Lists, KeepsIn, KeepLists, round_at, listing, is_of, wakes, IsServing, AllRun, AllAreConsumers, AllListedAreThere, SameListed, ListsItsOwn, ListsItsWaiters, ListingsLeave, HasJoined, AllAddTheirOwn, AllWaken, KeepsWaiters, KeepsAll, LeaveLines, ListsRunning, HasNoList, MakesNoList, NotesStay, IsExpected, WakesWaiter, GoesOn}
 use Rattle.std.proofs.Common.{◌≡◌}
 use Rattle.model.specs.Broker.{Consumer}
 use Rattle.commands.specs.State.{broker_of, topology_kept}
 use Rattle.commands.specs.declared.acted.Ends.TheVariants as ended
 use Rattle.broker.specs.declared.rounds.waiters.Newcomer.{Newcomer}
-use Rattle.broker.proofs.Outcomes.{told_some}
+use Rattle.broker.proofs.Outcomes.{some_holds}
 use Rattle.broker.proofs.Joined.{StayAgreed, Holds, holds, serves, serves_kept, serves_next, running_still, running_but, notes_keep, keeps_all}
 use Rattle.broker.proofs.Orders.{goes_then}
 use Rattle.broker.proofs.Sleeping.{joined_kept}
@@ -20,8 +20,8 @@ pub lists_kept : (k : Kept) (old new : Lists) (rounds : List Waiters) → KeepLi
 lists_kept k old new rounds keeps place p i has = joined_kept k old new place (round_at rounds place) p (keeps.listed (listing place p)) has i
 
 -- a connection of which this is reported is no longer running
-pub has_ended : (c : ℕ) (ends : Ends) (old new : Broker) → TellsEnd c ends old new → ends ≡ ended.Connection → new.connection c ≡ None
-has_ended c ends old new tells is = (subst (λ (x : Ends). TellsEnd c x old new) is tells).0
+pub has_ended : (c : ℕ) (ends : Ends) (old new : Broker) → ReportsEnd c ends old new → ends ≡ ended.Connection → new.connection c ≡ None
+has_ended c ends old new tells is = (subst (λ (x : Ends). ReportsEnd c x old new) is tells).0
 
 -- ---- a step
 
@@ -76,7 +76,7 @@ module _ (old : Kept) (before woken ready : Rounds) (e : Event) (serving : IsSer
       (lists_own : ListsItsOwn new ready.lists after.lists) (makes_none : MakesNoList ready.lists after.lists) (len : length after.rounds ≡ length ready.rounds) where
     has_joined : (place : ℕ) (p : Pick) → IsConsumed (topology_kept old) e place → consumer_to_make old e ≡ Some p → is_of new place p ≡ true → HasJoined after place p
     has_joined place p here is its =
-        told_some newcomer (record { queue = place; consumer = p }) (λ n. is_of new n.queue n.consumer ≡ true → HasJoined after n.queue n.consumer) (expected.reported place p here is) joined its
+        some_holds newcomer (record { queue = place; consumer = p }) (λ n. is_of new n.queue n.consumer ≡ true → HasJoined after n.queue n.consumer) (expected.reported place p here is) joined its
 
     pub held_then : Holds new after
     held_then =
@@ -111,7 +111,7 @@ module _ (old : Kept) (before woken ready : Rounds) (e : Event) (serving : IsSer
       pub own_left_then : AllAreConsumers new left.rounds
       own_left_then = own_came old new c before.rounds after.rounds left.rounds topology others serving.own (adds_then new after adds) leave
 
-      pub serving_left : (ends : Ends) → TellsEnd c ends (broker_of old) (broker_of new) → KeepsWaiters new after left → KeepLists new after.lists left.lists → (ends ≡ ended.Connection → HasNoList left.lists c) → MakesNoList after.lists left.lists
+      pub serving_left : (ends : Ends) → ReportsEnd c ends (broker_of old) (broker_of new) → KeepsWaiters new after left → KeepLists new after.lists left.lists → (ends ≡ ended.Connection → HasNoList left.lists c) → MakesNoList after.lists left.lists
           → ListingsLeave new c after.lists left.lists → length left.rounds ≡ length after.rounds → IsServing new left
       serving_left ends tells keeps_there noted_there gone makes lists_leave long =
           serves new left (serves_kept new after left keeps_there noted_there.noted long held_then) (runs ends tells gone) own_left_then
@@ -120,7 +120,7 @@ module _ (old : Kept) (before woken ready : Rounds) (e : Event) (serving : IsSer
           made : MakesNoList ready.lists left.lists
           made d from = makes d (makes_none d from)
 
-          runs : (x : Ends) → TellsEnd c x (broker_of old) (broker_of new) → (x ≡ ended.Connection → HasNoList left.lists c) → AllRun (broker_of new) left.lists
+          runs : (x : Ends) → ReportsEnd c x (broker_of old) (broker_of new) → (x ≡ ended.Connection → HasNoList left.lists c) → AllRun (broker_of new) left.lists
           runs ended.Connection ends_it forgets = running_but (broker_of old) (broker_of new) ready.lists left.lists c ends_it.1 (λ from. forgets refl) made lists_on
           runs ended.Consumers runs_on forgets = running_still (broker_of old) (broker_of new) ready.lists left.lists runs_on made lists_on
           runs ended.Nothing runs_on forgets = running_still (broker_of old) (broker_of new) ready.lists left.lists runs_on made lists_on

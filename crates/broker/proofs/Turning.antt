@@ -4,7 +4,7 @@ use Rattle.std.proofs.Common.{◌≡◌}
 use Rattle.commands.specs.State.{broker_of, topology_kept}
 use Rattle.broker.proofs.Among.{one_consumer, same_consumer, stays}
 use Rattle.broker.proofs.Later.{of_remains}
-use Rattle.broker.proofs.Nearer.{in_order, standing_before}
+use Rattle.broker.proofs.Nearer.{in_order, count_before_in_front}
 use Rattle.broker.proofs.Joined.{Holds, holds}
 use Rattle.broker.proofs.Standing.{fewer, filter_twice}
 use Rattle.broker.proofs.Takers.{has_of, of_has, has_takes, takes_has, line_is, order_at, orders_same}
@@ -12,12 +12,12 @@ use Rattle.broker.proofs.Takers.{has_of, of_has, has_takes, takes_has, line_is, 
 -- ---- who is in an order
 
 -- whoever takes from a queue waits in its round
-stand_in : (kept : Kept) (r : Rounds) (place : ℕ) → Holds kept r → place < length (topology_kept kept).queues → (p : Pick) → takes_from (broker_of kept) (queue_name (topology_kept kept) place) p ≡ true → IsIn p (order (round_at r.rounds place))
-stand_in kept r place held lt p takes = in_order (broker_of kept) r.lists place (round_at r.rounds place) p (held.joined place p (takes_has (topology_kept kept) (broker_of kept) place p lt takes))
+in_line_of : (kept : Kept) (r : Rounds) (place : ℕ) → Holds kept r → place < length (topology_kept kept).queues → (p : Pick) → takes_from (broker_of kept) (queue_name (topology_kept kept) place) p ≡ true → IsIn p (order (round_at r.rounds place))
+in_line_of kept r place held lt p takes = in_order (broker_of kept) r.lists place (round_at r.rounds place) p (held.joined place p (takes_has (topology_kept kept) (broker_of kept) place p lt takes))
 
 -- then it is in the queue's order, and nothing else is
-pub all_stand : (kept : Kept) (r : Rounds) (x : Option Pick) → Holds kept r → AllAreConsumers kept r.rounds → AllInLine (with_turn kept r x)
-all_stand kept r x held own place p = (into, out)
+pub all_in_line : (kept : Kept) (r : Rounds) (x : Option Pick) → Holds kept r → AllAreConsumers kept r.rounds → AllInLine (with_turn kept r x)
+all_in_line kept r x held own place p = (into, out)
   where
     into : HasConsumer (topology_kept kept) (broker_of kept) place p → IsIn p (line_at (with_turn kept r x) place)
     into has = subst (IsIn p) (sym (order_at r.rounds place)) (in_order (broker_of kept) r.lists place (round_at r.rounds place) p (held.joined place p has))
@@ -28,7 +28,7 @@ all_stand kept r x held own place p = (into, out)
 -- and it does so once
 pub waiters_own : (kept : Kept) (r : Rounds) (x : Option Pick) → IsServing kept r → WaitersAreConsumers (with_turn kept r x)
 waiters_own kept r x serving = record {
-  complete = all_stand kept r x (holds kept r serving) serving.own;
+  complete = all_in_line kept r x (holds kept r serving) serving.own;
   once = λ place. subst (λ (ps : List Pick). AllDistinct ps) (sym (order_at r.rounds place)) (serving.own place).once;
 }
 
@@ -83,8 +83,8 @@ module _ (old new : Kept) (r s : Rounds) (x y : Option Pick) (is : topology_kept
       let line = order (round_at r.rounds place) in
       let round = keeps place f (λ q e. there place lt q e) in
       let own_there : (q : Pick) → IsIn q line → f q ≡ true → g q ≡ true = λ q i e. has_takes t (broker_of old) place q (of_has old place q ((was place).there q i)) in
-      let among = stays f p line (stand_in old r place held lt p (has_takes t (broker_of old) place p had)) (has_takes t (broker_of new) place p has) in
-      let only = standing_before p (filter f line) round.0 among in
+      let among = stays f p line (in_line_of old r place held lt p (has_takes t (broker_of old) place p had)) (has_takes t (broker_of new) place p has) in
+      let only = count_before_in_front p (filter f line) round.0 among in
       let le = fewer (is_consumer p) p (one_consumer p) (same_consumer p) f g line own_there (λ v. has_takes t (broker_of new) place p has) in
       subst (λ (ps : List Pick). count_before (is_consumer p) ps ≤ count_before_at (with_turn old r x) place p) (sym (line_then place ∙ round.1))
       (subst (λ (ps : List Pick). count_before (is_consumer p) (filter f line ++ round.0) ≤ count_before (is_consumer p) ps) (sym (line_is old r.rounds place was)) (omega (arith, only, le)))

@@ -15,7 +15,7 @@ nears : (place : ℕ) (p : Pick) (start now : WithTurn) (served owes : ℕ) → 
 nears place p start _ _ _ begins = omega arith
 nears place p start _ _ _ (passed {served} {owes} {old} {new} w over) =
     let near = nears place p start old served owes w in
-    let less = nearer_here old new place over.reported p over.first over.in_line over.could over.other in
+    let less = nearer_here old new place over.picked p over.first over.in_line over.could over.other in
     omega (arith, near, less)
 nears place p start _ _ _ (other {served} {owes} {old} {new} w done) =
     let near = nears place p start old served owes w in
@@ -34,9 +34,9 @@ nears place p start _ _ _ (stays {served} {owes} {old} {new} w left) =
     let le = left.back.lines place p left.was left.still in
     omega (arith, near, le)
 
-standing_in : (p : Pick) (xs : List Pick) → IsIn p xs → count_before (is_consumer p) xs < length xs
-standing_in p [] i = absurd i
-standing_in p (x ∷ xs) i = go (is_consumer p x) refl i (standing_in p xs)
+count_before_less : (p : Pick) (xs : List Pick) → IsIn p xs → count_before (is_consumer p) xs < length xs
+count_before_less p [] i = absurd i
+count_before_less p (x ∷ xs) i = go (is_consumer p x) refl i (count_before_less p xs)
   where
     go : (v : Bool) → is_consumer p x ≡ v → IsIn p (x ∷ xs) → (IsIn p xs → count_before (is_consumer p) xs < length xs) → (if v then 0 else 1 + count_before (is_consumer p) xs) < length (x ∷ xs)
     go true e j rest = omega arith
@@ -46,7 +46,7 @@ standing_in p (x ∷ xs) i = go (is_consumer p x) refl i (standing_in p xs)
 fewer : (place : ℕ) (p : Pick) (start now : WithTurn) (served owes : ℕ) → IsInLine start place p → Waits place p start served owes now → IsServedSoon start place served owes
 fewer place p start now served owes in_line w =
     let near = nears place p start now served owes w in
-    let less = standing_in p (line_at start place) in_line in
+    let less = count_before_less p (line_at start place) in_line in
     omega (arith, near, less)
 
 -- ---- one queue
@@ -62,11 +62,11 @@ same_ahead old new place next topology = ap (λ (t : Topology). ahead (length t.
 
 queue_nears : (place : ℕ) (start now : WithTurn) (served owes : ℕ) → QueueWaits place start served owes now → QueueNears place start served owes now
 queue_nears place start _ _ _ q_begins = record { topology = refl; near = omega arith }
-queue_nears place start _ _ _ (q_passed {served} {owes} {old} {new} reported queue w can far first kept) =
+queue_nears place start _ _ _ (q_passed {served} {owes} {old} {new} picked queue w can far first kept) =
     let n = queue_nears place start old served owes w in
     let near = n.near in
     let topology = ap core.topology_kept kept in
-    let less = queue_nearer old new place queue reported first can far topology in
+    let less = queue_nearer old new place queue picked first can far topology in
     record { topology = topology ∙ n.topology; near = omega (arith, near, less) }
 queue_nears place start _ _ _ (q_other {served} {owes} {old} {new} w next topology) =
     let n = queue_nears place start old served owes w in
@@ -87,9 +87,9 @@ queue_fewer place start now served owes lt w =
 
 -- ---- all of it
 
--- whoever waits while another is served that was told
-pub serves_soon : (b : WithTurn) (reported : Pick) → ServesSoon b reported
-serves_soon b reported place p start served owes in_line w = fewer place p start b served owes in_line w
+-- whoever waits while another, which was picked, is served
+pub serves_soon : (b : WithTurn) (picked : Pick) → ServesSoon b picked
+serves_soon b picked place p start served owes in_line w = fewer place p start b served owes in_line w
 
 pub nobody_waits : NobodyWaits
 nobody_waits = record { nearer = nears; fewer = fewer; soon = serves_soon; queue = queue_fewer }

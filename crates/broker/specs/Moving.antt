@@ -16,12 +16,12 @@ abbrev pub HasWaiter : Waiters → Pick → Type 0
 HasWaiter r p = IsAwake r p ⊎ IsAsleep r p
 
 -- each consumer with a waiter in the old round has one in the new round, awake
-abbrev pub AllRoused : Waiters → Waiters → Type 0
-AllRoused old new = (p : Pick) → HasWaiter old p → IsAwake new p
+abbrev pub AllAreAwake : Waiters → Waiters → Type 0
+AllAreAwake old new = (p : Pick) → HasWaiter old p → IsAwake new p
 
 -- Each waiter of the old round is in the new one, awake, and their order is the same.
 pub record IsMoved (old new : Waiters) : Type 0 where
-  pub roused : AllRoused old new
+  pub awake : AllAreAwake old new
   pub same : order new ≡ order old
 
 -- no two entries of the table are the same index below `count`

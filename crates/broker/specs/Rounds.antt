@@ -1,6 +1,6 @@
 -- The round of consumers of each queue, over which deliveries go, and which of the consumers are passed over (own).
 use Rattle.std.specs.Prelude.{◌≡◌, ◌==◌, ◌&&◌, ◌<◌, ◌≤◌, ◌*◌, ◌+◌, ◌⊎◌, ◌++◌, ◌||◌, ℕ, List, []}
-use Rattle.std.specs.Prelude.{◌∷◌, map, filter, if◌then◌else◌, Bool, true, false, not, Option, Some, None, length}
+use Rattle.std.specs.Prelude.{◌∷◌, map, filter, Bool, true, false, not, Option, Some, None, length}
 use Rattle.std.specs.Prelude.{slice_index_or, nat_eq, nat_lt, IfSome}
 use Rattle.std.specs.List.{list_any, All}
 use Rattle.std.specs.Map.{lookup}
@@ -15,7 +15,7 @@ use Rattle.model.specs.declared.events.Event.TheVariants.{Command, Resume}
 use Rattle.model.specs.declared.methods.Method.{Method}
 use Rattle.model.specs.declared.methods.Method.TheVariants.{BasicPublish, BasicGet}
 use Rattle.laws.specs.Consumers.{WasConsumer}
-use Rattle.marks.specs.Places.{bit_of}
+use Rattle.marks.specs.Sets.{bit_of}
 use Rattle.depot.specs.Store.{HasReady}
 use Rattle.exchange_graph.specs.Marks.{queue_name}
 use Rattle.commands.specs.State.{Kept, broker_of, topology_kept}
@@ -124,10 +124,6 @@ awake_waiter p = record { pick = p; asleep = false }
 -- consumer `p`'s waiter, asleep
 abbrev pub asleep_waiter : Pick → Waiter
 asleep_waiter p = record { pick = p; asleep = true }
-
--- the bit of a waiter, by whether it sleeps
-abbrev pub bit_for : Bool → ℕ
-bit_for asleep = if asleep then 0 else 1
 
 -- Consumer `p`'s waiter is at this index, awake, and its bit is 1, so that picks look at it.
 pub record IsAwakeAtIndex (waiters : List Waiter) (marks : List ℕ) (place : ℕ) (p : Pick) : Type 0 where
@@ -411,7 +407,7 @@ pub record PicksFirst (kept : Kept) (old new : Rounds) (p : Pick) : Type 0 where
   pub could : IsPickFrom kept queue p
   pub within : queue < length old.rounds
   pub passed : NonePassed kept old old.next queue
-  pub reported : PicksFrom kept old.lists old.rounds new.rounds queue p
+  pub picked : PicksFrom kept old.lists old.rounds new.rounds queue p
   pub next : new.next ≡ queue + 1
 
 -- ---- removing consumers
@@ -640,8 +636,8 @@ pub record FallsAsleep (b : Broker) (lists : Lists) (queue : ℕ) (old new : Wai
   pub listed : IsListed lists (listing queue old.pick)
 
 -- the waiter fell asleep (`FallsAsleep`), if it was awake and its consumer exists
-abbrev pub Dozes : Kept → Lists → ℕ → Waiter → Waiter → Type 0
-Dozes kept lists queue old new = old.asleep ≡ false → is_of kept queue old.pick ≡ true → FallsAsleep (broker_of kept) lists queue old new
+abbrev pub FallsAsleepIfUnable : Kept → Lists → ℕ → Waiter → Waiter → Type 0
+FallsAsleepIfUnable kept lists queue old new = old.asleep ≡ false → is_of kept queue old.pick ≡ true → FallsAsleep (broker_of kept) lists queue old new
 
 -- Waiters are woken: those awake stay awake, those asleep stay asleep or are awake now, and all keep their index.
 pub record Wakens (old new : Waiters) : Type 0 where

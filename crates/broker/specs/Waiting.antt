@@ -34,7 +34,7 @@ ahead_at b place = ahead (queues b) b.next place
 -- 1 if a consumer is picked, as the delivery to it is still to be made; otherwise 0
 abbrev pub owed : Option Pick → ℕ
 owed None = 0
-owed (Some reported) = 1
+owed (Some picked) = 1
 
 -- the consumer exists and takes from the queue at this index
 abbrev pub TakesAt : WithTurn → ℕ → Pick → Type 0
@@ -79,45 +79,45 @@ pub record LinesMove (old new : WithTurn) : Type 0 where
 abbrev pub CanGive : WithTurn → ℕ → Type 0
 CanGive b place = (p : Pick) × IsPickFrom b.kept place p
 
--- Consumer `reported` is picked, from the queue at index `queue`: no delivery can be made from a queue whose turn is before that, nor to a consumer
--- ahead of `reported` in the queue's order. `reported` goes to the end of the order, behind those that were ahead of it; all other orders are unchanged.
-pub record IsFirst (old : WithTurn) (reported : Pick) (queue : ℕ) (new : WithTurn) : Type 0 where
-  pub could : IsPickFrom old.kept queue reported
+-- Consumer `picked` of the queue at index `queue` is the first: no delivery can be made from a queue whose turn is before that, nor to a consumer
+-- ahead of `picked` in the queue's order. `picked` goes to the end of the order, behind those that were ahead of it; all other orders are unchanged.
+pub record IsFirst (old : WithTurn) (picked : Pick) (queue : ℕ) (new : WithTurn) : Type 0 where
+  pub could : IsPickFrom old.kept queue picked
   pub queues_before : (at : ℕ) → IsPassed (queues old) old.next queue at → CanGive old at → ⊥
   pub next : new.next ≡ queue + 1
   pub front : List Pick
   pub back : List Pick
-  pub was : line_at old queue ≡ front ++ reported ∷ back
-  pub now : line_at new queue ≡ back ++ front ++ reported ∷ []
+  pub was : line_at old queue ≡ front ++ picked ∷ back
+  pub now : line_at new queue ≡ back ++ front ++ picked ∷ []
   pub before : (p : Pick) → IsIn p front → IsPickFrom old.kept queue p → ⊥
   pub others : (at : ℕ) → (at ≡ queue → ⊥) → line_at new at ≡ line_at old at
 
--- `reported` was picked and not served, and is picked again, and no order changes; or it is the first to which a delivery can be made (`IsFirst`)
+-- `picked` was picked and not served, and is picked again, and no order changes; or it is the first to which a delivery can be made (`IsFirst`)
 abbrev pub IsPickedInTurn : WithTurn → Pick → WithTurn → Type 0
-IsPickedInTurn old reported new = ((old.turn ≡ Some reported) × LinesStay old new) ⊎ ((queue : ℕ) × IsFirst old reported queue new)
+IsPickedInTurn old picked new = ((old.turn ≡ Some picked) × LinesStay old new) ⊎ ((queue : ℕ) × IsFirst old picked queue new)
 
 -- ---- a consumer that waits
 
 -- Another consumer of the queue at index `place` is picked, though a delivery could be made from the queue to consumer `p`.
 pub record IsPassedOver (old new : WithTurn) (place : ℕ) (p : Pick) : Type 0 where
-  pub reported : Pick
+  pub picked : Pick
   pub in_line : IsInLine old place p
   pub could : IsPickFrom old.kept place p
-  pub other : p ≡ reported → ⊥
-  pub first : IsFirst old reported place new
+  pub other : p ≡ picked → ⊥
+  pub first : IsFirst old picked place new
 
 -- A consumer of another queue is picked.
 pub record IsBeside (old new : WithTurn) (place : ℕ) (p : Pick) : Type 0 where
-  pub reported : Pick
+  pub picked : Pick
   pub queue : ℕ
   pub far : place ≡ queue → ⊥
-  pub first : IsFirst old reported queue new
+  pub first : IsFirst old picked queue new
 
 -- The delivery to another consumer, which was picked, is made, and consumer `p` still exists.
 pub record IsServedAnother (old new : WithTurn) (place : ℕ) (p : Pick) : Type 0 where
-  pub reported : Pick
-  pub owed : old.turn ≡ Some reported
-  pub other : p ≡ reported → ⊥
+  pub picked : Pick
+  pub owed : old.turn ≡ Some picked
+  pub other : p ≡ picked → ⊥
   pub later : NoneIsLater old new
   pub still : TakesAt new place p
 
@@ -149,8 +149,8 @@ pub data Waits (place : ℕ) (p : Pick) (start : WithTurn) : ℕ → ℕ → Wit
 pub data QueueWaits (place : ℕ) (start : WithTurn) : ℕ → ℕ → WithTurn → Type 0 where
   begins : QueueWaits place start 0 (owed start.turn) start
   -- a consumer of another queue is picked, though a delivery could be made from the queue at index `place`
-  passed : {served owes : ℕ} {old new : WithTurn} (reported : Pick) (queue : ℕ) → QueueWaits place start served owes old → CanGive old place
-      → (place ≡ queue → ⊥) → IsFirst old reported queue new → new.kept ≡ old.kept → QueueWaits place start served 1 new
+  passed : {served owes : ℕ} {old new : WithTurn} (picked : Pick) (queue : ℕ) → QueueWaits place start served owes old → CanGive old place
+      → (place ≡ queue → ⊥) → IsFirst old picked queue new → new.kept ≡ old.kept → QueueWaits place start served 1 new
   -- the delivery that was owed, if any, is made, or something else happens; an owed delivery counts as made in either case
   other : {served owes : ℕ} {old new : WithTurn} → QueueWaits place start served owes old → new.next ≡ old.next
       → topology_kept new ≡ topology_kept old → QueueWaits place start (served + owes) 0 new
@@ -164,9 +164,9 @@ pub data QueueWaits (place : ℕ) (start : WithTurn) : ℕ → ℕ → WithTurn 
 abbrev pub IsServedSoon : WithTurn → ℕ → ℕ → ℕ → Type 0
 IsServedSoon start place served owes = served + owes < length (line_at start place) + owed start.turn
 
--- each consumer that waits while `reported` is served was passed over by few deliveries of its queue (`IsServedSoon`), this delivery among them
+-- each consumer that waits while `picked` is served was passed over by few deliveries of its queue (`IsServedSoon`), this delivery among them
 abbrev pub ServesSoon : WithTurn → Pick → Type 0
-ServesSoon old reported = (place : ℕ) (p : Pick) (start : WithTurn) (served owes : ℕ) → IsInLine start place p → Waits place p start served owes old
+ServesSoon old picked = (place : ℕ) (p : Pick) (start : WithTurn) (served owes : ℕ) → IsInLine start place p → Waits place p start served owes old
     → IsServedSoon start place served owes
 
 -- No consumer and no queue starves:
@@ -178,7 +178,7 @@ pub record NobodyWaits : Type 0 where
   pub fewer : (place : ℕ) (p : Pick) (start now : WithTurn) (served owes : ℕ) → IsInLine start place p → Waits place p start served owes now
       → IsServedSoon start place served owes
   -- whoever waits at a delivery was passed over by fewer deliveries of its queue than the queue has consumers, not counting one that was owed
-  pub soon : (b : WithTurn) (reported : Pick) → ServesSoon b reported
+  pub soon : (b : WithTurn) (picked : Pick) → ServesSoon b picked
   -- a queue from which a delivery can be made is passed over by fewer deliveries than there are queues, not counting one that was owed
   pub queue : (place : ℕ) (start now : WithTurn) (served owes : ℕ) → place < queues start → QueueWaits place start served owes now
       → served + owes < queues start + owed start.turn

@@ -64,10 +64,9 @@ impl Model for Broker {
 }
 
 impl Broker {
-    ghost use Rattle.std.specs.Prelude.{◌≡◌, [], ℕ, None, Some, IfSome, IfOk, IsOk, OnOk, OnErr};
+    ghost use Rattle.std.specs.Prelude.{◌≡◌, ℕ, None, Some, IfSome, IfOk, IsOk, OnOk, OnErr};
     ghost use Rattle.model.specs.Arrivals.{IsSaid};
     ghost use Rattle.model.specs.Consuming.{CanDeliver};
-    ghost use Rattle.model.specs.Naming.{AreNamed};
     ghost use Rattle.model.specs.Reloading.{NoneIsOrphaned, with_all_survived};
     ghost use Rattle.model.specs.Sending.{AreCarried};
     ghost use Rattle.model.specs.Step.{Acts, Is};
@@ -78,7 +77,7 @@ impl Broker {
     ghost use Rattle.commands.specs.Judged.{IsAsked, WantsNoMemory};
     ghost use Rattle.commands.specs.Picked.{IsPick, DeliversTo};
     ghost use Rattle.commands.specs.declared.picks.Pick.{Pick as Consumer};
-    ghost use Rattle.broker.specs.Turns.{broker_of, topology_kept};
+    ghost use Rattle.broker.specs.Turns.{broker_of, topology_kept, ActsAlone, AddressesTo};
     ghost use Rattle.broker.specs.Waiting.{AllInLine, WaitersAreConsumers, NobodyIsPutBack, NoneIsLater, LinesStay, IsPickedInTurn, LinesMove, ServesSoon};
     ghost use Rattle.replies.specs.Sent.{AreAddressed, connection_of_event};
 
@@ -198,8 +197,7 @@ impl Broker {
         requires { IsPick (broker_of self.old) pick }
         // The promise: this delivery, whose send goes to the consumer's connection.
         ensures ok { IfOk result (λ s. DeliversTo (broker_of self.old) pick s.sends.items s.notes.items (broker_of self.new)) }
-        ensures addressed { IfOk result (λ s. AreCarried (broker_of self.old)
-            → AreNamed (topology_kept self.old) (broker_of self.old) → AreAddressed pick.connection s.sends.items) }
+        ensures addressed { IfOk result (λ s. AddressesTo self.old pick.connection s.sends.items) }
         // The turn is over, no consumer is put back, and those that wait were passed over by few deliveries.
         ensures over { OnOk result (self.new.turn ≡ None) }
         ensures later { OnOk result (NoneIsLater self.old self.new) }
@@ -224,8 +222,7 @@ impl Broker {
         channel_max: u16,
         channels: u16,
     ) -> Result<(), AllocError>
-        ensures ok { OnOk result (Acts (topology_kept self.old) (broker_of self.old)
-            (event_is.Running connection channel_max channels) [] [] (broker_of self.new)) }
+        ensures ok { OnOk result (ActsAlone self.old (event_is.Running connection channel_max channels) self.new) }
         ensures topology { topology_kept self.new ≡ topology_kept self.old }
         ensures turn { self.new.turn ≡ self.old.turn }
         ensures later { OnOk result (NoneIsLater self.old self.new) }
@@ -240,7 +237,7 @@ impl Broker {
 
     /// Removes a connection that is lost, with its channels: its unacknowledged messages are ready again. Never allocates.
     pub fn lose(&mut self, connection: u64)
-        ensures acts { Acts (topology_kept self.old) (broker_of self.old) (event_is.Lose connection) [] [] (broker_of self.new) }
+        ensures acts { ActsAlone self.old (event_is.Lose connection) self.new }
         ensures topology { topology_kept self.new ≡ topology_kept self.old }
         ensures turn { self.new.turn ≡ self.old.turn }
         ensures later { NoneIsLater self.old self.new }
@@ -253,7 +250,7 @@ impl Broker {
 
     /// Records that the output of `connection` holds 1,048,576 bytes or more. Never allocates.
     pub fn pause(&mut self, connection: u64)
-        ensures acts { Acts (topology_kept self.old) (broker_of self.old) (event_is.Pause connection) [] [] (broker_of self.new) }
+        ensures acts { ActsAlone self.old (event_is.Pause connection) self.new }
         ensures topology { topology_kept self.new ≡ topology_kept self.old }
         ensures turn { self.new.turn ≡ self.old.turn }
         ensures later { NoneIsLater self.old self.new }
@@ -265,7 +262,7 @@ impl Broker {
 
     /// Records that the output of `connection` holds fewer than 1,048,576 bytes again. Never allocates.
     pub fn resume(&mut self, connection: u64)
-        ensures acts { Acts (topology_kept self.old) (broker_of self.old) (event_is.Resume connection) [] [] (broker_of self.new) }
+        ensures acts { ActsAlone self.old (event_is.Resume connection) self.new }
         ensures topology { topology_kept self.new ≡ topology_kept self.old }
         ensures turn { self.new.turn ≡ self.old.turn }
         ensures later { NoneIsLater self.old self.new }

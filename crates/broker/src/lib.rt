@@ -13,4 +13,4 @@ pub use brokers::Broker;
 pub use commands::Pick;
 pub use model::Event;
 pub use replies::Step;
-pub use waiting::nobody_waits;
+pub use waiting::ghost_nobody_waits;

@@ -260,7 +260,7 @@ impl ConsumerRounds {
         ensures some { IfSome result (λ p. (place : ℕ) × IsPickFrom core.now place p) }
         ensures none { result ≡ None → (place : ℕ) (p : Consumer) → IsInItsRound (broker_of core.now) self.old place p → IsPickFrom core.now place p → ⊥ }
         // The picked consumer is the first in order; if none is picked, every order is unchanged.
-        ensures reported { IfSome result (λ p. PicksFirst core.now self.old self.new p) }
+        ensures picked { IfSome result (λ p. PicksFirst core.now self.old self.new p) }
         ensures on { result ≡ None → GoesOn self.old self.new }
     {
         let found = self.rounds.pick(core, &mut self.sleepers, self.next)?;

@@ -1,13 +1,17 @@
 -- Files of certificates that are found one by one.
-use Rattle.certificate.proofs.Names.{◌≡◌, ◌<◌, ◌≤◌, ◌+◌, ℕ, Bool, true, false, List, [], ◌∷◌, ◌++◌, length, map, Some, refl, sym, ap, subst, ◌∙◌, arith, append-nil, append_assoc, length-append, lt-ltb, nat_lt, AllByRecursion, tokens, print, begin_array, Data, depth, read, items_of, IsInOrder, comma_if, compact_text, has_float, items_text, Certificate, Whole, Sliced, Excepting, ReadsBackWithin, Texts, certificate_data, file_data, form_data, AreTexts, FailsToWrite, HasNoFile, HasPut, IsBegun, IsFile, begun, listed}
+use Rattle.certificate.proofs.Names.{◌≡◌, ◌<◌, ◌≤◌, ◌+◌, ℕ, Bool, true, false, List, [], ◌∷◌, ◌++◌, length, map, Some, refl, sym, ap, subst, ◌∙◌, arith, append-nil, append_assoc, length-append, lt-ltb, nat_lt, AllByRecursion, Data, Option, None, Result, Ok, Err, leb-true, false≢true, suc, zero, take, get_or, read, items_of, comma_if, compact_text, items_text, Certificate, Whole, Sliced, Excepting, ReadsBackWithin, Texts, certificate_data, file_data, form_data, AreTexts, FailsToWrite, HasNoFile, HasPut, IsBegun, IsFile, IsWritten, begun, listed}
 use Rattle.std.specs.Prelude.{IsUtf8}
+use Rattle.std.proofs.lemmas.List.{take_all, take_more}
 use Rattle.std.proofs.lemmas.Str.{IsUtf8-append}
-use Rattle.json.proofs.Printed.Utf8.{IsUtf8-are_ascii, IsUtf8-separator}
+use Rattle.json.proofs.Printed.Utf8.{IsUtf8-are_ascii}
 use Rattle.model.specs.Certificates.{Form}
 use Rattle.certificate.specs.declared.unwritten.Unwritten.{Unwritten}
 use Rattle.certificate.specs.declared.unwritten.Unwritten.TheVariants.{NotText, TooLong, Memory}
-use Rattle.certificate.proofs.Joining.{joins, within}
-use Rattle.certificate.proofs.Spelling.{certificate_depth, certificate_whole, file_back}
+use Rattle.certificate.specs.Drafts.{IsListed, Puts, with_put}
+use Rattle.certificate.specs.Writes.{FailsToPut, HasCertificate, PutsCertificate}
+use Rattle.certificate.proofs.Joining.{joins}
+use Rattle.certificate.proofs.Pieces.{certificate_reads_back, certificate_utf8, comma_utf8}
+use Rattle.certificate.proofs.Spelling.{file_back}
 
 -- ---- lists
 
@@ -28,13 +32,6 @@ all_mapped [] h = tt
 all_mapped (c ∷ cs) h = (h.0, all_mapped cs h.1)
 
 -- ---- bytes
-
-comma_utf8 : (b : Bool) → IsUtf8 (comma_if b)
-comma_utf8 true = IsUtf8-separator true begin_array
-comma_utf8 false = IsUtf8-separator false begin_array
-
-pub opening_utf8 : IsUtf8 (91 ∷ [])
-opening_utf8 = IsUtf8-are_ascii (91 ∷ []) refl
 
 closing_utf8 : IsUtf8 (93 ∷ [])
 closing_utf8 = IsUtf8-are_ascii (93 ∷ []) refl
@@ -74,8 +71,8 @@ file_closed cs = ap (λ (s : List ℕ). 91 ∷ s) (closes false cs)
 
 some_text : (form : Form) (t : Texts) (states : Data) → 0 < length (compact_text (form_data form t states))
 some_text Whole t states = omega arith
-some_text (Sliced places) t states = omega arith
-some_text (Excepting excepts places) t states = omega arith
+some_text (Sliced indices) t states = omega arith
+some_text (Excepting excepts indices) t states = omega arith
 
 -- something stands behind the first bracket where there is a certificate
 some_before : (cs : List Certificate) → nat_lt 1 (length (begun cs)) ≡ later_after false cs
@@ -95,20 +92,35 @@ begun_more cs c old new is appends =
 
 -- ---- one more
 
-pub has_put : (c : Certificate) (d : Data) (old mid new s : List ℕ) → d ≡ certificate_data c → (has_float d ≡ false → s ≡ compact_text d) → s ≡ print (tokens s) → IsInOrder s d
-    → (depth d ≤ 127 → read s ≡ Some d) → IsUtf8 s → mid ≡ old ++ comma_if (nat_lt 1 (length old)) → new ≡ mid ++ s → HasPut old new c
-has_put c d old mid new s is compact printed order back utf8 m n =
+has_put : (c : Certificate) (old mid new : List ℕ) → mid ≡ old ++ comma_if (nat_lt 1 (length old)) → HasCertificate mid new c → HasPut old new c
+has_put c old mid new m h =
     let comma = comma_if (nat_lt 1 (length old)) in
-    let few : depth (certificate_data c) ≤ 3 = certificate_depth c in
-    let same : s ≡ compact_text (certificate_data c) = compact (ap has_float is ∙ certificate_whole c) ∙ ap compact_text is in
-    let in_order : IsInOrder s (certificate_data c) = subst (λ (z : Data). IsInOrder s z) is order in
-    let reads : read s ≡ Some (certificate_data c) = subst (λ (z : Data). read s ≡ Some z) is (back (subst (λ (z : Data). depth z ≤ 127) (sym is) (omega (arith, few)))) in
-    let whole : new ≡ (old ++ comma) ++ s = n ∙ ap (λ (z : List ℕ). z ++ s) m in
+    let text = compact_text (certificate_data c) in
+    let whole : new ≡ (old ++ comma) ++ text = h.text ∙ ap (λ (z : List ℕ). z ++ text) m in
     record {
-      appends = whole ∙ append_assoc old comma s ∙ ap (λ (z : List ℕ). old ++ (comma ++ z)) same;
-      utf8 = λ u. subst IsUtf8 (sym whole) (IsUtf8-append (old ++ comma) s (IsUtf8-append old comma u (comma_utf8 (nat_lt 1 (length old)))) utf8);
-      back = within s (certificate_data c) same printed in_order reads (omega (arith, few));
+      appends = whole ∙ append_assoc old comma text;
+      utf8 = λ u. subst IsUtf8 (sym whole) (IsUtf8-append (old ++ comma) text (IsUtf8-append old comma u (comma_utf8 (nat_lt 1 (length old)))) (certificate_utf8 c h.texts h.states h.indices));
+      back = certificate_reads_back c h.texts h.states h.indices;
     }
+
+-- a failure behind the comma is one of the text with the comma
+fails_to_put : (c : Certificate) (most : Option ℕ) (old mid : List ℕ) (why : Unwritten) → mid ≡ old ++ comma_if (nat_lt 1 (length old))
+    → FailsToPut why most (length (mid ++ compact_text (certificate_data c))) (AreTexts c) → FailsToPut why most (length (with_put old c)) (AreTexts c)
+fails_to_put c most old mid why m f =
+    let text = compact_text (certificate_data c) in
+    subst (λ (z : List ℕ). FailsToPut why most (length z) (AreTexts c)) (ap (λ (z : List ℕ). z ++ text) m ∙ append_assoc old (comma_if (nat_lt 1 (length old))) text) f
+
+pub puts : (c : Certificate) (result : Result (Unit {0}) Unwritten) (most : Option ℕ) (old mid new : List ℕ) → mid ≡ old ++ comma_if (nat_lt 1 (length old)) → PutsCertificate result most mid new c
+    → Puts result most old new c
+puts c (Ok u) most old mid new m h = has_put c old mid new m h
+puts c (Err why) most old mid new m h = fails_to_put c most old mid why m h
+
+listed_with : (cs : List Certificate) (c : Certificate) (old new : List ℕ) → IsListed old cs → HasPut old new c → IsListed new (cs ++ c ∷ [])
+listed_with cs c old new b p = record {
+  text = begun_more cs c old new b.text p.appends;
+  utf8 = p.utf8 b.utf8;
+  back = all_more (λ (d : Certificate). ReadsBackWithin (certificate_data d)) cs c b.back p.back;
+}
 
 pub begun_with : (cs : List Certificate) (c : Certificate) (old new : List ℕ) → IsBegun old cs → HasPut old new c → length new < 16777216 → IsBegun new (cs ++ c ∷ [])
 begun_with cs c old new b p short = record {
@@ -126,10 +138,17 @@ grown_past cs c old new b p long =
     let e = length-append new (93 ∷ []) in
     omega (arith, a, e, long)
 
-pub fails_with : (cs : List Certificate) (c : Certificate) (why : Unwritten) → FailsToWrite why (AreTexts c) → HasNoFile why (cs ++ c ∷ [])
-fails_with cs c NotText f = λ all. f (all_last AreTexts cs c all)
-fails_with cs c TooLong f = absurd f
-fails_with cs c Memory f = tt
+pub fails_with : (cs : List Certificate) (c : Certificate) (old : List ℕ) (why : Unwritten) → IsBegun old cs → FailsToPut why (Some 16777216) (length (with_put old c)) (AreTexts c)
+    → HasNoFile why (cs ++ c ∷ [])
+fails_with cs c old NotText b f = λ all. f (all_last AreTexts cs c all)
+fails_with cs c old TooLong b f =
+    let text : with_put old c ≡ begun (cs ++ c ∷ []) = begun_more cs c old (with_put old c) b.text refl in
+    let closed : compact_text (file_data (cs ++ c ∷ [])) ≡ with_put old c ++ 93 ∷ [] = file_closed (cs ++ c ∷ []) ∙ ap (λ (z : List ℕ). z ++ 93 ∷ []) (sym text) in
+    let a = ap (λ (z : List ℕ). length z) closed in
+    let e = length-append (with_put old c) (93 ∷ []) in
+    let long : 16777216 ≤ length (with_put old c) = leb-true _ _ f in
+    omega (arith, a, e, long)
+fails_with cs c old Memory b f = tt
 
 pub fails_still : (cs : List Certificate) (c : Certificate) (why : Unwritten) → HasNoFile why cs → HasNoFile why (cs ++ c ∷ [])
 fails_still cs c NotText f = λ all. f (all_front AreTexts cs c all)
@@ -162,3 +181,41 @@ file_of cs old new b is =
         states = file_back cs;
       };
     }
+
+written : (cs : List Certificate) (old new : List ℕ) → IsListed old cs → new ≡ old ++ 93 ∷ [] → IsWritten new cs
+written cs old new b is =
+    let compact : new ≡ compact_text (file_data cs) = is ∙ ap (λ (z : List ℕ). z ++ 93 ∷ []) b.text ∙ sym (file_closed cs) in
+    record {
+      compact = compact;
+      reads_back = λ short. record {
+        value = file_data cs;
+        json = record {
+          short = short;
+          text = subst IsUtf8 (sym is) (IsUtf8-append old (93 ∷ []) b.utf8 closing_utf8);
+          value = ap read compact ∙ joins (map certificate_data cs) (all_mapped cs b.back);
+        };
+        states = file_back cs;
+      };
+    }
+
+-- of the texts of all certificates so are those of each
+texts_at : (cs : List Certificate) (i : ℕ) (c : Certificate) → AllByRecursion AreTexts cs → i < length cs → c ≡ get_or cs i c → AreTexts c
+texts_at [] i c all lt is = absurd (omega (arith, lt))
+texts_at (d ∷ cs) zero c all lt is = subst AreTexts (sym is) all.0
+texts_at (d ∷ cs) (suc i) c all lt is = texts_at cs i c all.1 (omega (arith, lt)) is
+
+-- one certificate isn't written, so all are not
+pub fails_at : (cs : List Certificate) (i : ℕ) (c : Certificate) (why : Unwritten) (n : ℕ) → i < length cs → c ≡ get_or cs i c → FailsToPut why None n (AreTexts c)
+    → FailsToWrite why (AllByRecursion AreTexts cs)
+fails_at cs i c NotText n lt is f = λ all. f (texts_at cs i c all lt is)
+fails_at cs i c TooLong n lt is f = false≢true f
+fails_at cs i c Memory n lt is f = tt
+
+pub listed_next : (cs : List Certificate) (i : ℕ) (c : Certificate) (old new : List ℕ) → i < length cs → c ≡ get_or cs i c → IsListed old (take i cs) → HasPut old new c
+    → IsListed new (take (i + 1) cs)
+listed_next cs i c old new lt is b p =
+    let more : take (i + 1) cs ≡ take i cs ++ c ∷ [] = take_more cs i c lt ∙ ap (λ (d : Certificate). take i cs ++ d ∷ []) (sym is) in
+    subst (λ (ds : List Certificate). IsListed new ds) (sym more) (listed_with (take i cs) c old new b p)
+
+pub written_whole : (cs : List Certificate) (i : ℕ) (old new : List ℕ) → length cs ≤ i → IsListed old (take i cs) → new ≡ old ++ 93 ∷ [] → IsWritten new cs
+written_whole cs i old new le b is = written cs old new (subst (λ (ds : List Certificate). IsListed old ds) (take_all i cs le) b) is

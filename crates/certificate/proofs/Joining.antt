@@ -1,5 +1,5 @@
 -- Texts of values that are joined to that of an array are read back as that array.
-use Rattle.certificate.proofs.Names.{◌≡◌, ◌≤◌, ℕ, suc, max, Bool, true, false, List, [], ◌∷◌, ◌++◌, fold, Some, Option, refl, sym, ap, ap₂, ◌∙◌, arith, append-nil, append_assoc, option_and_then, AllByRecursion, tokens, print, ends, Data, array, Items, Members, read, of_json, of_items, items_of, compact_text, items_text, comma_if, outline, items_outline, members_outline, blank, blank_items, blank_members, IsInOrder, ReadsBackWithin}
+use Rattle.certificate.proofs.Names.{◌≡◌, ◌≤◌, ℕ, suc, max, Bool, true, false, List, [], ◌∷◌, ◌++◌, fold, Some, Option, refl, sym, ap, ap₂, ◌∙◌, arith, append-nil, append_assoc, option_and_then, AllByRecursion, tokens, print, ends, Data, array, Items, Members, read, of_json, of_items, items_of, compact_text, items_text, comma_if, outline, items_outline, members_outline, ReadsBackWithin}
 use Rattle.std.specs.Prelude.{option_map}
 use Rattle.json.specs.Token.{Token}
 use Rattle.json.specs.Print.{print_from}
@@ -8,27 +8,10 @@ use Rattle.json.specs.Tree as tree
 use Rattle.json.specs.Tree.{json_tokens, items_tokens, members_tokens, HasNumbers, ItemsHaveNumbers}
 use Rattle.json.proofs.Printed.Tokens.{tokens-print, print_from-append}
 use Rattle.json.proofs.Printed.Trees.{value-json_tokens, ArePrintable-json_tokens}
-use Rattle.json.proofs.Numbered.{value-HasNumbers, ArePrintableOrBad-tokens}
+use Rattle.serde_json.proofs.Texts.{print-outline}
 use Rattle.serde_json.specs.Data as shape
 
 -- ---- depth
-
-mutual
-  blank_depth : (j : json.Json) → tree.depth (blank j) ≡ tree.depth j
-  blank_depth json.null = refl
-  blank_depth (json.boolean b) = refl
-  blank_depth (json.number s) = refl
-  blank_depth (json.string s) = refl
-  blank_depth (json.array js) = ap suc (blank_items_depth js)
-  blank_depth (json.object ms) = ap suc (blank_members_depth ms)
-
-  blank_items_depth : (js : json.Items) → tree.items_depth (blank_items js) ≡ tree.items_depth js
-  blank_items_depth json.no_items = refl
-  blank_items_depth (json.item j js) = ap₂ max (blank_depth j) (blank_items_depth js)
-
-  blank_members_depth : (ms : json.Members) → tree.members_depth (blank_members ms) ≡ tree.members_depth ms
-  blank_members_depth json.no_members = refl
-  blank_members_depth (json.member k j ms) = ap₂ max (blank_depth j) (blank_members_depth ms)
 
 mutual
   outline_depth : (d : Data) → tree.depth (outline d) ≡ shape.depth d
@@ -53,18 +36,14 @@ mutual
 abbrev last_of : Option (json.Json × List Token) → Option json.Json
 last_of o = option_and_then (λ p. json.if_last p.0 p.1) o
 
-pub within : (text : List ℕ) (d : Data) → text ≡ compact_text d → text ≡ print (tokens text) → IsInOrder text d → read text ≡ Some d → shape.depth d ≤ 126 → ReadsBackWithin d
-within text d compact printed order back shallow =
-    let j = order.0 in
-    let few : tree.depth j ≤ 126 = (let a = blank_depth j in let b = ap tree.depth order.2 in let e = outline_depth d in omega (arith, a, b, e, shallow)) in
-    let found : json.value 127 (tokens text) ≡ Some (j, []) = ap (json.value 127) (order.1 ∙ sym (append-nil (json_tokens j))) ∙ value-json_tokens j 127 [] (omega (arith, few)) in
-    record {
-      json = j;
-      text = sym compact ∙ printed ∙ ap print order.1;
-      value = sym (ap (λ (o : Option (json.Json × List Token)). option_and_then of_json (last_of o)) found) ∙ back;
-      numbers = value-HasNumbers 127 (tokens text) [] j (ArePrintableOrBad-tokens text) found;
-      shallow = few;
-    }
+pub within : (d : Data) → of_json (outline d) ≡ Some d → HasNumbers (outline d) → shape.depth d ≤ 126 → ReadsBackWithin d
+within d value numbers shallow = record {
+  json = outline d;
+  text = sym (print-outline d);
+  value = value;
+  numbers = numbers;
+  shallow = (let e = outline_depth d in omega (arith, e, shallow));
+}
 
 -- ---- what is printed of some values
 

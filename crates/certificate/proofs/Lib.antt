@@ -7,6 +7,8 @@ pub mod Walking
 pub mod Listed
 pub mod Spelling
 pub mod Joining
+pub mod Pieces
+pub mod Appended
 pub mod Drafting
 pub mod Routed
 pub mod Refuting

@@ -58,8 +58,8 @@ rises_tell ns = (rises_pairs ns, pairs_rise ns)
 
 -- ---- places of a list
 
-pub below_tells : (places : List ℕ) (count : ℕ) → Decides (list_all (λ (i : ℕ). nat_lt i count) places) (AllByRecursion (λ i. i < count) places)
-below_tells places count = (to places, from places)
+pub below_tells : (indices : List ℕ) (count : ℕ) → Decides (list_all (λ (i : ℕ). nat_lt i count) indices) (AllByRecursion (λ i. i < count) indices)
+below_tells indices count = (to indices, from indices)
   where
     to : (ns : List ℕ) → list_all (λ (i : ℕ). nat_lt i count) ns ≡ true → AllByRecursion (λ i. i < count) ns
     to [] e = tt
@@ -79,8 +79,8 @@ one_more (Some x) found rest = append_assoc found (x ∷ []) rest
 -- the list tells what is chosen
 pub chosen_same : (form : Form) (list ps others : List Tracked) → AreChosen form list ps → AreChosen form list others → ps ≡ others
 chosen_same Whole list ps others a b = a ∙ sym b
-chosen_same (Sliced places) list ps others a b = a.1 ∙ sym b.1
-chosen_same (Excepting excepts places) list ps others a b = a.1 ∙ sym b.1
+chosen_same (Sliced indices) list ps others a b = a.1 ∙ sym b.1
+chosen_same (Excepting excepts indices) list ps others a b = a.1 ∙ sym b.1
 
 -- ---- texts
 

@@ -3,8 +3,8 @@ use Rattle.certificate.proofs.Names.{◌≡◌, ℕ, ◌<◌, List, [], ◌∷�
 use Rattle.std.specs.Prelude.{◌||◌}
 use Rattle.model.specs.Routing.{Picks, none, take, pass, Routes, Reading, Edge, bound, alternate, default}
 use Rattle.model.specs.declared.topologies.DeclaredQueue.{DeclaredQueue}
-use Rattle.model.specs.declared.topologies.Place.{Place}
-use Rattle.model.specs.declared.topologies.Place.TheVariants as place
+use Rattle.model.specs.declared.topologies.Destination.{Destination}
+use Rattle.model.specs.declared.topologies.Destination.TheVariants as destination
 use Rattle.exchange_graph.specs.Targets.{AreTargets}
 use Rattle.exchange_graph.specs.Marks.{queue_name}
 use Rattle.topology_drafts.proofs.Members.{in_get, get_in, in_map, map_in, in_contains}
@@ -35,8 +35,8 @@ routed_target t x key targets at q w a h e s =
     subst (λ (i : ℕ). IsIn i targets) same m.1
 
 -- what is routed to is there
-edge_there : {t : Topology} {r : Reading} {name : Text} {to : Place} (q : Text) → IsWellFormed t → Edge t r name to → to ≡ place.Queue q → IsIn q (queue_names t.queues)
-edge_there {t} q w (bound x b c e s p) z = subst (λ (y : Place). IsThere t y) (s.leads ∙ z) (w.ends b s.is_binding)
+edge_there : {t : Topology} {r : Reading} {name : Text} {to : Destination} (q : Text) → IsWellFormed t → Edge t r name to → to ≡ destination.Queue q → IsIn q (queue_names t.queues)
+edge_there {t} q w (bound x b c e s p) z = subst (λ (y : Destination). IsThere t y) (s.leads ∙ z) (w.ends b s.is_binding)
 edge_there q w (alternate x c e o s) z = absurd (cc)
 edge_there {t} q w (default {queue = queue} d c e n) z =
     let same : queue ≡ q = cc in
@@ -53,7 +53,7 @@ any_at x y ys true w d e ih = (λ h. inl (sym (d refl)), λ h. refl)
 any_at x y ys false w d e ih = (λ h. inr (ih.0 h), λ h. (elim h [ inl q ↦ absurd (let z : false ≡ true = e q in cc) | inr r ↦ ih.1 r ]))
 
 -- some place is this one
-pub any_place : (place : ℕ) (ps : List ℕ) → Decides (list_any (λ (p : ℕ). p == place) ps) (IsIn place ps)
-any_place place [] = (λ h. absurd (cc), λ h. absurd h)
-any_place place (p ∷ ps) =
-    any_at place p ps (eqb p place) (list_any (λ (q : ℕ). q == place) ps) (λ q. eqb-true p place q) (λ q. eq-eqb p place (sym q)) (any_place place ps)
+pub any_index : (place : ℕ) (ps : List ℕ) → Decides (list_any (λ (p : ℕ). p == place) ps) (IsIn place ps)
+any_index place [] = (λ h. absurd (cc), λ h. absurd h)
+any_index place (p ∷ ps) =
+    any_at place p ps (eqb p place) (list_any (λ (q : ℕ). q == place) ps) (λ q. eqb-true p place q) (λ q. eq-eqb p place (sym q)) (any_index place ps)

@@ -1,7 +1,6 @@
 -- What is written is read back.
-use Rattle.certificate.proofs.Names.{◌≡◌, ◌≤◌, ℕ, List, [], ◌∷◌, map, false, refl, sym, ap, subst, ◌∙◌, Option, Some, arith, option_and_then, Data, string, depth, items_depth, items_of, read, compact_text, has_float, items_have_float, whole_number, Text, Certificate, Whole, Sliced, Excepting, number_data, state_data, states_data, places_data, excepts_data, Texts, texts_of, form_data, certificate_data, file_data, IsWritten}
+use Rattle.certificate.proofs.Names.{◌≡◌, ◌≤◌, ℕ, List, [], ◌∷◌, map, false, refl, ap, ◌∙◌, Option, Some, arith, option_and_then, Data, string, depth, items_depth, items_of, has_float, items_have_float, whole_number, Text, Certificate, Whole, Sliced, Excepting, number_data, state_data, states_data, indices_data, excepts_data, Texts, texts_of, form_data, certificate_data, file_data}
 use Rattle.std.proofs.Common.{option_map}
-use Rattle.std.specs.Prelude.{IsUtf8}
 use Rattle.serde_json.specs.Find.{as_str}
 use Rattle.serde_json.proofs.OnLiterals.{serde_json_on_literals}
 use Rattle.json_file.specs.Members.{array_member, each, text_member}
@@ -41,11 +40,11 @@ behind_back t form ss = ap (λ (o : Option (List (List ℕ))). option_and_then (
 form_back : (form : Form) (t : Texts) (ss : List (List ℕ)) → certificate_at (form_data form t (states_data ss)) ≡ Some (made t form ss)
 unfolding certificate_at form_at form_of whole_at sliced_at excepting_at excepting_of tracked_at excepts_at states_at array_member text_member serde_json_on_literals
 form_back Whole t ss = behind_back t Whole ss
-form_back (Sliced places) t ss = ap (λ (o : Option (List ℕ)). option_and_then (behind t ss) (option_map Sliced o)) (numbers_back places) ∙ behind_back t (Sliced places) ss
-form_back (Excepting excepts places) t ss =
-    ap (λ (o : Option (List Text)). option_and_then (behind t ss) (option_and_then (λ (es : List Text). option_and_then (λ (ns : List ℕ). Some (Excepting es ns)) (each whole_number (items_of (map number_data places)))) o)) (texts_back excepts)
-    ∙ ap (λ (o : Option (List ℕ)). option_and_then (behind t ss) (option_and_then (λ (ns : List ℕ). Some (Excepting excepts ns)) o)) (numbers_back places)
-    ∙ behind_back t (Excepting excepts places) ss
+form_back (Sliced indices) t ss = ap (λ (o : Option (List ℕ)). option_and_then (behind t ss) (option_map Sliced o)) (numbers_back indices) ∙ behind_back t (Sliced indices) ss
+form_back (Excepting excepts indices) t ss =
+    ap (λ (o : Option (List Text)). option_and_then (behind t ss) (option_and_then (λ (es : List Text). option_and_then (λ (ns : List ℕ). Some (Excepting es ns)) (each whole_number (items_of (map number_data indices)))) o)) (texts_back excepts)
+    ∙ ap (λ (o : Option (List ℕ)). option_and_then (behind t ss) (option_and_then (λ (ns : List ℕ). Some (Excepting excepts ns)) o)) (numbers_back indices)
+    ∙ behind_back t (Excepting excepts indices) ss
 
 certificate_back : (c : Certificate) → certificate_at (certificate_data c) ≡ Some c
 certificate_back c = form_back c.form (texts_of c) c.states
@@ -66,22 +65,19 @@ state_depth s = let a = each_depth number_data 0 (λ n. omega arith) s in omega 
 states_depth : (ss : List (List ℕ)) → depth (states_data ss) ≤ 2
 states_depth ss = let a = each_depth state_data 1 state_depth ss in omega (arith, a)
 
-places_depth : (places : List ℕ) → depth (places_data places) ≤ 1
-places_depth places = state_depth places
+indices_depth : (indices : List ℕ) → depth (indices_data indices) ≤ 1
+indices_depth indices = state_depth indices
 
 excepts_depth : (excepts : List Text) → depth (excepts_data excepts) ≤ 1
 excepts_depth excepts = let a = each_depth string 0 (λ t. omega arith) excepts in omega (arith, a)
 
 form_depth : (form : Form) (t : Texts) (ss : List (List ℕ)) → depth (form_data form t (states_data ss)) ≤ 3
 form_depth Whole t ss = let a = states_depth ss in omega (arith, a)
-form_depth (Sliced places) t ss = let a = states_depth ss in let b = places_depth places in omega (arith, a, b)
-form_depth (Excepting excepts places) t ss = let a = states_depth ss in let b = places_depth places in let d = excepts_depth excepts in omega (arith, a, b, d)
+form_depth (Sliced indices) t ss = let a = states_depth ss in let b = indices_depth indices in omega (arith, a, b)
+form_depth (Excepting excepts indices) t ss = let a = states_depth ss in let b = indices_depth indices in let d = excepts_depth excepts in omega (arith, a, b, d)
 
 pub certificate_depth : (c : Certificate) → depth (certificate_data c) ≤ 3
 certificate_depth c = form_depth c.form (texts_of c) c.states
-
-pub file_depth : (cs : List Certificate) → depth (file_data cs) ≤ 127
-file_depth cs = let a = each_depth certificate_data 3 certificate_depth cs in omega (arith, a)
 
 -- ---- no floats
 
@@ -89,36 +85,5 @@ each_whole : {A : Type 0} (f : A → Data) → ((x : A) → has_float (f x) ≡ 
 each_whole f h [] = refl
 each_whole f h (x ∷ xs) = rw (h x) (each_whole f h xs)
 
-states_whole : (ss : List (List ℕ)) → has_float (states_data ss) ≡ false
-states_whole ss = each_whole state_data (λ s. each_whole number_data (λ n. refl) s) ss
-
-places_whole : (places : List ℕ) → has_float (places_data places) ≡ false
-places_whole places = each_whole number_data (λ n. refl) places
-
-excepts_whole : (excepts : List Text) → has_float (excepts_data excepts) ≡ false
+pub excepts_whole : (excepts : List Text) → has_float (excepts_data excepts) ≡ false
 excepts_whole excepts = each_whole string (λ t. refl) excepts
-
-form_whole : (form : Form) (t : Texts) (ss : List (List ℕ)) → has_float (form_data form t (states_data ss)) ≡ false
-form_whole Whole t ss = rw (states_whole ss) refl
-form_whole (Sliced places) t ss = rw (states_whole ss, places_whole places) refl
-form_whole (Excepting excepts places) t ss = rw (states_whole ss, places_whole places, excepts_whole excepts) refl
-
-pub certificate_whole : (c : Certificate) → has_float (certificate_data c) ≡ false
-certificate_whole c = form_whole c.form (texts_of c) c.states
-
-pub file_whole : (cs : List Certificate) → has_float (file_data cs) ≡ false
-file_whole cs = each_whole certificate_data certificate_whole cs
-
-pub written : (bytes text : List ℕ) (d : Data) (cs : List Certificate) → d ≡ file_data cs → (has_float d ≡ false → text ≡ compact_text d) → (depth d ≤ 127 → read text ≡ Some d) → IsUtf8 text → bytes ≡ text → IsWritten bytes cs
-written bytes text d cs same compact back utf8 is = record {
-  compact = is ∙ compact (ap has_float same ∙ file_whole cs) ∙ ap compact_text same;
-  reads_back = λ short. record {
-    value = d;
-    json = record {
-      short = short;
-      text = subst (λ (z : List ℕ). IsUtf8 z) (sym is) utf8;
-      value = ap read is ∙ back (subst (λ (z : Data). depth z ≤ 127) (sym same) (file_depth cs));
-    };
-    states = ap certificates_stated same ∙ file_back cs;
-  };
-}

@@ -10,7 +10,7 @@ use Rattle.certificate.specs.declared.unwritten.Unwritten.TheVariants.{NotText, 
 use Rattle.certificate.specs.Joined.{ReadsBackWithin}
 use Rattle.certificate.specs.Reads.{IsCertificatesFile}
 use Rattle.certificate.specs.Spelled.{certificate_data, file_data}
-use Rattle.certificate.specs.Writes.{AreTexts, FailsToWrite}
+use Rattle.certificate.specs.Writes.{AreTexts, FailsToPut}
 
 -- the certificates as JSON, with commas between them, and one before the first if `later` is set
 abbrev pub listed : Bool → List Certificate → List ℕ
@@ -20,6 +20,12 @@ listed later (c ∷ cs) = comma_if later ++ (compact_text (certificate_data c) +
 -- the file of the certificates `cs` without the closing bracket
 abbrev pub begun : List Certificate → List ℕ
 begun cs = 91 ∷ listed false cs
+
+-- `bytes` are the file of `cs` without the closing bracket; each certificate can be read back
+pub record IsListed (bytes : List ℕ) (cs : List Certificate) : Type 0 where
+  pub text : bytes ≡ begun cs
+  pub utf8 : IsUtf8 bytes
+  pub back : AllByRecursion (λ c. ReadsBackWithin (certificate_data c)) cs
 
 -- `bytes` are the file of `cs` without the closing bracket, which fits within the size limit; each certificate can be read back
 pub record IsBegun (bytes : List ℕ) (cs : List Certificate) : Type 0 where
@@ -51,10 +57,14 @@ pub record HasPut (old new : List ℕ) (c : Certificate) : Type 0 where
   pub utf8 : IsUtf8 old → IsUtf8 new
   pub back : ReadsBackWithin (certificate_data c)
 
--- the certificate was appended, or one of its texts is not UTF-8, or an allocation failed
-abbrev pub Puts : Result (Unit {0}) Unwritten → List ℕ → List ℕ → Certificate → Type 0
-Puts (Ok u) old new c = HasPut old new c
-Puts (Err e) old new c = FailsToWrite e (AreTexts c)
+-- the text with the certificate behind it, and a comma before that unless it is the first
+abbrev pub with_put : List ℕ → Certificate → List ℕ
+with_put old c = old ++ (comma_if (nat_lt 1 (length old)) ++ compact_text (certificate_data c))
+
+-- the certificate was appended; or one of its texts is not UTF-8, or the text would reach the limit, or an allocation failed
+abbrev pub Puts : Result (Unit {0}) Unwritten → Option ℕ → List ℕ → List ℕ → Certificate → Type 0
+Puts (Ok u) most old new c = HasPut old new c
+Puts (Err e) most old new c = FailsToPut e most (length (with_put old c)) (AreTexts c)
 
 -- `cs` were appended to the draft of some certificates; without a draft (`None`) there is none afterwards
 abbrev pub Adds : Option Draft → Option Draft → List Certificate → Type 0

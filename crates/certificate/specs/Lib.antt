@@ -1,6 +1,6 @@
 pub mod Orders
 pub mod Views
-pub mod Places
+pub mod Indices
 pub mod Coverings
 pub mod Walks
 pub mod Checks

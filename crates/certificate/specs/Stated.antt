@@ -49,8 +49,8 @@ sliced_at d = if has_only sliced_names d then option_map Sliced (tracked_at d) e
 unfoldable pub excepting_of : Data → Option Form
 excepting_of d = do
   excepts ← excepts_at d
-  places ← tracked_at d
-  Some (Excepting excepts places)
+  indices ← tracked_at d
+  Some (Excepting excepts indices)
 
 -- form 3, if the object has no members but those of this form
 unfoldable pub excepting_at : Data → Option Form

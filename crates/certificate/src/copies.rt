@@ -4,7 +4,7 @@ ghost use Rattle.std.specs.Prelude.{◌≡◌, IfOk};
 
 use exchange_graph::Topology;
 use guarantees::Guarantee;
-use model::{Binding, DeclaredQueue, Exchange, Place, Text};
+use model::{Binding, DeclaredQueue, Destination, Exchange, Text};
 use std::alloc::{AllocError, Global};
 
 /// A type that can be copied.
@@ -43,11 +43,11 @@ impl Copied for DeclaredQueue {
     }
 }
 
-impl Copied for Place {
-    fn copied(&self, _alloc: Global) -> Result<Place, AllocError> {
+impl Copied for Destination {
+    fn copied(&self, _alloc: Global) -> Result<Destination, AllocError> {
         match self {
-            Place::Exchange(name) => Ok(Place::Exchange(name.clone()?)),
-            Place::Queue(name) => Ok(Place::Queue(name.clone()?)),
+            Destination::Exchange(name) => Ok(Destination::Exchange(name.clone()?)),
+            Destination::Queue(name) => Ok(Destination::Queue(name.clone()?)),
         }
     }
 }

@@ -1,13 +1,12 @@
 //! A certificates file that is written while the certificates are found. Start with [`Draft`].
 
-ghost use Rattle.std.specs.Prelude.{◌≡◌, ◌++◌, ◌∷◌, [], length, nat_lt, IfOk, List, MatchResult, OnOk};
+ghost use Rattle.std.specs.Prelude.{◌≡◌, ◌++◌, ◌∷◌, [], IfOk, List, MatchResult};
 ghost use Rattle.model.specs.Certificates.{Certificate as Shown};
-ghost use Rattle.serde_json.specs.Written.{comma_if};
-ghost use Rattle.certificate.specs.Drafts.{HasNoFile, IsBegun, IsDraft, IsFile, Puts};
+ghost use Rattle.certificate.specs.Drafts.{HasNoFile, IsBegun, IsDraft, IsFile};
 
 use crate::certificates::Certificate;
 use crate::unwritten::Unwritten;
-use crate::writing::certificate_value;
+use crate::writing::put_listed;
 use model::limits;
 use std::alloc::{AllocError, Global};
 
@@ -20,37 +19,12 @@ pub enum Draft {
     Refused(Unwritten),
 }
 
-/// Appends a comma if the text has more than the opening bracket. Fails only if an allocation fails.
-fn put_comma(text: &mut Vec<u8>) -> Result<(), AllocError>
-    ensures { OnOk result (text.new.items ≡ text.old.items ++ comma_if (nat_lt 1 (length text.old.items))) }
-{
-    if text.len() > 1 {
-        text.push(b',')?;
-    }
-    Ok(())
-}
-
-/// Appends `certificate`, behind a comma unless it is the first. Fails if one of its texts is not UTF-8, or if an allocation fails.
-fn put_certificate(
-    alloc: Global,
-    text: &mut Vec<u8>,
-    certificate: &Certificate,
-) -> Result<(), Unwritten>
-    ensures { Puts result text.old.items text.new.items certificate.now }
-{
-    let value = certificate_value(alloc, certificate)?;
-    let written = value.to_string(alloc)?;
-    put_comma(text)?;
-    text.extend_from_slice(written.as_str().as_bytes())?;
-    Ok(())
-}
-
 /// Returns the draft `begun` with `certificate` appended, or a refused draft.
 fn longer(alloc: Global, begun: Vec<u8>, certificate: &Certificate) -> Draft
     ensures { (cs : List Shown) → IsBegun begun.items cs → IsDraft result (cs ++ certificate.now ∷ []) }
 {
     let mut text = begun;
-    match put_certificate(alloc, &mut text, certificate) {
+    match put_listed(alloc, &mut text, Some(limits::FILE_BYTES), certificate) {
         Ok(()) if text.len() < limits::FILE_BYTES => Draft::Text(text),
         Ok(()) => Draft::Refused(Unwritten::TooLong),
         Err(why) => Draft::Refused(why),

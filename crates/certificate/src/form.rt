@@ -7,13 +7,13 @@ ghost use Rattle.model.specs.Certificates.{IsFormed, IsOf, IsShort, Suits, mode_
 ghost use Rattle.model.specs.Positions.{FitsEach};
 ghost use Rattle.state_walks.specs.Judged.{states_of};
 ghost use Rattle.certificate.specs.Checks.{FitsGuarantee};
-ghost use Rattle.certificate.specs.Places.{IsPassedOver, same_texts};
+ghost use Rattle.certificate.specs.Indices.{IsPassedOver, same_texts};
 ghost use Rattle.certificate.specs.Views.{form_view};
 
 use crate::certificates::Certificate;
 use crate::forms::Form;
+use crate::indices::{MOST_PATTERNS, has_few_indices, is_passed_over, passes_over};
 use crate::order::ascend;
-use crate::places::{MOST_PATTERNS, has_few_places, is_passed_over, passes_over};
 use guarantees::Guarantee;
 use model::{Mode, Text, limits};
 use word_automata::Tracked;
@@ -135,7 +135,7 @@ pub fn fits_guarantee(guarantee: &Guarantee, certificate: &Certificate) -> bool
 {
     is_of(guarantee, certificate)
         && suits(certificate.form(), guarantee.excepts())
-        && has_few_places(certificate.form())
+        && has_few_indices(certificate.form())
         && certificate.states().len() <= limits::STATES
         && ascend(certificate.states())
         && none_dropped(passes_over(certificate.form()), certificate.states())

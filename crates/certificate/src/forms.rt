@@ -9,9 +9,9 @@ pub enum Form {
     Whole,
     /// Form 2: the tracked patterns at these indices.
     Sliced(Vec<u64>),
-    /// Form 3: the tracked patterns at the indices `places`, for a guarantee with the `except` patterns `excepts`.
+    /// Form 3: the tracked patterns at `indices`, for a guarantee with the `except` patterns `excepts`.
     Excepting {
         excepts: Vec<Text>,
-        places: Vec<u64>,
+        indices: Vec<u64>,
     },
 }

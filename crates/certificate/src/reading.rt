@@ -77,8 +77,8 @@ fn sliced(alloc: Global, value: &Value) -> Result<Form, FileCause>
     if !has_only(value, &names) {
         return Err(FileCause::Malformed);
     }
-    let places = entries(alloc, value, "tracked")?;
-    Ok(Form::Sliced(places))
+    let indices = entries(alloc, value, "tracked")?;
+    Ok(Form::Sliced(indices))
 }
 
 /// Reads the texts and the indices of form 3.
@@ -87,8 +87,8 @@ fn excepting_of(alloc: Global, value: &Value) -> Result<Form, FileCause>
     ensures { GivesForm result (excepting_of (view value.now)) }
 {
     let excepts = entries(alloc, value, "except")?;
-    let places = entries(alloc, value, "tracked")?;
-    Ok(Form::Excepting { excepts, places })
+    let indices = entries(alloc, value, "tracked")?;
+    Ok(Form::Excepting { excepts, indices })
 }
 
 /// Reads form 3, whose object has no other members.

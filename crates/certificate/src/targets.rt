@@ -8,18 +8,18 @@ ghost use Rattle.model.specs.Routing.{Routes};
 use exchange_graph::Topology;
 use std::alloc::{AllocError, Global};
 
-/// Returns whether one of `places` is `place`.
-fn any_place(places: &[usize], place: usize) -> bool
-    ensures { result ≡ list_any (λ p. p == place) places.now }
+/// Returns whether one of `indices` is `index`.
+fn any_index(indices: &[usize], index: usize) -> bool
+    ensures { result ≡ list_any (λ p. p == index) indices.now }
 {
-    places.iter().any(|p| *p == place)
+    indices.iter().any(|p| *p == index)
 }
 
-/// Returns whether `place` is one of `places`.
-fn has_place(places: &[usize], place: usize) -> bool
-    ensures { Decides result (IsIn place places.now) }
+/// Returns whether `index` is one of `indices`.
+fn has_index(indices: &[usize], index: usize) -> bool
+    ensures { Decides result (IsIn index indices.now) }
 {
-    any_place(places, place)
+    any_index(indices, index)
 }
 
 /// Returns whether `exchange` routes a message with `key` to `queue`. Fails only if an allocation fails.
@@ -35,7 +35,7 @@ pub fn is_routed(
     topology.ghost_is_well_formed();
     let targets = topology.route(alloc, exchange, key)?;
     match topology.queue_at(queue) {
-        Some(place) => Ok(has_place(targets.as_slice(), place)),
+        Some(index) => Ok(has_index(targets.as_slice(), index)),
         None => Ok(false),
     }
 }

@@ -1,14 +1,17 @@
 //! Writes certificates files. Start with [`Certificate::write`].
 
-ghost use Rattle.std.specs.Prelude.{◌≡◌, IfOk, string_bytes, IsUtf8};
+ghost use Rattle.std.specs.Prelude.{◌≡◌, ◌++◌, length, nat_lt, IfOk, OnOk};
+ghost use Rattle.serde_json.specs.Data.{object};
 ghost use Rattle.serde_json.specs.View.{view};
-ghost use Rattle.state_walks.specs.Judged.{states_of};
+ghost use Rattle.serde_json.specs.Written.{comma_if};
 ghost use Rattle.certificate.specs.Views.{form_view};
-ghost use Rattle.certificate.specs.Spelled.{excepting_data, places_data, sliced_data, state_data, states_data, whole_data};
-ghost use Rattle.certificate.specs.Writes.{GivesCertificates, GivesData, GivesMembers, GivesText, GivesTexts, LendsText, Writes};
+ghost use Rattle.certificate.specs.Drafts.{Puts};
+ghost use Rattle.certificate.specs.Spelled.{excepting_head, plain_head};
+ghost use Rattle.certificate.specs.Writes.{GivesHead, GivesText, GivesTexts, HasTail, HasTracked, LendsText, PutsCertificate, PutsHead, Writes};
 
 use crate::certificates::Certificate;
 use crate::forms::Form;
+use crate::state_texts::{put_state, put_states};
 use crate::unwritten::Unwritten;
 use model::Text;
 use serde_json::{Value, json};
@@ -23,35 +26,6 @@ fn text_of(text: &Text) -> Result<&str, Unwritten>
         Ok(text) => Ok(text),
         Err(_) => Err(Unwritten::NotText),
     }
-}
-
-/// Returns a state as JSON. Fails only if an allocation fails.
-fn state_value(alloc: Global, state: &[u64]) -> Result<Value, AllocError>
-    ensures { IfOk result (λ v. view v ≡ state_data state.now) }
-{
-    let mut found = Vec::new(alloc);
-    for number in state {
-        found.push(Value::from(*number))?;
-    }
-    Ok(Value::Array(found))
-}
-
-/// Returns states as JSON. Fails only if an allocation fails.
-fn states_value(alloc: Global, states: &[Vec<u64>]) -> Result<Value, AllocError>
-    ensures { IfOk result (λ v. view v ≡ states_data (states_of states.now)) }
-{
-    let mut found = Vec::new(alloc);
-    for state in states {
-        found.push(state_value(alloc, state.as_slice())?)?;
-    }
-    Ok(Value::Array(found))
-}
-
-/// Returns tracked indices as JSON. Fails only if an allocation fails.
-fn places_value(alloc: Global, places: &[u64]) -> Result<Value, AllocError>
-    ensures { IfOk result (λ v. view v ≡ places_data places.now) }
-{
-    state_value(alloc, places)
 }
 
 /// Returns a text as JSON. Fails if it is not UTF-8, or if an allocation fails.
@@ -116,70 +90,85 @@ impl<'a> Texts<'a> {
     }
 }
 
-/// Returns a certificate of form 1 as JSON. Fails only if an allocation fails.
-fn whole_value(alloc: Global, texts: &Texts<'_>, states: Value) -> Result<Value, AllocError>
-    ensures { IfOk result (λ v. view v ≡ whole_data texts.now (view states)) }
+/// Returns the members before `states` of a certificate without `except`, as JSON. Fails only if an allocation fails.
+fn plain_head(alloc: Global, texts: &Texts<'_>, form: u64) -> Result<Value, AllocError>
+    ensures { IfOk result (λ v. view v ≡ object (plain_head texts.now form)) }
 {
-    json!(in alloc; {"exchange": texts.exchange(), "form": 1u64, "mode": texts.mode(), "pattern": texts.pattern(), "queue": texts.queue(), "states": states})
+    json!(in alloc; {"exchange": texts.exchange(), "form": form, "mode": texts.mode(), "pattern": texts.pattern(), "queue": texts.queue()})
 }
 
-/// Returns a certificate of form 2 as JSON. Fails only if an allocation fails.
-fn sliced_value(
-    alloc: Global,
-    texts: &Texts<'_>,
-    states: Value,
-    tracked: Value,
-) -> Result<Value, AllocError>
-    ensures { IfOk result (λ v. view v ≡ sliced_data texts.now (view states) (view tracked)) }
+/// Returns the members before `states` of a certificate with `except`, as JSON. Fails only if an allocation fails.
+fn excepting_head(alloc: Global, texts: &Texts<'_>, excepts: Value) -> Result<Value, AllocError>
+    ensures { IfOk result (λ v. view v ≡ object (excepting_head texts.now (view excepts))) }
 {
     json!(in alloc; {
-        "exchange": texts.exchange(), "form": 2u64, "mode": texts.mode(), "pattern": texts.pattern(),
-        "queue": texts.queue(), "states": states, "tracked": tracked
+        "except": excepts, "exchange": texts.exchange(), "form": 3u64, "mode": texts.mode(), "pattern": texts.pattern(), "queue": texts.queue()
     })
 }
 
-/// Returns a certificate of form 3 as JSON. Fails only if an allocation fails.
-fn excepting_value(
-    alloc: Global,
-    texts: &Texts<'_>,
-    states: Value,
-    tracked: Value,
-    excepts: Value,
-) -> Result<Value, AllocError>
-    ensures { IfOk result (λ v. view v ≡ excepting_data texts.now (view states) (view tracked) (view excepts)) }
-{
-    json!(in alloc; {
-        "except": excepts, "exchange": texts.exchange(), "form": 3u64, "mode": texts.mode(), "pattern": texts.pattern(),
-        "queue": texts.queue(), "states": states, "tracked": tracked
-    })
-}
-
-/// Returns a certificate of form `form`, with `texts` and `states`, as JSON. Fails if a text of the form is not UTF-8, or if an allocation fails.
-fn value_of(
-    alloc: Global,
-    form: &Form,
-    texts: &Texts<'_>,
-    states: Value,
-) -> Result<Value, Unwritten>
-    ensures { GivesMembers result (form_view form.now) texts.now (view states) }
+/// Returns the members before `states` of a certificate of form `form`, as JSON. Fails if a text of the form is not UTF-8, or if an allocation fails.
+fn head_of(alloc: Global, form: &Form, texts: &Texts<'_>) -> Result<Value, Unwritten>
+    ensures { GivesHead result (form_view form.now) texts.now }
 {
     match form {
-        Form::Whole => Ok(whole_value(alloc, texts, states)?),
-        Form::Sliced(places) => {
-            let tracked = places_value(alloc, places.as_slice())?;
-            Ok(sliced_value(alloc, texts, states, tracked)?)
-        }
-        Form::Excepting { excepts, places } => {
-            let tracked = places_value(alloc, places.as_slice())?;
+        Form::Whole => Ok(plain_head(alloc, texts, 1)?),
+        Form::Sliced(_) => Ok(plain_head(alloc, texts, 2)?),
+        Form::Excepting { excepts, .. } => {
             let excepts = texts_value(alloc, excepts.as_slice())?;
-            Ok(excepting_value(alloc, texts, states, tracked, excepts)?)
+            Ok(excepting_head(alloc, texts, excepts)?)
         }
     }
 }
 
-/// Returns a certificate as JSON. Fails if one of its texts is not UTF-8, or if an allocation fails.
-pub fn certificate_value(alloc: Global, certificate: &Certificate) -> Result<Value, Unwritten>
-    ensures { GivesData result certificate.now }
+/// Appends a certificate of form `form` up to its states. Fails if a text of the form is not UTF-8, or if an allocation fails.
+fn put_head(
+    alloc: Global,
+    text: &mut Vec<u8>,
+    form: &Form,
+    texts: &Texts<'_>,
+) -> Result<(), Unwritten>
+    ensures { PutsHead result text.old.items text.new.items (form_view form.now) texts.now }
+{
+    let head = head_of(alloc, form, texts)?;
+    let written = head.to_string(alloc)?;
+    let bytes = written.as_str().as_bytes();
+    text.extend_from_slice(&bytes[..bytes.len() - 1])?;
+    text.extend_from_slice(b",\"states\":")?;
+    Ok(())
+}
+
+/// Appends the tracked indices `indices` and the closing brace. Fails only if an allocation fails.
+fn put_tracked(text: &mut Vec<u8>, indices: &[u64]) -> Result<(), AllocError>
+    ensures { OnOk result (HasTracked text.old.items text.new.items indices.now) }
+{
+    text.extend_from_slice(b",\"tracked\":")?;
+    put_state(text, indices)?;
+    text.push(b'}')?;
+    Ok(())
+}
+
+/// Appends what follows the states of a certificate of form `form`. Fails only if an allocation fails.
+fn put_tail(text: &mut Vec<u8>, form: &Form) -> Result<(), AllocError>
+    ensures { OnOk result (HasTail text.old.items text.new.items (form_view form.now)) }
+{
+    match form {
+        Form::Whole => {
+            text.push(b'}')?;
+            Ok(())
+        }
+        Form::Sliced(indices) => put_tracked(text, indices.as_slice()),
+        Form::Excepting { indices, .. } => put_tracked(text, indices.as_slice()),
+    }
+}
+
+/// Appends `certificate`. Fails if one of its texts is not UTF-8, if `most` bytes are reached before its last state, or if an allocation fails.
+fn put_certificate(
+    alloc: Global,
+    text: &mut Vec<u8>,
+    most: Option<usize>,
+    certificate: &Certificate,
+) -> Result<(), Unwritten>
+    ensures { PutsCertificate result most text.old.items text.new.items certificate.now }
 {
     let texts = Texts {
         exchange: text_of(certificate.exchange())?,
@@ -187,19 +176,34 @@ pub fn certificate_value(alloc: Global, certificate: &Certificate) -> Result<Val
         pattern: text_of(certificate.pattern())?,
         queue: text_of(certificate.queue())?,
     };
-    let states = states_value(alloc, certificate.states())?;
-    value_of(alloc, certificate.form(), &texts, states)
+    put_head(alloc, text, certificate.form(), &texts)?;
+    put_states(text, most, certificate.states())?;
+    put_tail(text, certificate.form())?;
+    Ok(())
 }
 
-/// Returns certificates as JSON, in order. Fails if a text of one is not UTF-8, or if an allocation fails.
-fn certificate_values(alloc: Global, certificates: &[Certificate]) -> Result<Vec<Value>, Unwritten>
-    ensures { GivesCertificates result certificates.now }
+/// Appends a comma if the text has more than the opening bracket. Fails only if an allocation fails.
+fn put_separator(text: &mut Vec<u8>) -> Result<(), AllocError>
+    ensures { OnOk result (text.new.items ≡ text.old.items ++ comma_if (nat_lt 1 (length text.old.items))) }
 {
-    let mut found = Vec::new(alloc);
-    for certificate in certificates {
-        found.push(certificate_value(alloc, certificate)?)?;
+    if text.len() > 1 {
+        text.push(b',')?;
     }
-    Ok(found)
+    Ok(())
+}
+
+/// Appends `certificate`, behind a comma unless it is the first. Fails if one of its texts is not UTF-8, if `most` bytes are reached before its last state, or
+/// if an allocation fails.
+pub(crate) fn put_listed(
+    alloc: Global,
+    text: &mut Vec<u8>,
+    most: Option<usize>,
+    certificate: &Certificate,
+) -> Result<(), Unwritten>
+    ensures { Puts result most text.old.items text.new.items certificate.now }
+{
+    put_separator(text)?;
+    put_certificate(alloc, text, most, certificate)
 }
 
 impl Certificate {
@@ -208,10 +212,12 @@ impl Certificate {
     pub fn write(alloc: Global, certificates: &[Certificate]) -> Result<Vec<u8>, Unwritten>
         ensures { Writes result certificates.now }
     {
-        let values = certificate_values(alloc, certificates)?;
-        let value = Value::from(values);
-        let written = value.to_string(alloc)?;
-        let _text = written.as_str();
-        Ok(written.into_bytes())
+        let mut text = Vec::new(alloc);
+        text.push(b'[')?;
+        for certificate in certificates {
+            put_listed(alloc, &mut text, None, certificate)?;
+        }
+        text.push(b']')?;
+        Ok(text)
     }
 }

@@ -1,5 +1,5 @@
 -- What a list has whose elements were taken each once.
-use Rattle.certificate_laws.proofs.Names.{◌≡◌, ◌⊎◌, Bool, true, false, cond, List, [], ◌∷◌, refl, sym, ap, subst, inl, inr, Decides, ◌||◌, fold, flat_map, list_any, false≢true, IsIn, once_more, each_once, in_front, in_back, in-append}
+use Rattle.certificate_laws.proofs.Names.{◌≡◌, ◌⊎◌, Bool, true, false, cond, List, [], ◌∷◌, refl, sym, ap, subst, inl, inr, Decides, ◌||◌, fold, flat_map, list_any, false≢true, IsIn, appended_if_new, each_once, in_front, in_back, in-append}
 use Rattle.std.proofs.Common.{◌++◌, map}
 
 -- ---- members of lists
@@ -32,34 +32,34 @@ in_any same tells x (y ∷ ys) = go (same x y) (list_any (same x) ys) (tells x y
 -- ---- each once
 
 module _ {A : Type 0} (same : A → A → Bool) (tells : (x y : A) → Decides (same x y) (x ≡ y)) where
-  more_keeps : (xs : List A) (x y : A) → IsIn y xs → IsIn y (once_more same xs x)
+  more_keeps : (xs : List A) (x y : A) → IsIn y xs → IsIn y (appended_if_new same xs x)
   more_keeps xs x y i = elim (list_any (same x) xs) as (λ b. IsIn y (cond b xs (xs ++ x ∷ []))) [ true ↦ i | false ↦ in_front y xs (x ∷ []) i ]
 
-  more_has : (xs : List A) (x : A) → IsIn x (once_more same xs x)
+  more_has : (xs : List A) (x : A) → IsIn x (appended_if_new same xs x)
   more_has xs x = go (list_any (same x) xs) (in_any same tells x xs)
     where
       go : (b : Bool) → Decides b (IsIn x xs) → IsIn x (cond b xs (xs ++ x ∷ []))
       go true d = d.0 refl
       go false d = in_back x xs (x ∷ []) (inl refl)
 
-  more_from : (xs : List A) (x y : A) → IsIn y (once_more same xs x) → IsIn y xs ⊎ (y ≡ x)
+  more_from : (xs : List A) (x y : A) → IsIn y (appended_if_new same xs x) → IsIn y xs ⊎ (y ≡ x)
   more_from xs x y = elim (list_any (same x) xs) as (λ b. IsIn y (cond b xs (xs ++ x ∷ [])) → IsIn y xs ⊎ (y ≡ x)) [
     | true ↦ λ i. inl i
     | false ↦ λ i. elim (in-append y xs (x ∷ []) i) [ inl j ↦ inl j | inr j ↦ elim j [ inl e ↦ inr e | inr n ↦ absurd n ] ]
   ]
 
-  kept_on : (xs acc : List A) (y : A) → IsIn y acc → IsIn y (fold (once_more same) acc xs)
+  kept_on : (xs acc : List A) (y : A) → IsIn y acc → IsIn y (fold (appended_if_new same) acc xs)
   kept_on [] acc y i = i
-  kept_on (x ∷ xs) acc y i = kept_on xs (once_more same acc x) y (more_keeps acc x y i)
+  kept_on (x ∷ xs) acc y i = kept_on xs (appended_if_new same acc x) y (more_keeps acc x y i)
 
-  had_on : (xs acc : List A) (y : A) → IsIn y xs → IsIn y (fold (once_more same) acc xs)
+  had_on : (xs acc : List A) (y : A) → IsIn y xs → IsIn y (fold (appended_if_new same) acc xs)
   had_on [] acc y i = absurd i
-  had_on (x ∷ xs) acc y (inl e) = kept_on xs (once_more same acc x) y (subst (λ (z : A). IsIn z (once_more same acc x)) (sym e) (more_has acc x))
-  had_on (x ∷ xs) acc y (inr i) = had_on xs (once_more same acc x) y i
+  had_on (x ∷ xs) acc y (inl e) = kept_on xs (appended_if_new same acc x) y (subst (λ (z : A). IsIn z (appended_if_new same acc x)) (sym e) (more_has acc x))
+  had_on (x ∷ xs) acc y (inr i) = had_on xs (appended_if_new same acc x) y i
 
-  from_on : (xs acc : List A) (y : A) → IsIn y (fold (once_more same) acc xs) → IsIn y acc ⊎ IsIn y xs
+  from_on : (xs acc : List A) (y : A) → IsIn y (fold (appended_if_new same) acc xs) → IsIn y acc ⊎ IsIn y xs
   from_on [] acc y i = inl i
-  from_on (x ∷ xs) acc y i = elim (from_on xs (once_more same acc x) y i) [
+  from_on (x ∷ xs) acc y i = elim (from_on xs (appended_if_new same acc x) y i) [
     | inl j ↦ elim (more_from acc x y j) [ inl k ↦ inl k | inr e ↦ inr (inl e) ]
     | inr j ↦ inr (inr j)
   ]
@@ -79,24 +79,24 @@ module _ {A : Type 0} (same : A → A → Bool) (tells : (x y : A) → Decides (
   apart_push [] x a n = (λ i. i, tt)
   apart_push (y ∷ ys) x a n = (λ i. elim (in-append y ys (x ∷ []) i) [ inl j ↦ a.0 j | inr j ↦ elim j [ inl e ↦ n (inl (sym e)) | inr k ↦ k ] ], apart_push ys x a.1 (λ i. n (inr i)))
 
-  more_apart : (xs : List A) (x : A) → Apart xs → Apart (once_more same xs x)
+  more_apart : (xs : List A) (x : A) → Apart xs → Apart (appended_if_new same xs x)
   more_apart xs x a = go (list_any (same x) xs) (in_any same tells x xs)
     where
       go : (b : Bool) → Decides b (IsIn x xs) → Apart (cond b xs (xs ++ x ∷ []))
       go true d = a
       go false d = apart_push xs x a (λ i. absurd (false≢true (d.1 i)))
 
-  apart_on : (xs acc : List A) → Apart acc → Apart (fold (once_more same) acc xs)
+  apart_on : (xs acc : List A) → Apart acc → Apart (fold (appended_if_new same) acc xs)
   apart_on [] acc a = a
-  apart_on (x ∷ xs) acc a = apart_on xs (once_more same acc x) (more_apart acc x a)
+  apart_on (x ∷ xs) acc a = apart_on xs (appended_if_new same acc x) (more_apart acc x a)
 
   pub once_apart : (xs : List A) → Apart (each_once same xs)
   once_apart xs = apart_on xs [] tt
 
   -- what stands first stays first
-  first_on : (xs rest : List A) (x : A) → (others : List A) × (fold (once_more same) (x ∷ rest) xs ≡ x ∷ others)
+  first_on : (xs rest : List A) (x : A) → (others : List A) × (fold (appended_if_new same) (x ∷ rest) xs ≡ x ∷ others)
   first_on [] rest x = (rest, refl)
-  first_on (y ∷ ys) rest x = elim (list_any (same y) (x ∷ rest)) as (λ b. (others : List A) × (fold (once_more same) (cond b (x ∷ rest) ((x ∷ rest) ++ y ∷ [])) ys ≡ x ∷ others)) [
+  first_on (y ∷ ys) rest x = elim (list_any (same y) (x ∷ rest)) as (λ b. (others : List A) × (fold (appended_if_new same) (cond b (x ∷ rest) ((x ∷ rest) ++ y ∷ [])) ys ≡ x ∷ others)) [
     | true ↦ first_on ys rest x
     | false ↦ first_on ys (rest ++ y ∷ []) x
   ]

@@ -1,24 +1,24 @@
 -- Two certificates that are accepted.
-use Rattle.certificate_laws.proofs.Names.{◌≡◌, ℕ, zero, suc, ◌<◌, List, [], ◌∷◌, refl, sym, ap, subst, ◌∙◌, inl, inr, Option, Some, None, false, arith, lit<, lit≤, codes, Contains, flat_map, slice_index_or, AllByRecursion, all_in, false≢true, Text, Topology, IsIn, Binds, Dies, Edge, bound, alternate, default, here, on, RoutesBy, reading_after, Comes, routed, dead, Guarantee, Tracked, as_topic, Met, own, by_bound, by_alternate, by_death, Selects, each_once, same_tracked, keys_of, IsTrackedList, Letter, letters, PatternAnswers, sure, possible, IsGoodState, LeadsIn, Exchange, DeclaredQueue, Binding, Place, Fanout, Topic}
+use Rattle.certificate_laws.proofs.Names.{◌≡◌, ℕ, zero, suc, ◌<◌, List, [], ◌∷◌, refl, sym, ap, subst, ◌∙◌, inl, inr, Option, Some, None, false, arith, lit<, lit≤, codes, Contains, flat_map, slice_index_or, AllByRecursion, all_in, false≢true, Text, Topology, IsIn, Binds, Dies, Edge, bound, alternate, default, here, on, RoutesBy, reading_after, Comes, routed, dead, Guarantee, Tracked, as_topic, Met, own, by_bound, by_alternate, by_death, Selects, each_once, same_tracked, keys_of, IsTrackedList, Letter, letters, PatternAnswers, sure, possible, IsGoodState, LeadsIn, Exchange, DeclaredQueue, Binding, Destination, Fanout, Topic}
 use Rattle.std.specs.Prelude.{◌++◌, map}
-use Rattle.model.specs.declared.topologies.Place.TheVariants as place
+use Rattle.model.specs.declared.topologies.Destination.TheVariants as destination
 use Rattle.certificate_laws.specs.Worked.{topic_x, from_x, two_keys, orders_reach, without_a1, one_key, never_but_a, but_a, SlicedIsAccepted, ExceptingIsAccepted}
 use Rattle.certificate_laws.proofs.Trackings.{contained}
 
 -- ---- of X alone
 
-abbrev is_queue : Place → Type 0
-is_queue (place.Queue q) = Unit {0}
-is_queue (place.Exchange x) = ⊥
+abbrev is_queue : Destination → Type 0
+is_queue (destination.Queue q) = Unit {0}
+is_queue (destination.Exchange x) = ⊥
 
-all_queues : (bs : List Binding) → ((b : Binding) → IsIn b bs → is_queue b.to) → (b : Binding) → IsIn b bs → (y : Text) → b.to ≡ place.Exchange y → ⊥
+all_queues : (bs : List Binding) → ((b : Binding) → IsIn b bs → is_queue b.to) → (b : Binding) → IsIn b bs → (y : Text) → b.to ≡ destination.Exchange y → ⊥
 all_queues bs f b i y e = subst is_queue e (f b i)
 
 module _ (t : Topology) (g : Guarantee) (exchanges : t.exchanges ≡ topic_x ∷ []) (queues : (b : Binding) → IsIn b t.bindings → is_queue b.to) (none_dies : (q : DeclaredQueue) → IsIn q t.queues → q.dead_letter_exchange ≡ None) where
   is_x : (e : Exchange) → Contains t.exchanges e → e ≡ topic_x
   is_x e c = elim (subst (λ (z : List Exchange). IsIn e z) exchanges (contained t.exchanges e c)) [ inl s ↦ s | inr n ↦ absurd n ]
 
-  no_exchange : (e : Exchange) (b : Binding) (y : Text) → Binds t e (place.Exchange y) b → ⊥
+  no_exchange : (e : Exchange) (b : Binding) (y : Text) → Binds t e (destination.Exchange y) b → ⊥
   no_exchange e b y bs = all_queues t.bindings queues b (contained t.bindings b bs.is_binding) y bs.leads
 
   no_alternate : (e : Exchange) (y : Text) → Contains t.exchanges e → e.alternate ≡ Some y → ⊥
@@ -116,7 +116,7 @@ but_a_tracked : IsTrackedList one_key never_but_a but_a_list
 but_a_tracked = tracked_x one_key never_but_a refl but_a_queues but_a_lives but_a_list refl refl
 
 -- where `a` is ruled out, nothing leads on from X
-edge_never : (ms : List ℕ) → PatternAnswers but_a_list ms Topic (codes "a") false → {x : Text} {to : Place} → x ≡ codes "X" → Edge one_key (possible but_a_list ms) x to → ⊥
+edge_never : (ms : List ℕ) → PatternAnswers but_a_list ms Topic (codes "a") false → {x : Text} {to : Destination} → x ≡ codes "X" → Edge one_key (possible but_a_list ms) x to → ⊥
 edge_never ms out at (bound e b c n bs o) =
     let e_is : e ≡ topic_x = is_x one_key never_but_a refl but_a_queues but_a_lives e c in
     let b_is : b ≡ from_x (codes "a") (codes "q") = elim (contained one_key.bindings b bs.is_binding) [ inl s ↦ s | inr z ↦ absurd z ] in

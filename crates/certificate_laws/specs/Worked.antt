@@ -8,7 +8,7 @@ use Rattle.model.specs.declared.topologies.Mode.TheVariants.{Reaches, Never}
 use Rattle.model.specs.declared.topologies.Exchange.{Exchange}
 use Rattle.model.specs.declared.topologies.DeclaredQueue.{DeclaredQueue}
 use Rattle.model.specs.declared.topologies.Binding.{Binding}
-use Rattle.model.specs.declared.topologies.Place.TheVariants as place
+use Rattle.model.specs.declared.topologies.Destination.TheVariants as destination
 use Rattle.model.specs.declared.topologies.ExchangeKind.TheVariants.{Topic}
 
 -- The topic exchange `X`.
@@ -21,7 +21,7 @@ plain_queue name = record { name = name; limit = None; byte_limit = None; dead_l
 
 -- A binding from `X` to this queue under `key`.
 abbrev pub from_x : Text → Text → Binding
-from_x key queue = record { source = codes "X"; to = place.Queue queue; key = key }
+from_x key queue = record { source = codes "X"; to = destination.Queue queue; key = key }
 
 -- `X` leads to `audit` under `orders.#`, and to `q` under `a1`.
 abbrev pub two_keys : Topology

@@ -40,13 +40,13 @@ taken_parts os tag multiple p = go (is_refused tag_of tag multiple os)
     go true = omega arith
     go false = counted_apart p t os
 
--- ---- seats
+-- ---- consumers with their counts
 
 abbrev counts : List Consumer → List Delivery → List ℕ
 counts consumers given = map (λ (c : Consumer). count_to taker_of c.number given) consumers
 
 -- the consumers stay where each count is changed
-pub same_consumers : (f : CountedConsumer → CountedConsumer) → ((s : CountedConsumer) → (f s).consumer ≡ s.consumer) → (seats : List CountedConsumer) → consumers_of (map f seats) ≡ consumers_of seats
+pub same_consumers : (f : CountedConsumer → CountedConsumer) → ((s : CountedConsumer) → (f s).consumer ≡ s.consumer) → (consumers : List CountedConsumer) → consumers_of (map f consumers) ≡ consumers_of consumers
 same_consumers f same [] = refl
 same_consumers f same (s ∷ ss) = ap (λ (c : Consumer). c ∷ consumers_of (map f ss)) (same s) ∙ ap (λ (cs : List Consumer). s.consumer ∷ cs) (same_consumers f same ss)
 
@@ -58,7 +58,7 @@ tail_is x y xs ys e = cc
 
 -- each count is changed as what is outstanding changes
 pub new_counts : (f : CountedConsumer → CountedConsumer) (old new : List Delivery) → ((s : CountedConsumer) → s.held ≡ count_to taker_of s.consumer.number old → (f s).held ≡ count_to taker_of s.consumer.number new)
-    → (seats : List CountedConsumer) → counts_of seats ≡ counts (consumers_of seats) old → counts_of (map f seats) ≡ counts (consumers_of seats) new
+    → (consumers : List CountedConsumer) → counts_of consumers ≡ counts (consumers_of consumers) old → counts_of (map f consumers) ≡ counts (consumers_of consumers) new
 new_counts f old new step [] h = refl
 new_counts f old new step (s ∷ ss) h =
     ap (λ (n : ℕ). n ∷ counts_of (map f ss)) (step s (head_is _ _ _ _ h))
@@ -105,24 +105,24 @@ pub step_out : (given gone left : List Delivery) → AreParts given gone left �
 step_out given gone left parts s h = let p = parts (λ x. is_to s.consumer.number (taker_of x)) in omega arith
 
 -- a consumer more
-pub one_seat : (seats : List CountedConsumer) (s : CountedConsumer) (given : List Delivery) → counts_of seats ≡ counts (consumers_of seats) given → s.held ≡ count_to taker_of s.consumer.number given
-    → counts_of (seats ++ s ∷ []) ≡ counts (consumers_of (seats ++ s ∷ [])) given
-one_seat [] s given h e = ap (λ (n : ℕ). n ∷ []) e
-one_seat (x ∷ xs) s given h e =
+pub one_counted : (consumers : List CountedConsumer) (s : CountedConsumer) (given : List Delivery) → counts_of consumers ≡ counts (consumers_of consumers) given → s.held ≡ count_to taker_of s.consumer.number given
+    → counts_of (consumers ++ s ∷ []) ≡ counts (consumers_of (consumers ++ s ∷ [])) given
+one_counted [] s given h e = ap (λ (n : ℕ). n ∷ []) e
+one_counted (x ∷ xs) s given h e =
     ap (λ (n : ℕ). n ∷ counts_of (xs ++ s ∷ [])) (head_is _ _ _ _ h)
-    ∙ ap (λ (ns : List ℕ). count_to taker_of x.consumer.number given ∷ ns) (one_seat xs s given (tail_is _ _ _ _ h) e)
+    ∙ ap (λ (ns : List ℕ). count_to taker_of x.consumer.number given ∷ ns) (one_counted xs s given (tail_is _ _ _ _ h) e)
 
 -- some are taken out
-pub seats_filtered : (p : Consumer → Bool) (seats : List CountedConsumer) → consumers_of (filter (λ (s : CountedConsumer). p s.consumer) seats) ≡ filter p (consumers_of seats)
-seats_filtered p [] = refl
-seats_filtered p (s ∷ ss) = go (p s.consumer) (seats_filtered p ss)
+pub consumers_filtered : (p : Consumer → Bool) (consumers : List CountedConsumer) → consumers_of (filter (λ (s : CountedConsumer). p s.consumer) consumers) ≡ filter p (consumers_of consumers)
+consumers_filtered p [] = refl
+consumers_filtered p (s ∷ ss) = go (p s.consumer) (consumers_filtered p ss)
   where
     go : (b : Bool) → consumers_of (filter (λ (s : CountedConsumer). p s.consumer) ss) ≡ filter p (consumers_of ss)
         → consumers_of (cond b (s ∷ filter (λ (s : CountedConsumer). p s.consumer) ss) (filter (λ (s : CountedConsumer). p s.consumer) ss)) ≡ cond b (s.consumer ∷ filter p (consumers_of ss)) (filter p (consumers_of ss))
     go true e = ap (λ (cs : List Consumer). s.consumer ∷ cs) e
     go false e = e
 
-pub counts_filtered : (p : CountedConsumer → Bool) (seats : List CountedConsumer) (given : List Delivery) → counts_of seats ≡ counts (consumers_of seats) given → counts_of (filter p seats) ≡ counts (consumers_of (filter p seats)) given
+pub counts_filtered : (p : CountedConsumer → Bool) (consumers : List CountedConsumer) (given : List Delivery) → counts_of consumers ≡ counts (consumers_of consumers) given → counts_of (filter p consumers) ≡ counts (consumers_of (filter p consumers)) given
 counts_filtered p [] given h = refl
 counts_filtered p (s ∷ ss) given h = go (p s) (counts_filtered p ss given (tail_is _ _ _ _ h))
   where
@@ -130,39 +130,39 @@ counts_filtered p (s ∷ ss) given h = go (p s) (counts_filtered p ss given (tai
     go true e = ap (λ (n : ℕ). n ∷ counts_of (filter p ss)) (head_is _ _ _ _ h) ∙ ap (λ (ns : List ℕ). count_to taker_of s.consumer.number given ∷ ns) e
     go false e = e
 
--- seats are counted by their consumers
-pub counted_of : (p : Consumer → Bool) (seats : List CountedConsumer) → count_by (λ (s : CountedConsumer). p s.consumer) seats ≡ count_by p (consumers_of seats)
+-- consumers with their counts are counted as the consumers are
+pub counted_of : (p : Consumer → Bool) (consumers : List CountedConsumer) → count_by (λ (s : CountedConsumer). p s.consumer) consumers ≡ count_by p (consumers_of consumers)
 counted_of p [] = refl
 counted_of p (s ∷ ss) =
     sum_by-cons (λ (x : CountedConsumer). cond (p x.consumer) 1 0) s ss
     ∙ ap (λ (n : ℕ). cond (p s.consumer) 1 0 + n) (counted_of p ss)
     ∙ sym (sum_by-cons (λ (x : Consumer). cond (p x) 1 0) s.consumer (consumers_of ss))
 
-pub any_named : (p : Consumer → Bool) (seats : List CountedConsumer) → list_any (λ (s : CountedConsumer). p s.consumer) seats ≡ list_any p (consumers_of seats)
+pub any_named : (p : Consumer → Bool) (consumers : List CountedConsumer) → list_any (λ (s : CountedConsumer). p s.consumer) consumers ≡ list_any p (consumers_of consumers)
 any_named p [] = refl
 any_named p (s ∷ ss) = ap (λ (b : Bool). p s.consumer || b) (any_named p ss)
 
 -- what is told of the consumer of a number is told by its kept count as by what is outstanding
-told_kept : {A : Type 0} (of_seat : Option CountedConsumer → A) (of_consumer : Option Consumer → A) (number : ℕ) (seats : List CountedConsumer) (os : List Delivery) → of_seat None ≡ of_consumer None
-    → ((s : CountedConsumer) → s.held ≡ count_to taker_of s.consumer.number os → of_seat (Some s) ≡ of_consumer (Some s.consumer)) → counts_of seats ≡ counts (consumers_of seats) os
-    → of_seat (find (is_numbered number) seats) ≡ of_consumer (find (λ (c : Consumer). c.number == number) (consumers_of seats))
-told_kept of_seat of_consumer number [] os none some h = none
-told_kept of_seat of_consumer number (s ∷ ss) os none some h = go (s.consumer.number == number) (told_kept of_seat of_consumer number ss os none some (tail_is _ _ _ _ h))
+same_of_found : {A : Type 0} (of_counted : Option CountedConsumer → A) (of_consumer : Option Consumer → A) (number : ℕ) (consumers : List CountedConsumer) (os : List Delivery) → of_counted None ≡ of_consumer None
+    → ((s : CountedConsumer) → s.held ≡ count_to taker_of s.consumer.number os → of_counted (Some s) ≡ of_consumer (Some s.consumer)) → counts_of consumers ≡ counts (consumers_of consumers) os
+    → of_counted (find (is_numbered number) consumers) ≡ of_consumer (find (λ (c : Consumer). c.number == number) (consumers_of consumers))
+same_of_found of_counted of_consumer number [] os none some h = none
+same_of_found of_counted of_consumer number (s ∷ ss) os none some h = go (s.consumer.number == number) (same_of_found of_counted of_consumer number ss os none some (tail_is _ _ _ _ h))
   where
-    go : (b : Bool) → of_seat (find (is_numbered number) ss) ≡ of_consumer (find (λ (c : Consumer). c.number == number) (consumers_of ss))
-        → of_seat (cond b (Some s) (find (is_numbered number) ss)) ≡ of_consumer (cond b (Some s.consumer) (find (λ (c : Consumer). c.number == number) (consumers_of ss)))
+    go : (b : Bool) → of_counted (find (is_numbered number) ss) ≡ of_consumer (find (λ (c : Consumer). c.number == number) (consumers_of ss))
+        → of_counted (cond b (Some s) (find (is_numbered number) ss)) ≡ of_consumer (cond b (Some s.consumer) (find (λ (c : Consumer). c.number == number) (consumers_of ss)))
     go true e = some s (head_is _ _ _ _ h)
     go false e = e
 
 -- by its kept counts a consumer may take what it may by what is outstanding
-pub may_kept : (limit given number : ℕ) (seats : List CountedConsumer) (os : List Delivery) → counts_of seats ≡ counts (consumers_of seats) os → given ≡ count_given taker_of os
-    → may_held limit given (find (is_numbered number) seats) ≡ may_of limit os (find (λ (c : Consumer). c.number == number) (consumers_of seats))
-may_kept limit given number seats os h g = told_kept (may_held limit given) (may_of limit os) number seats os refl (λ s e. rw (e, g) refl) h
+pub may_kept : (limit given number : ℕ) (consumers : List CountedConsumer) (os : List Delivery) → counts_of consumers ≡ counts (consumers_of consumers) os → given ≡ count_given taker_of os
+    → may_held limit given (find (is_numbered number) consumers) ≡ may_of limit os (find (λ (c : Consumer). c.number == number) (consumers_of consumers))
+may_kept limit given number consumers os h g = same_of_found (may_held limit given) (may_of limit os) number consumers os refl (λ s e. rw (e, g) refl) h
 
 -- then it is returned if it may
-pub taker_kept : (limit given number : ℕ) (seats : List CountedConsumer) (os : List Delivery) → counts_of seats ≡ counts (consumers_of seats) os → given ≡ count_given taker_of os
-    → taker_held limit given (find (is_numbered number) seats) ≡ taker_among limit os (find (λ (c : Consumer). c.number == number) (consumers_of seats))
-taker_kept limit given number seats os h g = told_kept (taker_held limit given) (taker_among limit os) number seats os refl (λ s e. rw (e, g) refl) h
+pub taker_kept : (limit given number : ℕ) (consumers : List CountedConsumer) (os : List Delivery) → counts_of consumers ≡ counts (consumers_of consumers) os → given ≡ count_given taker_of os
+    → taker_held limit given (find (is_numbered number) consumers) ≡ taker_among limit os (find (λ (c : Consumer). c.number == number) (consumers_of consumers))
+taker_kept limit given number consumers os h g = same_of_found (taker_held limit given) (taker_among limit os) number consumers os refl (λ s e. rw (e, g) refl) h
 
 -- no count is above what is outstanding
 pub counts_small : (n : ℕ) (consumers : List Consumer) (os : List Delivery) → length os < n → All (λ k. k < n) (counts consumers os)
@@ -170,18 +170,18 @@ counts_small n [] os h k d lt = absurd (omega arith)
 counts_small n (c ∷ cs) os h zero d lt = let m = count_by-le-length (λ x. is_to c.number (taker_of x)) os in omega arith
 counts_small n (c ∷ cs) os h (suc k) d lt = counts_small n cs os h k d (omega arith)
 
--- each count of a seat is in the list of counts
-held_at : (seats : List CountedConsumer) (k : ℕ) (d : CountedConsumer) → get_or (counts_of seats) k d.held ≡ (get_or seats k d).held
+-- each count is in the list of counts
+held_at : (consumers : List CountedConsumer) (k : ℕ) (d : CountedConsumer) → get_or (counts_of consumers) k d.held ≡ (get_or consumers k d).held
 held_at [] k d = refl
 held_at (s ∷ ss) zero d = refl
 held_at (s ∷ ss) (suc k) d = held_at ss k d
 
-counts-length : (seats : List CountedConsumer) → length (counts_of seats) ≡ length seats
+counts-length : (consumers : List CountedConsumer) → length (counts_of consumers) ≡ length consumers
 counts-length [] = refl
 counts-length (s ∷ ss) = ap suc (counts-length ss)
 
-pub held_small : (n : ℕ) (seats : List CountedConsumer) → All (λ k. k < n) (counts_of seats) → All (λ (s : CountedConsumer). s.held < n) seats
-held_small n seats h k d lt = let a = h k d.held (let l = counts-length seats in omega arith) in let e = held_at seats k d in omega arith
+pub held_small : (n : ℕ) (consumers : List CountedConsumer) → All (λ k. k < n) (counts_of consumers) → All (λ (s : CountedConsumer). s.held < n) consumers
+held_small n consumers h k d lt = let a = h k d.held (let l = counts-length consumers in omega arith) in let e = held_at consumers k d in omega arith
 
 -- ---- who was given nothing
 

@@ -1,10 +1,10 @@
--- A consumer is found by its number, since numbers rise: what is changed there alone is changed at each seat of that number.
+-- A consumer is found by its number, since numbers rise: what is changed there alone is changed at each consumer with that number.
 use Rattle.channels.proofs.Imports.{◌≡◌, ℕ, zero, suc, ◌+◌, ◌-◌, ◌<◌, List, [], ◌∷◌, ◌++◌, length, get_or, set, map, take, append-nil, find, refl, sym, ap, ◌∙◌, arith, Bool, true, false, cond, Option, Some, None, AllByRecursion, position_from, ne_eqb, is_to, count_to, filter_more, taker_of, is_waiting, waiting, consumers_of, is_numbered, counted_in, counted_out, uncounted, AreNumbered, Consumer, CountedConsumer, Delivery}
 use Rattle.std.proofs.lemmas.Bool.{eq-eqb}
 use Rattle.model.specs.declared.messages.Taker.TheVariants as taker
 use Rattle.channels.proofs.Counting.{one_more}
 
--- ---- the only seat of a number
+-- ---- the only consumer with a number
 
 above_at : (m : ℕ) (xs : List CountedConsumer) (i : ℕ) (d : CountedConsumer) → AllByRecursion (λ (c : Consumer). m < c.number) (consumers_of xs) → i < length xs → m < (get_or xs i d).consumer.number
 above_at m [] i d all lt = absurd (omega arith)
@@ -95,9 +95,9 @@ out_next done o [] = refl
 out_next done o (x ∷ xs) = ap (λ (y : CountedConsumer). y ∷ map (uncounted o.by) (map (counted_out done) xs)) (out_one done o x) ∙ ap (λ (ys : List CountedConsumer). counted_out (done ++ o ∷ []) x ∷ ys) (out_next done o xs)
 
 -- where it waited
-pub out_waiting : (gone : List Delivery) (i : ℕ) (x d : Delivery) (first seats new : List CountedConsumer) → i < length gone → x ≡ get_or gone i d → seats ≡ map (counted_out (waiting (take i gone))) first
-    → (is_waiting x ≡ true → new ≡ map (uncounted x.by) seats) → (is_waiting x ≡ false → new ≡ seats) → new ≡ map (counted_out (waiting (take (i + 1) gone))) first
-out_waiting gone i x d first seats new lt is was counts stays = go (is_waiting x) refl
+pub out_waiting : (gone : List Delivery) (i : ℕ) (x d : Delivery) (first consumers new : List CountedConsumer) → i < length gone → x ≡ get_or gone i d → consumers ≡ map (counted_out (waiting (take i gone))) first
+    → (is_waiting x ≡ true → new ≡ map (uncounted x.by) consumers) → (is_waiting x ≡ false → new ≡ consumers) → new ≡ map (counted_out (waiting (take (i + 1) gone))) first
+out_waiting gone i x d first consumers new lt is was counts stays = go (is_waiting x) refl
   where
     more : (b : Bool) → is_waiting x ≡ b → waiting (take (i + 1) gone) ≡ waiting (take i gone) ++ cond b (x ∷ []) []
     more b e =

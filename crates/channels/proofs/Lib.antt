@@ -2,7 +2,7 @@ pub mod Imports
 pub mod Runs
 pub mod Settlement
 pub mod Counting
-pub mod Seating
+pub mod Making
 pub mod Numbering
 pub mod Halving
 pub mod Moving

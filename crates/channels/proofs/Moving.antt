@@ -1,5 +1,5 @@
 -- Queues at other places: each element of a list is changed in turn; tags, numbers and counts stay, and so do names.
-use Rattle.channels.proofs.Imports.{◌≡◌, ℕ, zero, suc, ◌+◌, ◌<◌, List, [], ◌∷◌, ◌++◌, length, get_or, set, map, take, drop, refl, sym, ap, ◌∙◌, arith, Bool, true, false, cond, AllByRecursion, length-map, drop-map, Text, is_to, is_delivery, count_to, taker_of, given_tag, AreInOrder, is_waiting, waiting, outstanding_in, ConsumerCounts, CountsAgree, AreNumbered, NoneAbove, consumers_of, counts_of, Open, consumer_in, open_in, outstanding_moved, consumer_moved, seat_moved, open_moved, IsNamedAlike, AreNamedAlike, Delivery, Consumer, CountedConsumer}
+use Rattle.channels.proofs.Imports.{◌≡◌, ℕ, zero, suc, ◌+◌, ◌<◌, List, [], ◌∷◌, ◌++◌, length, get_or, set, map, take, drop, refl, sym, ap, ◌∙◌, arith, Bool, true, false, cond, AllByRecursion, length-map, drop-map, Text, is_to, is_delivery, count_to, taker_of, given_tag, AreInOrder, is_waiting, waiting, outstanding_in, ConsumerCounts, CountsAgree, AreNumbered, NoneAbove, consumers_of, counts_of, Open, consumer_in, open_in, outstanding_moved, consumer_moved, counted_moved, open_moved, IsNamedAlike, AreNamedAlike, Delivery, Consumer, CountedConsumer}
 use Rattle.model.specs.Broker as seen
 use Rattle.laws.proofs.Counts.{count-map}
 
@@ -58,11 +58,11 @@ moved_numbered places next (c ∷ cs) (lt, (above, n)) = (lt, (each cs above, mo
     each [] a = tt
     each (d ∷ ds) (l, a) = (l, each ds a)
 
-pub moved_consumers : (places : List ℕ) (ss : List CountedConsumer) → consumers_of (map (seat_moved places) ss) ≡ map (consumer_moved places) (consumers_of ss)
+pub moved_consumers : (places : List ℕ) (ss : List CountedConsumer) → consumers_of (map (counted_moved places) ss) ≡ map (consumer_moved places) (consumers_of ss)
 moved_consumers places [] = refl
 moved_consumers places (s ∷ ss) = ap (λ (cs : List Consumer). consumer_moved places s.consumer ∷ cs) (moved_consumers places ss)
 
-pub moved_counts : (places : List ℕ) (ss : List CountedConsumer) → counts_of (map (seat_moved places) ss) ≡ counts_of ss
+pub moved_counts : (places : List ℕ) (ss : List CountedConsumer) → counts_of (map (counted_moved places) ss) ≡ counts_of ss
 moved_counts places [] = refl
 moved_counts places (s ∷ ss) = ap (λ (ns : List ℕ). s.held ∷ ns) (moved_counts places ss)
 

@@ -43,10 +43,10 @@ numbered_filter next p (c ∷ cs) (lt, (above, rest)) = go (p c) (numbered_filte
 
 -- ---- the consumer of a number
 
--- the seat of a number has the consumer of it
-pub seat_is : (number : ℕ) (seats : List CountedConsumer) → option_map (λ (s : CountedConsumer). s.consumer) (find (is_numbered number) seats) ≡ find (λ (c : Consumer). c.number == number) (consumers_of seats)
-seat_is number [] = refl
-seat_is number (s ∷ ss) = go (s.consumer.number == number) (seat_is number ss)
+-- the counted consumer with a number has the consumer with that number
+pub counted_is : (number : ℕ) (consumers : List CountedConsumer) → option_map (λ (s : CountedConsumer). s.consumer) (find (is_numbered number) consumers) ≡ find (λ (c : Consumer). c.number == number) (consumers_of consumers)
+counted_is number [] = refl
+counted_is number (s ∷ ss) = go (s.consumer.number == number) (counted_is number ss)
   where
     go : (b : Bool) → option_map (λ (s : CountedConsumer). s.consumer) (find (is_numbered number) ss) ≡ find (λ (c : Consumer). c.number == number) (consumers_of ss)
         → option_map (λ (s : CountedConsumer). s.consumer) (cond b (Some s) (find (is_numbered number) ss)) ≡ cond b (Some s.consumer) (find (λ (c : Consumer). c.number == number) (consumers_of ss))
@@ -56,7 +56,7 @@ seat_is number (s ∷ ss) = go (s.consumer.number == number) (seat_is number ss)
 -- What is found of a number: it has the number, is one of the list, and no other of the list has it.
 record IsAlone (number : ℕ) (cs : List Consumer) (k : Consumer) : Type 0 where
   numbered : k.number ≡ number
-  seat : IsIn k cs
+  listed : IsIn k cs
   only : (x : Consumer) → IsIn x cs → x.number ≡ number → x ≡ k
 
 some_is : {X : Type 0} (x y : X) → Some x ≡ Some y → x ≡ y
@@ -76,7 +76,7 @@ found next number (c ∷ cs) k (lt, (above, rest)) e = go (c.number == number) r
         let n = eqb-true c.number number t in
         record {
           numbered = ap (λ (x : Consumer). x.number) (sym is) ∙ n;
-          seat = inl (sym is);
+          listed = inl (sym is);
           only = λ x i m. first x i m n ∙ is;
         }
       where
@@ -85,7 +85,7 @@ found next number (c ∷ cs) k (lt, (above, rest)) e = go (c.number == number) r
         first x (inr i) m n = let greater = all_in (λ (d : Consumer). c.number < d.number) x cs above i in absurd (omega (arith, greater, m, n))
     go false t more f =
         let one = more f in
-        record { numbered = one.numbered; seat = inr one.seat; only = λ x i m. later one x i m }
+        record { numbered = one.numbered; listed = inr one.listed; only = λ x i m. later one x i m }
       where
         later : IsAlone number cs k → (x : Consumer) → IsIn x (c ∷ cs) → x.number ≡ number → x ≡ k
         later one x (inl s) m = absurd (false≢true (sym t ∙ eq-eqb c.number number (ap (λ (d : Consumer). d.number) (sym s) ∙ m)))
@@ -121,13 +121,13 @@ in_names names k (c ∷ cs) (inr i) = inr (in_names names k cs i)
 
 record IsOf (names : List Text) (x : seen.Consumer) (cs : List Consumer) : Type 0 where
   consumer : Consumer
-  seat : IsIn consumer cs
+  listed : IsIn consumer cs
   same : x ≡ consumer_in names consumer
 
 of_names : (names : List Text) (x : seen.Consumer) (cs : List Consumer) → IsIn x (map (consumer_in names) cs) → IsOf names x cs
 of_names names x [] i = absurd i
-of_names names x (c ∷ cs) (inl e) = record { consumer = c; seat = inl refl; same = e }
-of_names names x (c ∷ cs) (inr i) = let o = of_names names x cs i in record { consumer = o.consumer; seat = inr o.seat; same = o.same }
+of_names names x (c ∷ cs) (inl e) = record { consumer = c; listed = inl refl; same = e }
+of_names names x (c ∷ cs) (inr i) = let o = of_names names x cs i in record { consumer = o.consumer; listed = inr o.listed; same = o.same }
 
 passed_in : {X Y : Type 0} (f : X → Y) (p : Y → Bool) (xs : List X) → length (filter p (map f xs)) ≡ length (filter (λ x. p (f x)) xs)
 passed_in f p [] = refl
@@ -165,10 +165,10 @@ none_left g number left = sym (ap (λ (b : Bool). if (b && may_of g.limit g.outs
 pub is_one : (ch : Open) (number : ℕ) (k : Consumer) → AreNumbered ch.given.next_number ch.given.consumers → consumer_at ch.given number ≡ Some k → IsOne ch number k
 is_one ch number k rise e = let one = found ch.given.next_number number ch.given.consumers k rise e in record {
   numbered = one.numbered;
-  seat = one.seat;
-  its = λ names. in_names names k ch.given.consumers one.seat;
+  listed = one.listed;
+  its = λ names. in_names names k ch.given.consumers one.listed;
   only = λ names other i m. let o = of_names names other ch.given.consumers i in
-      o.same ∙ ap (consumer_in names) (one.only o.consumer o.seat (ap (λ (x : seen.Consumer). x.number) (sym o.same) ∙ m));
+      o.same ∙ ap (consumer_in names) (one.only o.consumer o.listed (ap (λ (x : seen.Consumer). x.number) (sym o.same) ∙ m));
 }
 
 -- where one is told it is the only one
@@ -179,10 +179,10 @@ tells_one f ch number (Some k) rise e = is_one ch number (f k) rise (sym e)
 is_taker : (ch : Open) (number : ℕ) (k : Consumer) → AreNumbered ch.given.next_number ch.given.consumers → consumer_at ch.given number ≡ Some k → may_be_given ch.given number ≡ true → IsTaker ch number k
 is_taker ch number k rise e may = let one = found ch.given.next_number number ch.given.consumers k rise e in record {
   numbered = one.numbered;
-  seat = one.seat;
-  its = λ names. in_names names k ch.given.consumers one.seat;
+  listed = one.listed;
+  its = λ names. in_names names k ch.given.consumers one.listed;
   only = λ names other i m. let o = of_names names other ch.given.consumers i in
-      o.same ∙ ap (consumer_in names) (one.only o.consumer o.seat (ap (λ (x : seen.Consumer). x.number) (sym o.same) ∙ m));
+      o.same ∙ ap (consumer_in names) (one.only o.consumer o.listed (ap (λ (x : seen.Consumer). x.number) (sym o.same) ∙ m));
   may = λ names. may_in names ch k ∙ sym (may_at ch.given number k e) ∙ may;
 }
 
@@ -192,9 +192,9 @@ cannot ch number rise may names x i m = go (consumer_at ch.given number) refl (o
     go : (r : Option Consumer) → consumer_at ch.given number ≡ r → IsOf names x ch.given.consumers → said.may_take (open_in names ch) x ≡ false
     go (Some k) e o =
         let one = found ch.given.next_number number ch.given.consumers k rise e in
-        let is : o.consumer ≡ k = one.only o.consumer o.seat (ap (λ (y : seen.Consumer). y.number) (sym o.same) ∙ m) in
+        let is : o.consumer ≡ k = one.only o.consumer o.listed (ap (λ (y : seen.Consumer). y.number) (sym o.same) ∙ m) in
         ap (said.may_take (open_in names ch)) (o.same ∙ ap (consumer_in names) is) ∙ may_in names ch k ∙ sym (may_at ch.given number k e) ∙ may
-    go None e o = absurd (none_found number ch.given.consumers o.consumer e o.seat (ap (λ (y : seen.Consumer). y.number) (sym o.same) ∙ m))
+    go None e o = absurd (none_found number ch.given.consumers o.consumer e o.listed (ap (λ (y : seen.Consumer). y.number) (sym o.same) ∙ m))
 
 pub tells : (ch : Open) (number : ℕ) (r : Option Consumer) → AreNumbered ch.given.next_number ch.given.consumers → r ≡ taker_at ch.given number → ReturnsTaker ch number r
 tells ch number r rise is = go (may_be_given ch.given number) refl r is
@@ -202,6 +202,6 @@ tells ch number r rise is = go (may_be_given ch.given number) refl r is
     go : (b : Bool) → may_be_given ch.given number ≡ b → (r : Option Consumer) → r ≡ (if b then consumer_at ch.given number else None) → ReturnsTaker ch number r
     go true e (Some k) f = is_taker ch number k rise (sym f) e
     go true e None f = λ names x i m. let o = of_names names x ch.given.consumers i in
-        absurd (none_found number ch.given.consumers o.consumer (sym f) o.seat (ap (λ (y : seen.Consumer). y.number) (sym o.same) ∙ m))
+        absurd (none_found number ch.given.consumers o.consumer (sym f) o.listed (ap (λ (y : seen.Consumer). y.number) (sym o.same) ∙ m))
     go false e (Some k) f = absurd (not_none k f)
     go false e None f = cannot ch number rise e

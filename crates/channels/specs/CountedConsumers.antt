@@ -1,5 +1,5 @@
 -- The consumers of a channel, each with the number of its unacknowledged messages (own).
-use Rattle.std.specs.Prelude.{◌≡◌, ◌<◌, ◌+◌, ◌-◌, ℕ, List, [], ◌∷◌, map, count_by, length, slice_index_or}
+use Rattle.std.specs.Prelude.{◌≡◌, ◌<◌, ◌+◌, ◌-◌, ℕ, List, [], ◌∷◌, map, find, count_by, length, slice_index_or}
 use Rattle.std.specs.Prelude.{Bool, false, ◌==◌, ◌&&◌, ◌||◌, if◌then◌else◌, Option, Some, None}
 use Rattle.std.specs.List.{AllByRecursion}
 use Rattle.std.specs.Str.{bytes_eq}
@@ -21,11 +21,15 @@ pub record ConsumerCounts : Type 0 where
 
 -- the consumers, without their counts
 abbrev pub consumers_of : List CountedConsumer → List Consumer
-consumers_of seats = map (λ (s : CountedConsumer). s.consumer) seats
+consumers_of consumers = map (λ (s : CountedConsumer). s.consumer) consumers
+
+-- the consumer with this number
+abbrev pub consumer_numbered : ℕ → List Consumer → Option Consumer
+consumer_numbered number consumers = find (λ (c : Consumer). c.number == number) consumers
 
 -- the counts of the consumers
 abbrev pub counts_of : List CountedConsumer → List ℕ
-counts_of seats = map (λ (s : CountedConsumer). s.held) seats
+counts_of consumers = map (λ (s : CountedConsumer). s.held) consumers
 
 -- the consumer has this number
 abbrev pub is_numbered : ℕ → CountedConsumer → Bool
@@ -80,9 +84,9 @@ abbrev pub NumbersRise : List Consumer → Type 0
 NumbersRise cs = (next : ℕ) × AreNumbered next cs
 
 -- The consumer at this index has this number.
-pub record IsConsumerAt (seats : List CountedConsumer) (number place : ℕ) : Type 0 where
-  pub within : place < length seats
-  pub numbered : (d : CountedConsumer) → (slice_index_or seats place d).consumer.number ≡ number
+pub record IsConsumerAt (consumers : List CountedConsumer) (number place : ℕ) : Type 0 where
+  pub within : place < length consumers
+  pub numbered : (d : CountedConsumer) → (slice_index_or consumers place d).consumer.number ≡ number
 
 -- the number of the consumer to which a message was given; 0 for a get (own)
 abbrev pub number_given : Taker → ℕ
@@ -92,6 +96,12 @@ number_given (To_consumer number) = number
 -- no delivery of `given` went to a consumer with a number above `most`
 abbrev pub NoneAbove : ℕ → List Delivery → Type 0
 NoneAbove most given = (number : ℕ) → most < number → count_to taker_of number given ≡ 0
+
+-- delivery tag `last` is below `next_tag`, the counts are right for the deliveries `outstanding`, the consumers' numbers ascend below `next`, and
+-- no delivery went to a number above `most`
+abbrev pub TagsAndCountsAgree : ℕ → ℕ → ConsumerCounts → List Delivery → ℕ → ℕ → Type 0
+TagsAndCountsAgree last next_tag s outstanding next most =
+    (last < next_tag) × CountsAgree s outstanding × AreNumbered next s.consumers × NoneAbove most outstanding
 
 -- the deliveries `outstanding` are `gone` and `left` together: for each property `p`, the two have as many with it as `outstanding`
 abbrev pub AreParts : List Delivery → List Delivery → List Delivery → Type 0

@@ -7,7 +7,7 @@ use Rattle.model.specs.Step.{greatest}
 use Rattle.model.specs.Prefetch.{may_hold, has_tag_left}
 use Rattle.model.specs.declared.messages.Taker.{Taker}
 use Rattle.channels.specs.Outstanding.{taker_of}
-use Rattle.channels.specs.CountedConsumers.{is_named}
+use Rattle.channels.specs.CountedConsumers.{ConsumerCounts, CountsAgree, consumer_numbered, is_named}
 use Rattle.channels.specs.Names.{server_name, IsNextName, AreNamesSpent}
 use Rattle.channels.specs.declared.names.Name.{Name}
 use Rattle.model.specs.declared.deliveries.Delivery.{Delivery}
@@ -31,11 +31,11 @@ pub record Given : Type 0 where
   -- in the order of their tags
   pub outstanding : List Delivery
   pub room : ℕ
-  pub seats : ℕ
+  pub consumer_room : ℕ
 
 -- nothing was given out, and there is no consumer and no limit
 abbrev pub nothing_given : ℕ → ℕ → Given
-nothing_given room seats = record {
+nothing_given room consumer_room = record {
   next_tag = 1;
   next_number = 1;
   next_name = 1;
@@ -44,7 +44,7 @@ nothing_given room seats = record {
   consumers = [];
   outstanding = [];
   room = room;
-  seats = seats;
+  consumer_room = consumer_room;
 }
 
 -- a message is given out under the next tag, and is unacknowledged (AMQP 0-9-1, basic.deliver, basic.get-ok)
@@ -68,6 +68,11 @@ may_of limit outstanding (Some c) = may_hold taker_of limit c.no_ack c.limit c.n
 abbrev pub taker_among : ℕ → List Delivery → Option Consumer → Option Consumer
 taker_among limit outstanding c = if may_of limit outstanding c then c else None
 
+-- `result` is the consumer with this number, if it may be given one more message under the channel's `limit`, whatever deliveries the counts are of
+abbrev pub FindsTaker : ConsumerCounts → ℕ → ℕ → Option Consumer → Type 0
+FindsTaker s number limit result = (outstanding : List Delivery) → CountsAgree s outstanding
+    → result ≡ taker_among limit outstanding (consumer_numbered number s.consumers)
+
 -- a tag is left, and the consumer with this number is the channel's and may be given one more message
 abbrev pub may_be_given : Given → ℕ → Bool
 may_be_given g number = has_tag_left g.next_tag && may_of g.limit g.outstanding (find (λ (c : Consumer). c.number == number) g.consumers)
@@ -82,28 +87,28 @@ taker_at g number = if may_be_given g number then consumer_at g number else None
 
 -- one more consumer, with the next number and the prefetch that is set for each (AMQP 0-9-1, basic.consume)
 abbrev pub with_consumer_added : Given → Text → ℕ → Bool → ℕ → Given
-with_consumer_added g name queue no_ack seats = record g {
-  seats = seats;
+with_consumer_added g name queue no_ack consumer_room = record g {
+  consumer_room = consumer_room;
   next_number = g.next_number + 1;
   consumers = g.consumers ++ record { number = g.next_number; tag = name; queue = queue; no_ack = no_ack; limit = g.each_limit } ∷ [];
 }
 
 -- A consumer with this tag can be made: the tag is not in use on the channel, there are fewer than 256 consumers (own), and a number is left.
-pub record MaySeat (g : Given) (name : Text) : Type 0 where
+pub record CanMakeConsumer (g : Given) (name : Text) : Type 0 where
   pub free : list_any (is_named name) g.consumers ≡ false
   pub few : length g.consumers < 256
   pub left : g.next_number < greatest
 
 -- the first reason against a consumer with the tag `name`, in this order, or `None` if there is none
 abbrev pub JudgesNamed : Given → Text → Option ConsumerRefusal → Type 0
-JudgesNamed g name None = MaySeat g name
+JudgesNamed g name None = CanMakeConsumer g name
 JudgesNamed g name (Some InUse) = list_any (is_named name) g.consumers ≡ true
 JudgesNamed g name (Some TooMany) = (list_any (is_named name) g.consumers ≡ false) × (256 ≤ length g.consumers)
 JudgesNamed g name (Some Spent) = (list_any (is_named name) g.consumers ≡ false) × ((length g.consumers < 256) × (g.next_number ≡ greatest))
 
 -- a consumer was made, and the spare capacity for further ones is at most one less
 abbrev pub AddsConsumer : Given → Text → ℕ → Bool → Given → Type 0
-AddsConsumer old name queue no_ack new = (new ≡ with_consumer_added old name queue no_ack new.seats) × (old.seats ≤ new.seats + 1)
+AddsConsumer old name queue no_ack new = (new ≡ with_consumer_added old name queue no_ack new.consumer_room) × (old.consumer_room ≤ new.consumer_room + 1)
 
 -- why a consumer without a tag of its own is refused, in this order: the channel has 256 consumers; the numbers or the server's tags are used up
 abbrev pub RefusesUnnamed : Given → ConsumerRefusal → Type 0
@@ -126,12 +131,13 @@ JudgesUnnamed g (Some refusal) = RefusesUnnamed g refusal
 pub record IsMadeUnder (old : Given) (queue : ℕ) (no_ack : Bool) (tag : Text) (new : Given) (n : ℕ) : Type 0 where
   pub next : IsNextName old.consumers old.next_name n
   pub named : tag ≡ server_name n
-  pub made : new ≡ record (with_consumer_added old (server_name n) queue no_ack new.seats) { next_name = n + 1 }
+  pub made : new ≡ record (with_consumer_added old (server_name n) queue no_ack new.consumer_room) { next_name = n + 1 }
 
 -- what each result of making a consumer without a tag of its own means: it was made with the next free tag, which is returned; or it was
 -- refused; or an allocation failed, and there was no reason to refuse it. If no consumer was made, nothing changed.
 abbrev pub ConsumesUnnamed : Given → ℕ → Bool → Result Text ConsumeError → Given → Type 0
 ConsumesUnnamed old queue no_ack (Ok tag) new =
-    (length old.consumers < 256) × ((old.next_number < greatest) × ((old.seats ≤ new.seats + 1) × ((n : ℕ) × IsMadeUnder old queue no_ack tag new n)))
+    (length old.consumers < 256) × ((old.next_number < greatest) × ((old.consumer_room ≤ new.consumer_room + 1)
+    × ((n : ℕ) × IsMadeUnder old queue no_ack tag new n)))
 ConsumesUnnamed old queue no_ack (Err (Refused refusal)) new = JudgesUnnamed old (Some refusal) × (new ≡ old)
 ConsumesUnnamed old queue no_ack (Err Memory) new = JudgesUnnamed old None × (new ≡ old)

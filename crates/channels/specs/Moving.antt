@@ -21,8 +21,8 @@ abbrev pub consumer_moved : List ℕ → Consumer → Consumer
 consumer_moved places c = record c { queue = place_now places c.queue }
 
 -- a consumer with its count, with its queue's new index
-abbrev pub seat_moved : List ℕ → CountedConsumer → CountedConsumer
-seat_moved places s = record s { consumer = consumer_moved places s.consumer }
+abbrev pub counted_moved : List ℕ → CountedConsumer → CountedConsumer
+counted_moved places s = record s { consumer = consumer_moved places s.consumer }
 
 -- the deliveries and consumers of a channel, with their queues' new indices
 abbrev pub given_moved : List ℕ → Given → Given

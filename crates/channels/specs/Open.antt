@@ -44,9 +44,9 @@ settled_on ch = record ch { given = record ch.given { next_tag = ch.given.next_t
 abbrev pub without_settled : Open → ℕ → Bool → ℕ → Open
 without_settled ch tag multiple room = record ch { given = record ch.given { outstanding = kept tag_of tag multiple ch.given.outstanding; room = room } }
 
--- the channel without the consumers with the tag `tag`, with spare capacity `seats` for consumers (AMQP 0-9-1, basic.cancel)
+-- the channel without the consumers with the tag `tag`, with spare capacity `room` for consumers (AMQP 0-9-1, basic.cancel)
 abbrev pub without_named : Open → Text → ℕ → Open
-without_named ch tag seats = record ch { given = record ch.given { consumers = filter (λ c. not (is_named tag c)) ch.given.consumers; seats = seats } }
+without_named ch tag room = record ch { given = record ch.given { consumers = filter (λ c. not (is_named tag c)) ch.given.consumers; consumer_room = room } }
 
 -- how many of the channel's consumers take from the queue at index `queue`
 abbrev pub consumers_from : ℕ → Open → ℕ
@@ -75,7 +75,7 @@ abbrev pub places_of : List Consumer → List ℕ
 places_of consumers = map (λ (c : Consumer). c.queue) consumers
 
 -- A consumer of the queue at this index was made with this tag (AMQP 0-9-1, basic.consume).
-pub record IsConsumerSeated (old : Open) (queue : ℕ) (m : Consume) (tag : Text) (new : Open) : Type 0 where
+pub record IsConsumerMade (old : Open) (queue : ℕ) (m : Consume) (tag : Text) (new : Open) : Type 0 where
   -- there was no reason to refuse the consumer
   pub free : (names : List Text) → refusal_of_consumer (open_in names old) m ≡ None
   pub named : (names : List Text) → tag ≡ tag_for (open_in names old) m.consumer_tag
@@ -97,15 +97,15 @@ JudgesConsumer ch m against = (names : List Text) → refusal_of_consumer (open_
 
 -- what each result of making a consumer means: it was made with this tag; or it was refused; or an allocation failed, and there is no reason
 -- against it. If none was made nothing changed.
-abbrev pub SeatsConsumer : Open → ℕ → Consume → Result Text ConsumeError → Open → Type 0
-SeatsConsumer old queue m (Ok tag) new = IsConsumerSeated old queue m tag new
-SeatsConsumer old queue m (Err (Refused refusal)) new = JudgesConsumer old m (Some refusal) × (new ≡ old)
-SeatsConsumer old queue m (Err Memory) new = JudgesConsumer old m None × (new ≡ old)
+abbrev pub MakesConsumer : Open → ℕ → Consume → Result Text ConsumeError → Open → Type 0
+MakesConsumer old queue m (Ok tag) new = IsConsumerMade old queue m tag new
+MakesConsumer old queue m (Err (Refused refusal)) new = JudgesConsumer old m (Some refusal) × (new ≡ old)
+MakesConsumer old queue m (Err Memory) new = JudgesConsumer old m None × (new ≡ old)
 
 -- `k` is the channel's only consumer with this number, and may be given one more message.
 pub record IsTaker (ch : Open) (number : ℕ) (k : Consumer) : Type 0 where
   pub numbered : k.number ≡ number
-  pub seat : IsIn k ch.given.consumers
+  pub listed : IsIn k ch.given.consumers
   -- the model's channel has `k`, if the queues have these names
   pub its : (names : List Text) → IsIn (consumer_in names k) (open_in names ch).consumers
   pub only : (names : List Text) (other : seen.Consumer) → IsIn other (open_in names ch).consumers → other.number ≡ number → other ≡ consumer_in names k
@@ -114,7 +114,7 @@ pub record IsTaker (ch : Open) (number : ℕ) (k : Consumer) : Type 0 where
 -- `k` is the channel's only consumer with this number.
 pub record IsOne (ch : Open) (number : ℕ) (k : Consumer) : Type 0 where
   pub numbered : k.number ≡ number
-  pub seat : IsIn k ch.given.consumers
+  pub listed : IsIn k ch.given.consumers
   -- the model's channel has it, if queues have these names
   pub its : (names : List Text) → IsIn (consumer_in names k) (open_in names ch).consumers
   pub only : (names : List Text) (other : seen.Consumer) → IsIn other (open_in names ch).consumers → other.number ≡ number → other ≡ consumer_in names k

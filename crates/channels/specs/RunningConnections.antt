@@ -2,7 +2,7 @@
 use Rattle.std.specs.Prelude.{◌≡◌, ◌≤◌, ◌==◌, false, ℕ, List, length, [], Bool, Option, Some, None, nat_eq, slice_index_or, slice_set, option_map}
 use Rattle.std.specs.Map.{lookup, set_value}
 use Rattle.model.specs.Words.{Text}
-use Rattle.model.specs.Step.{channels_up_to}
+use Rattle.model.specs.Step.{channels_up_to, paused}
 use Rattle.model.specs.Broker.{Channel, Connection, with_one, with_row, with_pair}
 use Rattle.channels.specs.Open.{Open, open_in}
 use Rattle.model.specs.declared.deliveries.Delivery.{Delivery}
@@ -96,6 +96,10 @@ pub record PutsChannel (old : List (ℕ × Running)) (c h : ℕ) (ch : Option Op
 pub record HoldsConnections (new : List (ℕ × Running)) (connections : ℕ → Option Connection) (channels : ℕ → ℕ → Option Open) : Type 0 where
   pub connections_are : (d : ℕ) → connection_of new d ≡ connections d
   pub channels_are : (d k : ℕ) → channel_of new d k ≡ channels d k
+
+-- connection `c`, if it is running, is paused or not, as `is_paused` says, and nothing else changed
+abbrev pub SetsPaused : List (ℕ × Running) → ℕ → Bool → List (ℕ × Running) → Type 0
+SetsPaused old c is_paused new = HoldsConnections new (with_one (connection_of old) c (paused is_paused (connection_of old c))) (channel_of old)
 
 -- Connection `c` is running now, with channel-max `max`, and its channels 1 to `k` are open and new. All others are unchanged.
 pub record OpensConnection (old : List (ℕ × Running)) (c max k : ℕ) (new : List (ℕ × Running)) : Type 0 where

@@ -9,9 +9,9 @@ ghost use Rattle.model.specs.Settling.{settled};
 ghost use Rattle.model.specs.Placed.{waiting};
 ghost use Rattle.channels.specs.Spans.{settled_by, ReturnsSpan};
 ghost use Rattle.channels.specs.Deliveries.{nothing_given, may_be_given, consumer_at};
-ghost use Rattle.channels.specs.Deliveries.{AddsConsumer, ConsumesUnnamed, JudgesNamed, JudgesUnnamed, MaySeat, NamesUnnamed};
+ghost use Rattle.channels.specs.Deliveries.{AddsConsumer, ConsumesUnnamed, JudgesNamed, JudgesUnnamed, CanMakeConsumer, NamesUnnamed};
 ghost use Rattle.channels.specs.Open.{with_qos, given_on, settled_on, without_settled, without_named, consumers_from, open_in};
-ghost use Rattle.channels.specs.Open.{JudgesConsumer, SeatsConsumer, IsOne, ReturnsTaker};
+ghost use Rattle.channels.specs.Open.{JudgesConsumer, MakesConsumer, IsOne, ReturnsTaker};
 ghost use Rattle.channels.specs.Consumers.{AreBelow};
 ghost use Rattle.channels.specs.Moving.{open_moved};
 ghost use Rattle.channels.specs.Outstanding.{tag_of};
@@ -36,7 +36,7 @@ pub struct Channel {
     /// Whether a close was sent, and close-ok is awaited.
     is_closing: bool,
     pending: Unsettled,
-    seats: CountedConsumers,
+    consumers: CountedConsumers,
     next_tag: u64,
     next_number: u64,
     /// The greatest number among the consumers that were given a message; 0 before the first.
@@ -47,8 +47,7 @@ pub struct Channel {
 }
 
 impl Model for Channel {
-    ghost use Rattle.std.specs.Prelude.{◌<◌};
-    ghost use Rattle.channels.specs.CountedConsumers.{CountsAgree, AreNumbered, NoneAbove};
+    ghost use Rattle.channels.specs.CountedConsumers.{TagsAndCountsAgree};
     ghost use Rattle.channels.specs.Open.{Open};
 
     ghost Value = { Open };
@@ -62,15 +61,14 @@ impl Model for Channel {
         next_name = c.next_name;
         each_limit = c.each_limit;
         limit = c.limit;
-        consumers = c.seats.consumers;
+        consumers = c.consumers.consumers;
         outstanding = c.pending.outstanding;
         room = c.pending.room;
-        seats = c.seats.room;
+        consumer_room = c.consumers.room;
       };
     } };
 
-    ghost invariant = { λ c. (c.pending.last < c.next_tag) × CountsAgree c.seats c.pending.outstanding
-        × AreNumbered c.next_number c.seats.consumers × NoneAbove c.most_given c.pending.outstanding };
+    ghost invariant = { λ c. TagsAndCountsAgree c.pending.last c.next_tag c.consumers c.pending.outstanding c.next_number c.most_given };
 }
 
 impl Channel {
@@ -97,7 +95,7 @@ impl Channel {
             confirm: None,
             is_closing,
             pending: Unsettled::new(alloc),
-            seats: CountedConsumers::new(alloc),
+            consumers: CountedConsumers::new(alloc),
             next_tag: 1,
             next_number: 1,
             most_given: 0,
@@ -178,10 +176,10 @@ impl Channel {
     fn refusal_named(&self, tag: &[u8]) -> Option<ConsumerRefusal>
         ensures { JudgesNamed self.now.given tag.now result }
     {
-        if self.seats.has(tag) {
+        if self.consumers.has(tag) {
             return Some(ConsumerRefusal::InUse);
         }
-        if self.seats.len() >= 256 {
+        if self.consumers.len() >= 256 {
             return Some(ConsumerRefusal::TooMany);
         }
         if self.next_number == u64::MAX {
@@ -196,13 +194,13 @@ impl Channel {
     fn next_unnamed(&self) -> Result<Name, ConsumerRefusal>
         ensures { NamesUnnamed self.now.given result }
     {
-        if self.seats.len() >= 256 {
+        if self.consumers.len() >= 256 {
             return Err(ConsumerRefusal::TooMany);
         }
         if self.next_number == u64::MAX {
             return Err(ConsumerRefusal::Spent);
         }
-        match next_name(&self.seats, self.next_name) {
+        match next_name(&self.consumers, self.next_name) {
             Some(name) => Ok(name),
             None => Err(ConsumerRefusal::Spent),
         }
@@ -228,7 +226,7 @@ impl Channel {
         queue: usize,
         consume: &Consume,
     ) -> Result<Text, ConsumeError>
-        ensures { SeatsConsumer self.old queue consume.now result self.new }
+        ensures { MakesConsumer self.old queue consume.now result self.new }
     {
         if consume.consumer_tag.len() == 0 {
             next_tags_are_found();
@@ -245,14 +243,14 @@ impl Channel {
     /// Makes a consumer with this tag, which is not refused. Fails only if there is no spare capacity and the allocation fails; nothing has
     /// changed then.
     fn add_consumer(&mut self, tag: Text, queue: usize, no_ack: bool) -> Result<(), AllocError>
-        requires { MaySeat self.old.given tag }
+        requires { CanMakeConsumer self.old.given tag }
         ensures same { self.new ≡ record self.old { given = self.new.given } }
         ensures ok { OnOk result (AddsConsumer self.old.given tag queue no_ack self.new.given) }
-        ensures full { OnErr result (self.old.given.seats ≡ 0) }
+        ensures full { OnErr result (self.old.given.consumer_room ≡ 0) }
         ensures err { OnErr result (self.new ≡ self.old) }
     {
         let number = self.next_number;
-        if self.seats.reserve().is_err() {
+        if self.consumers.reserve().is_err() {
             return Err(AllocError);
         }
         let consumer = Consumer {
@@ -263,7 +261,7 @@ impl Channel {
             limit: self.each_limit,
         };
         let held = held_by(self.pending.all(), self.most_given, number);
-        self.seats.push(consumer, held);
+        self.consumers.push(consumer, held);
         self.next_number = number + 1;
         Ok(())
     }
@@ -289,10 +287,10 @@ impl Channel {
     /// Removes the consumer with this tag, if any. Its unacknowledged messages stay unacknowledged. Never allocates. Source:
     /// AMQP 0-9-1, basic.cancel.
     pub fn cancel(&mut self, tag: &[u8])
-        ensures whole { self.new ≡ without_named self.old tag.now self.new.given.seats }
+        ensures whole { self.new ≡ without_named self.old tag.now self.new.given.consumer_room }
         ensures seen { (names : List Word) → open_in names self.new ≡ without_consumer (open_in names self.old) tag.now }
     {
-        self.seats.remove_by_tag(tag);
+        self.consumers.remove_by_tag(tag);
     }
 
     /// Returns the number of the next consumer. No consumer had it yet, and each has a smaller one.
@@ -308,7 +306,7 @@ impl Channel {
     pub fn taker(&self, number: u64) -> Option<&Consumer>
         ensures { ReturnsTaker self.now number (option_map (λ k. k.now) result) }
     {
-        let found = self.seats.taker(number, self.limit);
+        let found = self.consumers.taker(number, self.limit);
         if !self.has_tag_left() {
             return None;
         }
@@ -320,7 +318,7 @@ impl Channel {
     pub fn may_take(&self, number: u64) -> bool
         ensures { result ≡ may_be_given self.now.given number }
     {
-        self.has_tag_left() && self.seats.may_take(number, self.limit)
+        self.has_tag_left() && self.consumers.may_take(number, self.limit)
     }
 
     /// Returns the consumer with this number, if the channel has it.
@@ -328,28 +326,28 @@ impl Channel {
         ensures found { option_map (λ k. k.now) result ≡ consumer_at self.now.given number }
         ensures one { IfSome result (λ k. IsOne self.now number k.now) }
     {
-        self.seats.numbered(number)
+        self.consumers.numbered(number)
     }
 
     /// Returns whether the channel has a consumer.
     pub fn has_consumers(&self) -> bool
         ensures { result ≡ nat_lt 0 (length self.now.given.consumers) }
     {
-        self.seats.len() > 0
+        self.consumers.len() > 0
     }
 
     /// Returns whether one of the channel's consumers has this tag.
     pub fn has_tagged(&self, tag: &[u8]) -> bool
         ensures { (names : List Word) → result ≡ is_in_use tag.now (open_in names self.now).consumers }
     {
-        self.seats.has(tag)
+        self.consumers.has(tag)
     }
 
     /// Returns how many of the channel's consumers take from the queue at index `queue`.
     pub fn consumers_from(&self, queue: usize) -> usize
         ensures { result ≡ consumers_from queue self.now }
     {
-        self.seats.count_from(queue)
+        self.consumers.count_from(queue)
     }
 
     /// Returns whether the channel can still number a delivery: tags are below 2^64 - 1.
@@ -393,7 +391,7 @@ impl Channel {
             arrival,
             by,
         });
-        self.seats.count_in(&by);
+        self.consumers.count_in(&by);
         self.most_given = self.most_given.max(number_of(&by));
         self.next_tag = tag + 1;
     }
@@ -437,7 +435,7 @@ impl Channel {
     {
         let gone = self.pending.at(span);
         let count = count_waiting(gone);
-        self.seats.count_out(gone);
+        self.consumers.count_out(gone);
         self.pending.forget(span, count);
     }
 
@@ -469,6 +467,6 @@ impl Channel {
         ensures { self.new ≡ open_moved indices.now self.old }
     {
         self.pending.renumber(indices);
-        self.seats.renumber(indices);
+        self.consumers.renumber(indices);
     }
 }

@@ -36,12 +36,11 @@ impl RunningConnections {
     ghost use Rattle.std.specs.Borrow.{sem};
     ghost use Rattle.channels.specs.Lends.{LendsConnection, LendsChannel};
     ghost use Rattle.model.specs.Broker.{with_one, with_row};
-    ghost use Rattle.model.specs.Step.{paused};
     ghost use Rattle.model.specs.Placed.{waiting};
     ghost use Rattle.channels.specs.Counting.{CountsConsumers, HasTaker, is_consumed};
     ghost use Rattle.channels.specs.ConnectionsMoving.{connections_moved};
     ghost use Rattle.channels.specs.RunningConnections.{running_in, connection_of, channel_of, outstanding_on, PutsChannel, OpensConnection, HoldsConnections};
-    ghost use Rattle.channels.specs.RunningConnections.{HasPlacesBelow};
+    ghost use Rattle.channels.specs.RunningConnections.{HasPlacesBelow, SetsPaused};
 
     /// Makes an empty list of connections. Never allocates.
     pub fn new(alloc: Global) -> RunningConnections
@@ -153,8 +152,7 @@ impl RunningConnections {
 
     /// Sets whether the connection is paused, if it is running.
     pub fn set_paused(&mut self, connection: u64, is_paused: bool)
-        ensures { HoldsConnections self.new
-            (with_one (connection_of self.old) connection (paused is_paused (connection_of self.old connection))) (channel_of self.old) }
+        ensures { SetsPaused self.old connection is_paused self.new }
     {
         if let Some(running) = self.connections.get_mut(&connection) {
             running.set_paused(is_paused);

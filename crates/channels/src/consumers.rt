@@ -8,7 +8,7 @@ ghost use Rattle.model.specs.Prefetch.{is_to, is_delivery, is_below, count_to};
 ghost use Rattle.model.specs.Placed.{is_waiting, waiting};
 ghost use Rattle.channels.specs.CountedConsumers.{consumers_of, is_numbered, has_name, takes_from, counted_in, counted_out, uncounted};
 ghost use Rattle.channels.specs.CountedConsumers.{may_held, taker_held, IsConsumerAt, NumbersRise, number_given, NoneAbove};
-ghost use Rattle.channels.specs.Moving.{seat_moved};
+ghost use Rattle.channels.specs.Moving.{counted_moved};
 ghost use Rattle.channels.specs.Outstanding.{taker_of};
 
 use crate::pending::place_now;
@@ -75,76 +75,79 @@ impl From<AllocError> for ConsumeError {
 }
 
 /// Returns whether some consumer has this tag.
-pub(crate) fn is_in_use(seats: &[CountedConsumer], tag: &[u8]) -> bool
-    ensures { result ≡ list_any (has_name tag.now) seats.now }
+pub(crate) fn is_in_use(consumers: &[CountedConsumer], tag: &[u8]) -> bool
+    ensures { result ≡ list_any (has_name tag.now) consumers.now }
 {
-    seats.iter().any(|s| s.consumer.tag.as_bytes() == tag)
+    consumers.iter().any(|s| s.consumer.tag.as_bytes() == tag)
 }
 
 /// Returns whether the consumer at index `place` has this number.
-fn is_at(seats: &[CountedConsumer], place: usize, number: u64) -> bool
-    ensures { result ≡ true → IsConsumerAt seats.now number place }
+fn is_at(consumers: &[CountedConsumer], place: usize, number: u64) -> bool
+    ensures { result ≡ true → IsConsumerAt consumers.now number place }
 {
-    place < seats.len() && seats[place].consumer.number == number
+    place < consumers.len() && consumers[place].consumer.number == number
 }
 
 /// Returns the index of the first consumer with this number, by linear search.
-fn search(seats: &[CountedConsumer], number: u64) -> Option<usize>
-    ensures is { result ≡ position_from (is_numbered number) 0 seats.now }
-    ensures some { IfSome result (λ place. IsConsumerAt seats.now number place) }
+fn search(consumers: &[CountedConsumer], number: u64) -> Option<usize>
+    ensures is { result ≡ position_from (is_numbered number) 0 consumers.now }
+    ensures some { IfSome result (λ place. IsConsumerAt consumers.now number place) }
 {
-    seats.iter().position(|s| s.consumer.number == number)
+    consumers.iter().position(|s| s.consumer.number == number)
 }
 
 /// Returns the index of the consumer with this number, by binary search, since numbers ascend. If it isn't found so, looks at each consumer, so that
 /// `None` is right in any order.
-fn place_of_consumer(seats: &[CountedConsumer], number: u64) -> Option<usize>
-    ensures some { IfSome result (λ place. IsConsumerAt seats.now number place) }
-    ensures none { result ≡ None → find (is_numbered number) seats.now ≡ None }
+fn place_of_consumer(consumers: &[CountedConsumer], number: u64) -> Option<usize>
+    ensures some { IfSome result (λ place. IsConsumerAt consumers.now number place) }
+    ensures none { result ≡ None → find (is_numbered number) consumers.now ≡ None }
 {
-    let place = seats.partition_point(|s| s.consumer.number < number);
-    if is_at(seats, place, number) {
+    let place = consumers.partition_point(|s| s.consumer.number < number);
+    if is_at(consumers, place, number) {
         return Some(place);
     }
-    search(seats, number)
+    search(consumers, number)
 }
 
 /// Returns the counted consumer with this number, if it exists.
-fn counted_consumer(seats: &[CountedConsumer], number: u64) -> Option<&CountedConsumer>
-    requires { NumbersRise (consumers_of seats.now) }
-    ensures { option_map (λ s. s.now) result ≡ find (is_numbered number) seats.now }
+fn counted_consumer(consumers: &[CountedConsumer], number: u64) -> Option<&CountedConsumer>
+    requires { NumbersRise (consumers_of consumers.now) }
+    ensures { option_map (λ s. s.now) result ≡ find (is_numbered number) consumers.now }
 {
-    match place_of_consumer(seats, number) {
-        Some(place) => Some(&seats[place]),
+    match place_of_consumer(consumers, number) {
+        Some(place) => Some(&consumers[place]),
         None => None,
     }
 }
 
 /// Returns the consumer with this number.
-pub(crate) fn consumer_of(seats: &[CountedConsumer], number: u64) -> Option<&Consumer>
-    requires { NumbersRise (consumers_of seats.now) }
-    ensures { option_map (λ k. k.now) result ≡ option_map (λ s. s.consumer) (find (is_numbered number) seats.now) }
+pub(crate) fn consumer_of(consumers: &[CountedConsumer], number: u64) -> Option<&Consumer>
+    requires { NumbersRise (consumers_of consumers.now) }
+    ensures { option_map (λ k. k.now) result ≡ option_map (λ s. s.consumer) (find (is_numbered number) consumers.now) }
 {
-    match counted_consumer(seats, number) {
-        Some(seat) => Some(&seat.consumer),
+    match counted_consumer(consumers, number) {
+        Some(counted) => Some(&counted.consumer),
         None => None,
     }
 }
 
 /// Returns how many consumers take from the queue at index `queue`.
-pub(crate) fn count_from(seats: &[CountedConsumer], queue: usize) -> usize
-    ensures { result ≡ count_by (λ s. takes_from queue s.consumer) seats.now }
+pub(crate) fn count_from(consumers: &[CountedConsumer], queue: usize) -> usize
+    ensures { result ≡ count_by (λ s. takes_from queue s.consumer) consumers.now }
 {
-    seats.iter().filter(|s| s.consumer.queue == queue).count()
+    consumers
+        .iter()
+        .filter(|s| s.consumer.queue == queue)
+        .count()
 }
 
 /// Removes the consumers with this tag.
-pub(crate) fn remove_tagged(seats: &mut Vec<CountedConsumer>, tag: &[u8])
-    ensures seats { seats.new.items ≡ filter (λ s. not (has_name tag.now s)) seats.old.items }
-    ensures len { vec_len seats.new ≤ vec_len seats.old }
-    ensures capacity { vec_capacity seats.new ≡ vec_capacity seats.old }
+pub(crate) fn remove_tagged(consumers: &mut Vec<CountedConsumer>, tag: &[u8])
+    ensures consumers { consumers.new.items ≡ filter (λ s. not (has_name tag.now s)) consumers.old.items }
+    ensures len { vec_len consumers.new ≤ vec_len consumers.old }
+    ensures capacity { vec_capacity consumers.new ≡ vec_capacity consumers.old }
 {
-    seats.retain(|s| s.consumer.tag.as_bytes() != tag);
+    consumers.retain(|s| s.consumer.tag.as_bytes() != tag);
 }
 
 /// Returns whether `by` is the consumer with this number.
@@ -220,73 +223,73 @@ pub(crate) fn given_to_all(given: &[Delivery]) -> usize
 }
 
 /// Adds 1 to the count of the consumer with this number, if there is one.
-fn count_one_in(seats: &mut [CountedConsumer], number: u64)
-    requires held { All (λ s. s.held < 2 ^ 64 - 1) seats.old }
-    requires rise { NumbersRise (consumers_of seats.old) }
-    ensures { seats.new ≡ map (counted_in (taker.Consumer number)) seats.old }
+fn count_one_in(consumers: &mut [CountedConsumer], number: u64)
+    requires held { All (λ s. s.held < 2 ^ 64 - 1) consumers.old }
+    requires rise { NumbersRise (consumers_of consumers.old) }
+    ensures { consumers.new ≡ map (counted_in (taker.Consumer number)) consumers.old }
 {
-    if let Some(place) = place_of_consumer(seats, number) {
-        seats[place].held += 1;
+    if let Some(place) = place_of_consumer(consumers, number) {
+        consumers[place].held += 1;
     }
 }
 
 /// Adds 1 to the count of the consumer that `by` is, if there is one.
-pub(crate) fn count_in(seats: &mut Vec<CountedConsumer>, by: &Taker)
-    requires held { All (λ s. s.held < 2 ^ 64 - 1) seats.old.items }
-    requires rise { NumbersRise (consumers_of seats.old.items) }
-    ensures seats { seats.new.items ≡ map (counted_in by.now) seats.old.items }
-    ensures len { vec_len seats.new ≡ vec_len seats.old }
-    ensures capacity { vec_capacity seats.new ≡ vec_capacity seats.old }
+pub(crate) fn count_in(consumers: &mut Vec<CountedConsumer>, by: &Taker)
+    requires held { All (λ s. s.held < 2 ^ 64 - 1) consumers.old.items }
+    requires rise { NumbersRise (consumers_of consumers.old.items) }
+    ensures consumers { consumers.new.items ≡ map (counted_in by.now) consumers.old.items }
+    ensures len { vec_len consumers.new ≡ vec_len consumers.old }
+    ensures capacity { vec_capacity consumers.new ≡ vec_capacity consumers.old }
 {
     match by {
         Taker::Get => {}
-        Taker::Consumer(number) => count_one_in(seats, *number),
+        Taker::Consumer(number) => count_one_in(consumers, *number),
     }
 }
 
 /// Subtracts 1 from the count of the consumer with this number, if there is one.
-fn count_number_out(seats: &mut [CountedConsumer], number: u64)
-    requires { NumbersRise (consumers_of seats.old) }
-    ensures { seats.new ≡ map (uncounted (taker.Consumer number)) seats.old }
+fn count_number_out(consumers: &mut [CountedConsumer], number: u64)
+    requires { NumbersRise (consumers_of consumers.old) }
+    ensures { consumers.new ≡ map (uncounted (taker.Consumer number)) consumers.old }
 {
-    if let Some(place) = place_of_consumer(seats, number) {
-        seats[place].held = seats[place].held.saturating_sub(1);
+    if let Some(place) = place_of_consumer(consumers, number) {
+        consumers[place].held = consumers[place].held.saturating_sub(1);
     }
 }
 
 /// If the delivery `one` is unacknowledged, subtracts 1 from the count of the consumer that it went to, if there is one.
-fn count_waiting_out(seats: &mut [CountedConsumer], one: &Delivery)
-    requires { NumbersRise (consumers_of seats.old) }
-    ensures yes { is_waiting one.now ≡ true → seats.new ≡ map (uncounted one.now.by) seats.old }
-    ensures no { is_waiting one.now ≡ false → seats.new ≡ seats.old }
+fn count_waiting_out(consumers: &mut [CountedConsumer], one: &Delivery)
+    requires { NumbersRise (consumers_of consumers.old) }
+    ensures yes { is_waiting one.now ≡ true → consumers.new ≡ map (uncounted one.now.by) consumers.old }
+    ensures no { is_waiting one.now ≡ false → consumers.new ≡ consumers.old }
 {
     if !one.is_waiting() {
         return;
     }
     match one.by {
         Taker::Get => {}
-        Taker::Consumer(number) => count_number_out(seats, number),
+        Taker::Consumer(number) => count_number_out(consumers, number),
     }
 }
 
 /// Subtracts the unacknowledged deliveries of `gone` from the counts of the consumers that they went to, one after another.
-fn count_each_out(seats: &mut [CountedConsumer], gone: &[Delivery])
-    requires { NumbersRise (consumers_of seats.old) }
-    ensures { seats.new ≡ map (counted_out (waiting gone.now)) seats.old }
+fn count_each_out(consumers: &mut [CountedConsumer], gone: &[Delivery])
+    requires { NumbersRise (consumers_of consumers.old) }
+    ensures { consumers.new ≡ map (counted_out (waiting gone.now)) consumers.old }
 {
     for one in gone {
-        count_waiting_out(seats, one);
+        count_waiting_out(consumers, one);
     }
 }
 
 /// Subtracts the unacknowledged deliveries of `gone` from the counts of the consumers that they went to.
-pub(crate) fn count_out(seats: &mut Vec<CountedConsumer>, gone: &[Delivery])
-    requires { NumbersRise (consumers_of seats.old.items) }
-    ensures seats { seats.new.items ≡ map (counted_out (waiting gone.now)) seats.old.items }
-    ensures len { vec_len seats.new ≡ vec_len seats.old }
-    ensures capacity { vec_capacity seats.new ≡ vec_capacity seats.old }
+pub(crate) fn count_out(consumers: &mut Vec<CountedConsumer>, gone: &[Delivery])
+    requires { NumbersRise (consumers_of consumers.old.items) }
+    ensures consumers { consumers.new.items ≡ map (counted_out (waiting gone.now)) consumers.old.items }
+    ensures len { vec_len consumers.new ≡ vec_len consumers.old }
+    ensures capacity { vec_capacity consumers.new ≡ vec_capacity consumers.old }
 {
-    count_each_out(seats, gone);
+    count_each_out(consumers, gone);
 }
 
 /// Returns whether the prefetch `limit` allows one more message than `held`; 0 is no limit.
@@ -296,39 +299,40 @@ fn is_room(limit: u16, held: usize) -> bool
     limit == 0 || held < limit as usize
 }
 
-/// Returns whether the consumer of `seat` may be given one more message: it needs no acknowledgements, or neither its own prefetch nor the
+/// Returns whether the consumer of `counted` may be given one more message: it needs no acknowledgements, or neither its own prefetch nor the
 /// channel's `limit` is used up. All consumers of the channel together have `given` unacknowledged messages.
-fn may_hold(seat: &CountedConsumer, limit: u16, given: usize) -> bool
-    ensures { result ≡ may_held limit given (Some seat.now) }
+fn may_hold(counted: &CountedConsumer, limit: u16, given: usize) -> bool
+    ensures { result ≡ may_held limit given (Some counted.now) }
 {
-    seat.consumer.no_ack || (is_room(seat.consumer.limit, seat.held) && is_room(limit, given))
+    counted.consumer.no_ack
+        || (is_room(counted.consumer.limit, counted.held) && is_room(limit, given))
 }
 
 /// Returns whether the consumer with this number exists and may be given one more message.
-pub(crate) fn may_one(seats: &[CountedConsumer], number: u64, limit: u16, given: usize) -> bool
-    requires { NumbersRise (consumers_of seats.now) }
-    ensures { result ≡ may_held limit given (find (is_numbered number) seats.now) }
+pub(crate) fn may_one(consumers: &[CountedConsumer], number: u64, limit: u16, given: usize) -> bool
+    requires { NumbersRise (consumers_of consumers.now) }
+    ensures { result ≡ may_held limit given (find (is_numbered number) consumers.now) }
 {
-    match counted_consumer(seats, number) {
-        Some(seat) => may_hold(seat, limit, given),
+    match counted_consumer(consumers, number) {
+        Some(counted) => may_hold(counted, limit, given),
         None => false,
     }
 }
 
 /// Returns the consumer with this number if it exists and may be given one more message.
 pub(crate) fn taker_of(
-    seats: &[CountedConsumer],
+    consumers: &[CountedConsumer],
     number: u64,
     limit: u16,
     given: usize,
 ) -> Option<&Consumer>
-    requires { NumbersRise (consumers_of seats.now) }
-    ensures { option_map (λ k. k.now) result ≡ taker_held limit given (find (is_numbered number) seats.now) }
+    requires { NumbersRise (consumers_of consumers.now) }
+    ensures { option_map (λ k. k.now) result ≡ taker_held limit given (find (is_numbered number) consumers.now) }
 {
-    match counted_consumer(seats, number) {
-        Some(seat) => {
-            if may_hold(seat, limit, given) {
-                Some(&seat.consumer)
+    match counted_consumer(consumers, number) {
+        Some(counted) => {
+            if may_hold(counted, limit, given) {
+                Some(&counted.consumer)
             } else {
                 None
             }
@@ -338,19 +342,19 @@ pub(crate) fn taker_of(
 }
 
 /// Replaces the queue index of each consumer by the one that `indices` has for it.
-pub(crate) fn renumber(seats: &mut Vec<CountedConsumer>, indices: &[usize])
-    ensures seats { seats.new.items ≡ map (seat_moved indices.now) seats.old.items }
-    ensures len { vec_len seats.new ≡ vec_len seats.old }
-    ensures capacity { vec_capacity seats.new ≡ vec_capacity seats.old }
+pub(crate) fn renumber(consumers: &mut Vec<CountedConsumer>, indices: &[usize])
+    ensures consumers { consumers.new.items ≡ map (counted_moved indices.now) consumers.old.items }
+    ensures len { vec_len consumers.new ≡ vec_len consumers.old }
+    ensures capacity { vec_capacity consumers.new ≡ vec_capacity consumers.old }
 {
-    renumber_slice(seats, indices);
+    renumber_slice(consumers, indices);
 }
 
 /// Sets the queue's index of each consumer to the one that `places` has for it.
-fn renumber_slice(seats: &mut [CountedConsumer], places: &[usize])
-    ensures { seats.new ≡ map (seat_moved places.now) seats.old }
+fn renumber_slice(consumers: &mut [CountedConsumer], places: &[usize])
+    ensures { consumers.new ≡ map (counted_moved places.now) consumers.old }
 {
-    for seat in seats.iter_mut() {
-        seat.consumer.queue = place_now(places, seat.consumer.queue);
+    for counted in consumers.iter_mut() {
+        counted.consumer.queue = place_now(places, counted.consumer.queue);
     }
 }

@@ -14,7 +14,7 @@ use std::marker::Model;
 /// unacknowledged messages of all consumers together, including cancelled ones.
 #[derive(Drop)]
 pub(crate) struct CountedConsumers {
-    seats: Vec<CountedConsumer>,
+    consumers: Vec<CountedConsumer>,
     given: usize,
 }
 
@@ -25,24 +25,23 @@ impl Model for CountedConsumers {
     ghost Value = { ConsumerCounts };
 
     ghost view = { λ s. record {
-      consumers = consumers_of s.seats.items;
-      held = counts_of s.seats.items;
+      consumers = consumers_of s.consumers.items;
+      held = counts_of s.consumers.items;
       given = s.given;
-      room = vec_capacity s.seats - vec_len s.seats;
+      room = vec_capacity s.consumers - vec_len s.consumers;
     } };
 }
 
 impl CountedConsumers {
-    ghost use Rattle.std.specs.Prelude.{◌≡◌, ◌+◌, ◌-◌, ◌<◌, ◌≤◌, ◌^◌, ◌++◌, ◌∷◌, [], ℕ, List, length, find, filter, count_by, map};
-    ghost use Rattle.std.specs.Prelude.{not, ◌==◌, option_map, OnOk, OnErr};
+    ghost use Rattle.std.specs.Prelude.{◌≡◌, ◌+◌, ◌-◌, ◌<◌, ◌≤◌, ◌^◌, ◌++◌, ◌∷◌, [], ℕ, List, length, filter, count_by, map};
+    ghost use Rattle.std.specs.Prelude.{not, option_map, OnOk, OnErr};
     ghost use Rattle.std.specs.List.{list_any, All};
     ghost use Rattle.model.specs.Prefetch.{count_to};
     ghost use Rattle.channels.specs.Outstanding.{taker_of};
     ghost use Rattle.model.specs.Placed.{waiting};
-    ghost use Rattle.channels.specs.CountedConsumers.{CountsAgree, AreParts, NumbersRise, consumers_of, is_named, takes_from};
-    ghost use Rattle.channels.specs.Deliveries.{may_of, taker_among};
+    ghost use Rattle.channels.specs.CountedConsumers.{CountsAgree, AreParts, NumbersRise, consumer_numbered, consumers_of, is_named, takes_from};
+    ghost use Rattle.channels.specs.Deliveries.{may_of, FindsTaker};
     ghost use Rattle.channels.specs.Moving.{consumer_moved, outstanding_moved};
-    ghost use Rattle.channels.specs.declared.consumers.Consumer.{Consumer as One};
     ghost use Rattle.model.specs.declared.deliveries.Delivery.{Delivery as Given};
 
     /// Makes an empty list. Never allocates.
@@ -52,7 +51,7 @@ impl CountedConsumers {
         ensures counted { CountsAgree result [] }
     {
         CountedConsumers {
-            seats: Vec::new(alloc),
+            consumers: Vec::new(alloc),
             given: 0,
         }
     }
@@ -61,54 +60,53 @@ impl CountedConsumers {
     pub(crate) fn all(&self) -> &[CountedConsumer]
         ensures { consumers_of result.now ≡ self.now.consumers }
     {
-        &self.seats
+        &self.consumers
     }
 
     /// Returns the number of consumers.
     pub(crate) fn len(&self) -> usize
         ensures { result ≡ length self.now.consumers }
     {
-        self.seats.len()
+        self.consumers.len()
     }
 
     /// Returns whether some consumer has this tag.
     pub(crate) fn has(&self, tag: &[u8]) -> bool
         ensures { result ≡ list_any (is_named tag.now) self.now.consumers }
     {
-        is_in_use(&self.seats, tag)
+        is_in_use(&self.consumers, tag)
     }
 
     /// Returns how many consumers take from the queue at index `queue`.
     pub(crate) fn count_from(&self, queue: usize) -> usize
         ensures { result ≡ count_by (takes_from queue) self.now.consumers }
     {
-        count_from(&self.seats, queue)
+        count_from(&self.consumers, queue)
     }
 
     /// Returns the consumer with this number.
     pub(crate) fn numbered(&self, number: u64) -> Option<&Consumer>
         requires { NumbersRise self.now.consumers }
-        ensures { option_map (λ k. k.now) result ≡ find (λ (c : One). c.number == number) self.now.consumers }
+        ensures { option_map (λ k. k.now) result ≡ consumer_numbered number self.now.consumers }
     {
-        consumer_of(&self.seats, number)
+        consumer_of(&self.consumers, number)
     }
 
     /// Returns whether consumer `number` exists and neither its own prefetch nor the channel's `limit` is used up.
     pub(crate) fn may_take(&self, number: u64, limit: u16) -> bool
         requires { NumbersRise self.now.consumers }
         ensures { (given : List Given) → CountsAgree self.now given
-            → result ≡ may_of limit given (find (λ (c : One). c.number == number) self.now.consumers) }
+            → result ≡ may_of limit given (consumer_numbered number self.now.consumers) }
     {
-        may_one(&self.seats, number, limit, self.given)
+        may_one(&self.consumers, number, limit, self.given)
     }
 
     /// Returns consumer `number` if it exists and neither its own prefetch nor the channel's `limit` is used up.
     pub(crate) fn taker(&self, number: u64, limit: u16) -> Option<&Consumer>
         requires { NumbersRise self.now.consumers }
-        ensures { (given : List Given) → CountsAgree self.now given
-            → option_map (λ k. k.now) result ≡ taker_among limit given (find (λ (c : One). c.number == number) self.now.consumers) }
+        ensures { FindsTaker self.now number limit (option_map (λ k. k.now) result) }
     {
-        taker_of(&self.seats, number, limit, self.given)
+        taker_of(&self.consumers, number, limit, self.given)
     }
 
     /// Reserves capacity for one more consumer. Fails only if there is none and the allocation fails; nothing has changed then.
@@ -119,7 +117,7 @@ impl CountedConsumers {
         ensures full { OnErr result (self.old.room ≡ 0) }
         ensures err { OnErr result (self.new.room ≡ self.old.room) }
     {
-        self.seats.reserve(1)
+        self.consumers.reserve(1)
     }
 
     /// Appends `consumer`, which already has `held` unacknowledged messages. There is capacity for it.
@@ -130,7 +128,8 @@ impl CountedConsumers {
         ensures counted { (given : List Given) → CountsAgree self.old given
             → held ≡ count_to taker_of consumer.number given → CountsAgree self.new given }
     {
-        self.seats.push_reserved(CountedConsumer { consumer, held });
+        self.consumers
+            .push_reserved(CountedConsumer { consumer, held });
     }
 
     /// Removes the consumers with this tag. Their unacknowledged messages still count among those of all consumers together.
@@ -139,7 +138,7 @@ impl CountedConsumers {
         ensures room { self.old.room ≤ self.new.room }
         ensures counted { (given : List Given) → CountsAgree self.old given → CountsAgree self.new given }
     {
-        remove_tagged(&mut self.seats, tag);
+        remove_tagged(&mut self.consumers, tag);
     }
 
     /// Sets each queue's index to the one that `indices` has for it. Never allocates.
@@ -148,7 +147,7 @@ impl CountedConsumers {
         ensures room { self.new.room ≡ self.old.room }
         ensures counted { (given : List Given) → CountsAgree self.old given → CountsAgree self.new (map (outstanding_moved indices.now) given) }
     {
-        renumber(&mut self.seats, indices);
+        renumber(&mut self.consumers, indices);
     }
 
     /// Counts a message that is given out to `by`.
@@ -162,7 +161,7 @@ impl CountedConsumers {
         ensures room { self.new.room ≡ self.old.room }
         ensures counted { (given : List Given) (o : Given) → o.by ≡ by.now → CountsAgree self.old given → CountsAgree self.new (given ++ o ∷ []) }
     {
-        count_in(&mut self.seats, by);
+        count_in(&mut self.consumers, by);
         self.given += one_if_consumed(by);
     }
 
@@ -173,7 +172,7 @@ impl CountedConsumers {
         ensures room { self.new.room ≡ self.old.room }
         ensures counted { (given left : List Given) → AreParts given (waiting gone.now) left → CountsAgree self.old given → CountsAgree self.new left }
     {
-        count_out(&mut self.seats, gone);
+        count_out(&mut self.consumers, gone);
         self.given = self.given.saturating_sub(given_to_all(gone));
     }
 }

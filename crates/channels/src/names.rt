@@ -29,12 +29,12 @@ fn name_of(number: u64) -> ArrayString<ROOM>
 }
 
 /// Returns the first tag with a number at or after `from` that no consumer has, or `None` if there is none. Never allocates.
-pub(crate) fn next_name(seats: &CountedConsumers, from: u64) -> Option<Name>
-    ensures { FindsName seats.now.consumers from result }
+pub(crate) fn next_name(consumers: &CountedConsumers, from: u64) -> Option<Name>
+    ensures { FindsName consumers.now.consumers from result }
 {
     for number in from..u64::MAX {
         let tag = name_of(number);
-        if !seats.has(tag.as_bytes()) {
+        if !consumers.has(tag.as_bytes()) {
             return Some(Name { number, tag });
         }
     }

@@ -51,7 +51,7 @@ impl RunningConnection {
         ensures max { IfOk result (λ l. l.channel_max ≡ channel_max) }
         ensures paused { IfOk result (λ l. l.is_paused ≡ false) }
         ensures channels { IfOk result (λ l. (names : List Name) (h : ℕ) → option_map (open_in names) (channel_in l h) ≡ channels_up_to channels h) }
-        ensures places { IfOk result (λ l. length l.channels ≡ channels + 1) }
+        ensures slots { IfOk result (λ l. length l.channels ≡ channels + 1) }
     {
         Ok(RunningConnection {
             channel_max,
@@ -89,8 +89,8 @@ impl RunningConnection {
     }
 
     /// Returns the number of channel slots. Slot 0 is for channel 0, and no channel past the last slot is open.
-    pub fn places(&self) -> usize
-        ensures places { result ≡ length self.now.channels }
+    pub fn slots(&self) -> usize
+        ensures slots { result ≡ length self.now.channels }
         ensures few { result ≤ 2 ^ 16 }
     {
         self.channels.len()

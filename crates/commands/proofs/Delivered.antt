@@ -30,7 +30,7 @@ tells_is kept p l (Some k) e placed t = record {
   };
   numbered = t.taker.numbered;
   only = t.taker.only (names_of kept);
-  within = takes_within (topology_kept kept) k t.channel.given.consumers (placed p.connection p.channel t.channel (ap (λ (o : Option Running). channel_at o p.channel) e ∙ t.there)).consumers t.taker.seat;
+  within = takes_within (topology_kept kept) k t.channel.given.consumers (placed p.connection p.channel t.channel (ap (λ (o : Option Running). channel_at o p.channel) e ∙ t.there)).consumers t.taker.listed;
 }
 tells_is kept p l None e placed t = λ ch k taker numbered.
     let names = names_of kept in
@@ -59,7 +59,7 @@ keeps_one kept p l k e placed found t = record {
   its = t.one.its (names_of kept);
   numbered = t.one.numbered;
   only = t.one.only (names_of kept);
-  within = takes_within (topology_kept kept) k t.channel.given.consumers (placed p.connection p.channel t.channel (ap (λ (o : Option Running). channel_at o p.channel) e ∙ t.there)).consumers t.one.seat;
+  within = takes_within (topology_kept kept) k t.channel.given.consumers (placed p.connection p.channel t.channel (ap (λ (o : Option Running). channel_at o p.channel) e ∙ t.there)).consumers t.one.listed;
 }
 
 -- ---- which delivery can be made

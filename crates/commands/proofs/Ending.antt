@@ -1,5 +1,5 @@
 -- Which connections run still: no other than one that is closed or lost ends.
-use Rattle.commands.proofs.Names.{◌≡◌, ◌∙◌, ℕ, List, Bool, true, false, Option, None, refl, sym, ap, subst, is_some, eqb-true, eq-eqb, false≢true, Topology, Connection, Broker, with_one, Is, Acts, with_gone, paused, Send, Lose, Pause, Resume, Deliver, Note, AllRunStill, OthersRunStill, TellsEnd, ends_of}
+use Rattle.commands.proofs.Names.{◌≡◌, ◌∙◌, ℕ, List, Bool, true, false, Option, None, refl, sym, ap, subst, is_some, eqb-true, eq-eqb, false≢true, Topology, Connection, Broker, with_one, Is, Acts, with_gone, paused, Send, Lose, Pause, Resume, Deliver, Note, AllRunStill, OthersRunStill, ReportsEnd, ends_of}
 use Rattle.std.proofs.Common.{Some, if◌then◌else◌}
 use Rattle.std.specs.Prelude.{◌==◌}
 use Rattle.model.specs.declared.events.Event.TheVariants.{Running}
@@ -22,7 +22,7 @@ module _ (old new : Broker) where
   here c x = ap (λ (v : Bool). if v then x else old.connection c) (eq-eqb c c refl)
 
   -- a connection that is gone is no longer running, and each other still is
-  pub gone_ended : (c : ℕ) → Is (with_gone old c) new → TellsEnd c ends.Connection old new
+  pub gone_ended : (c : ℕ) → Is (with_gone old c) new → ReportsEnd c ends.Connection old new
   gone_ended c is = (is.connections c ∙ here c None, others_run c None is.connections)
 
   -- where one is another now that ended only if it hadn't run before, each runs still
@@ -38,13 +38,13 @@ module _ (old new : Broker) where
   paused_run v (Some conn) e = absurd (false≢true (sym (ap is_some e)))
 
 -- where consumers leave, or do not, no connection ends
-pub leaving_runs : (c : ℕ) (old new : Broker) (leaves : Bool) → AllRunStill old new → TellsEnd c (ends_of leaves) old new
+pub leaving_runs : (c : ℕ) (old new : Broker) (leaves : Bool) → AllRunStill old new → ReportsEnd c (ends_of leaves) old new
 leaving_runs c old new true runs = runs
 leaving_runs c old new false runs = runs
 
 -- a loss ends no other connection; an opening, a pause and its end, and a delivery end none
 module _ (t : Topology) (old new : Broker) (sends : List Send) (notes : List Note) where
-  pub loss_ended : (c : ℕ) → Acts t old (Lose c) sends notes new → TellsEnd c ends.Connection old new
+  pub loss_ended : (c : ℕ) → Acts t old (Lose c) sends notes new → ReportsEnd c ends.Connection old new
   loss_ended c p = gone_ended old new c p.left
 
   pub opening_runs : (c max n : ℕ) → Acts t old (Running c max n) sends notes new → AllRunStill old new

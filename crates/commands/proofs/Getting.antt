@@ -1,5 +1,5 @@
 -- What a get sends, and what it leaves.
-use Rattle.commands.proofs.Names.{◌≡◌, ◌+◌, ◌-◌, ◌∷◌, [], ℕ, List, Bool, true, false, cond, Option, None, filter, refl, sym, ap, subst, ◌∙◌, arith, AllByRecursion, is_some, false≢true, bytes_eq-Decides, Text, Topology, Broker, Channel, is_ready, held_as, change_first, without_first, first_ready, ready_in, after_giving, after_delivery, delivery_notes, IsCarried, Is, Gets, or_else, refusal_in, refusal_of_tags, refusal_of_get, get_ok, Send, Note, Get, Entry, Holder, Store, IsQueueNamed, entries_named, queue_at, IsQueuePlace}
+use Rattle.commands.proofs.Names.{◌≡◌, ◌+◌, ◌-◌, ◌∷◌, [], ℕ, List, Bool, true, false, cond, Option, None, filter, refl, sym, ap, subst, ◌∙◌, arith, AllByRecursion, is_some, false≢true, bytes_eq-Decides, Text, Topology, Broker, Channel, is_ready, held_as, change_first, without_first, first_ready, ready_in, after_giving, after_delivery, delivery_notes, IsCarried, Is, Gets, or_else, refusal_in, refusal_of_tags, refusal_of_get, get_ok, Send, Note, Get, Entry, Holder, Store, IsQueueNamed, entries_named, queue_at, IsQueueIndex}
 use Rattle.std.proofs.Common.{Some, length, if◌then◌else◌}
 use Rattle.std.specs.Prelude.{find}
 use Rattle.model.specs.Step.{Refusal}
@@ -51,7 +51,7 @@ pub there : (t : Topology) (b : Broker) (ch : Channel) (get : Get) (o : Option E
 there t b ch get o is at = ap (λ (x : Option Refusal). or_else x (refusal_of_tags ch (first_ready (b.queue get.queue)))) (sym is) ∙ ap (refusal_of_tags ch) at
 
 -- which is the first at its place
-pub first_named : (s : Store) (place : ℕ) (q : Text) (o : Option Entry) → IsQueuePlace s.topology q place → IsQueueNamed s place → o ≡ find is_ready (queue_at s place) → first_ready (entries_named s q) ≡ o
+pub first_named : (s : Store) (place : ℕ) (q : Text) (o : Option Entry) → IsQueueIndex s.topology q place → IsQueueNamed s place → o ≡ find is_ready (queue_at s place) → first_ready (entries_named s q) ≡ o
 first_named s place q o at named e = ap (λ (n : Text). first_ready (entries_named s n)) (sym at.named) ∙ ap first_ready named.entries_are ∙ sym e
 
 -- ---- what a get does

@@ -25,5 +25,5 @@ mod Exchanges
 pub mod Judging
 mod Settlements
 mod Consumes
-pub mod Seating
+pub mod Making
 pub mod Settled

@@ -3,16 +3,16 @@ pub use Rattle.channels.proofs.Setting.{found_channel, found_written, same_defau
 pub use Rattle.channels.specs.ConnectionsMoving.{MovesAreUnseen, connections_moved}
 pub use Rattle.channels.specs.Counting.{CountsConsumers, HasTaker, consumers_at, is_consumed}
 pub use Rattle.channels.specs.Deliveries.{with_limit}
-pub use Rattle.channels.specs.Open.{HasNoTaker, IsConsumerSeated, IsTaker, JudgesConsumer, SeatsConsumer, consumer_in, given_on, open_in, places_of, settled_on, with_qos, without_named, without_settled}
+pub use Rattle.channels.specs.Open.{HasNoTaker, IsConsumerMade, IsTaker, JudgesConsumer, MakesConsumer, consumer_in, given_on, open_in, places_of, settled_on, with_qos, without_named, without_settled}
 pub use Rattle.channels.specs.Outstanding.{tag_of}
 pub use Rattle.channels.specs.Placed.{IsPlaced, TakeWithin}
 pub use Rattle.channels.specs.RunningConnections.{HoldsConnections, OpensConnection, PutsChannel, channel_at, channel_in, channel_of, channel_seen, connection_at, connection_of, limits_of, outstanding_on, running_in, seen_in, with_channel_in, with_running}
 pub use Rattle.channels.specs.CountedConsumers.{is_named, takes_from}
 pub use Rattle.channels.specs.Spans.{IsSpan, ReturnsSpan, settled_by}
 pub use Rattle.commands.specs.Commands.{Answers, AnswersHere, AnswersOn, Asks, AsksLeft, CanCommand, CanFinish, ComesTo, Commands, DeliversHere, GivesHere, HasSpelling, IsAddressedBy, IsNotPerformed, SettlesHere, Side, Turns, UnlessPerformed, WantsNone, done_of, left_of, seen, state_of}
-pub use Rattle.commands.specs.Ended.{AllConsumersStay, AllRunStill, LeavesChannel, OtherConsumersStay, OthersRunStill, TellsEnd, TellsStay, TellsStayOn, cancels_one, ends_of, has_consumers}
+pub use Rattle.commands.specs.Ended.{AllConsumersStay, AllRunStill, LeavesChannel, OtherConsumersStay, OthersRunStill, ReportsConsumers, ReportsConsumersOn, ReportsEnd, cancels_one, ends_of, has_consumers}
 pub use Rattle.commands.specs.Freed.{AreReturnedAt, AreReturnedFrom}
-pub use Rattle.commands.specs.Judged.{HasChannel, IsQueuePlace, JudgesLarge, opens_or_closes, refusal_by, refusal_of_number, refusal_seen, stop_of}
+pub use Rattle.commands.specs.Judged.{HasChannel, IsQueueIndex, JudgesLarge, opens_or_closes, refusal_by, refusal_of_number, refusal_seen, stop_of}
 pub use Rattle.commands.specs.Picked.{CannotTake, DeliversTo, IsKeptAs, IsNextPicked, IsPick, IsPickFrom, TakesAs, ReturnsConsumer, ReturnsTaking}
 pub use Rattle.commands.specs.State.{ArePlaced, Kept, broker_of, channel_on, names_of, topology_kept}
 pub use Rattle.commands.specs.declared.acted.Acted.{Acted}
@@ -33,7 +33,7 @@ pub use Rattle.exchange_graph.specs.Routers.{access_at, access_to}
 pub use Rattle.exchange_graph.specs.declared.routes.Access.TheVariants.{Absent, Internal}
 pub use Rattle.model.specs.Agreement.{IsAgreed}
 pub use Rattle.model.specs.Broker.{Broker, Channel, Connection, Outstanding, is_ready, listed, new_channel, queue_named, with_one, with_pair, with_row}
-pub use Rattle.model.specs.Consuming.{CanDeliver, MayTake, consumer_of, is_in_use, is_tag_wanting, is_tagged, may_take, next_free, tag_for, with_consumer, without_consumer}
+pub use Rattle.model.specs.Consuming.{CanDeliver, MayTake, consumer_of, has_no_tag_left, is_in_use, is_tagged, may_take, next_free, tag_for, with_consumer, without_consumer}
 pub use Rattle.model.specs.Deliveries.{AreReturned, AreSettled, Leaves, Rejects, Returns, Settlement, after_delivery, after_giving, channel_after, delivery_notes, first_ready, holder_of, left_note, purge_notes, ready_in, with_queue, with_returned, written_count}
 pub use Rattle.model.specs.Entries.{by_channel, by_connection, change_first, freed, freed_now, held_as, is_held_as, is_under, without_first}
 pub use Rattle.model.specs.Grammar.{IsMethod}
@@ -66,7 +66,7 @@ pub use Rattle.model.specs.declared.topologies.DeclaredQueue.{DeclaredQueue}
 pub use Rattle.reloading.specs.LiveQueues.{ShowsQueues}
 pub use Rattle.replies.specs.Sent.{AreAddressed, return_if, sent_back}
 pub use Rattle.replies.specs.declared.steps.Step.{Step}
-pub use Rattle.std.proofs.Common.{Bool, Bor, Err, List, None, Ok, Option, Result, [], ap, arith, cond, drop, false, filter, get_or, inl, inr, map, nat_eq, nat_le, not, refl, replicate, set, subst, suc, sum_by, sym, true, zero, ℕ, ◌++◌, ◌+◌, ◌-◌, ◌<◌, ◌∙◌, ◌∷◌, ◌≡◌, ◌≢◌, ◌≤◌}
+pub use Rattle.std.proofs.Common.{Bool, Err, List, None, Ok, Option, Result, [], ap, arith, cond, drop, false, filter, get_or, inl, inr, map, nat_eq, nat_le, not, refl, replicate, set, subst, suc, sum_by, sym, true, zero, ℕ, ◌++◌, ◌+◌, ◌-◌, ◌<◌, ◌∙◌, ◌∷◌, ◌≡◌, ◌≢◌, ◌≤◌}
 pub use Rattle.std.proofs.lemmas.Bool.{and_from, and_parts, eq-eqb, eqb-true, false≢true, leb-false, lt-ltb}
 pub use Rattle.std.proofs.lemmas.Bool.Decides.{leb_tells, nat_tests}
 pub use Rattle.std.proofs.lemmas.List.{drop_all, drop_more, length-map, map-append}
@@ -76,6 +76,6 @@ pub use Rattle.std.proofs.lemmas.Result.{IfOk-weaker, err_from_is_err_and}
 pub use Rattle.std.proofs.lemmas.Slice.Eq.{bytes_eq-Decides}
 pub use Rattle.std.specs.List.{All, AllByRecursion, list_any}
 pub use Rattle.std.specs.Option.{option_copied_mut}
-pub use Rattle.std.specs.Prelude.{IfNone, IfOk, IfSome, OnErr, OnOk, is_some, min, option_map, slice_get, slice_index_or, unwrap_or, ◌||◌}
+pub use Rattle.std.specs.Prelude.{IfNone, IfOk, IfSome, OnErr, OnOk, is_some, min, option_map, slice_get, slice_index_or, ◌||◌}
 pub use Rattle.std.specs.Str.{bytes_eq}
 pub use Rattle.std.specs.declared.alloc.AllocError.{AllocError}

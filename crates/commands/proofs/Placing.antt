@@ -1,5 +1,5 @@
 -- What is outstanding, and what consumers take, stays within the queues that are there.
-use Rattle.commands.proofs.Names.{◌≡◌, ◌∙◌, ◌<◌, ◌++◌, ◌∷◌, [], ℕ, zero, suc, List, Bool, true, false, Option, None, map, not, inl, inr, refl, sym, ap, subst, arith, option_map, is_some, false≢true, same_Some, All-filter, All, Text, Topology, IsIn, new_channel, with_row, channels_up_to, Taker, Qos, Consume, is_named, open_in, consumer_in, with_qos, given_on, without_named, places_of, IsConsumerSeated, outstanding_in, AreWithin, with_limit, Delivery, channel_of, seen_in, PutsChannel, OpensConnection, TakeWithin, IsPlaced, ArePlaced, Kept, topology_kept}
+use Rattle.commands.proofs.Names.{◌≡◌, ◌∙◌, ◌<◌, ◌++◌, ◌∷◌, [], ℕ, zero, suc, List, Bool, true, false, Option, None, map, not, inl, inr, refl, sym, ap, subst, arith, option_map, is_some, false≢true, same_Some, All-filter, All, Text, Topology, IsIn, new_channel, with_row, channels_up_to, Taker, Qos, Consume, is_named, open_in, consumer_in, with_qos, given_on, without_named, places_of, IsConsumerMade, outstanding_in, AreWithin, with_limit, Delivery, channel_of, seen_in, PutsChannel, OpensConnection, TakeWithin, IsPlaced, ArePlaced, Kept, topology_kept}
 use Rattle.std.proofs.Common.{◌&&◌, ◌==◌, Some, length, if◌then◌else◌}
 use Rattle.model.specs.Broker as seen
 use Rattle.channels.specs.Open.{Open}
@@ -112,16 +112,16 @@ place_more n (x ∷ xs) p lt all zero d l = all zero d (omega arith)
 place_more n (x ∷ xs) p lt all (suc k) d l = place_more n xs p lt (λ i e m. all (suc i) e (omega (arith, m))) k d (omega (arith, l))
 
 -- one consumer more, of a queue that is there
-pub placed_seated : (t : Topology) (old new : Open) (place : ℕ) (m : Consume) (tag : Text) → place < length t.queues → IsConsumerSeated old place m tag new → IsPlaced t old → IsPlaced t new
-placed_seated t old new place m tag lt seated placed = record {
-  outstanding = subst (AreWithin t) (sym seated.outstanding) placed.outstanding;
+pub placed_made : (t : Topology) (old new : Open) (place : ℕ) (m : Consume) (tag : Text) → place < length t.queues → IsConsumerMade old place m tag new → IsPlaced t old → IsPlaced t new
+placed_made t old new place m tag lt is_made placed = record {
+  outstanding = subst (AreWithin t) (sym is_made.outstanding) placed.outstanding;
   consumers = take_at (length t.queues) new.given.consumers
-      (subst (All (λ (i : ℕ). i < length t.queues)) (sym seated.places) (place_more (length t.queues) (places_of old.given.consumers) place lt (places_at (length t.queues) old.given.consumers placed.consumers)));
+      (subst (All (λ (i : ℕ). i < length t.queues)) (sym is_made.places) (place_more (length t.queues) (places_of old.given.consumers) place lt (places_at (length t.queues) old.given.consumers placed.consumers)));
 }
 
 -- without the consumers of a tag
-pub placed_cancelled : (t : Topology) (ch : Open) (tag : Text) (seats : ℕ) → IsPlaced t ch → IsPlaced t (without_named ch tag seats)
-placed_cancelled t ch tag seats placed = record {
+pub placed_cancelled : (t : Topology) (ch : Open) (tag : Text) (consumer_room : ℕ) → IsPlaced t ch → IsPlaced t (without_named ch tag consumer_room)
+placed_cancelled t ch tag consumer_room placed = record {
   outstanding = placed.outstanding;
   consumers = All-filter (λ (k : Consumer). not (is_named tag k)) (λ (k : Consumer). k.queue < length t.queues) ch.given.consumers placed.consumers;
 }

@@ -1,5 +1,5 @@
 -- Consumers that are there still, and those that leave.
-use Rattle.commands.proofs.Names.{◌≡◌, ◌∙◌, ℕ, List, [], ◌∷◌, ◌++◌, filter, not, cond, Bool, true, false, Option, None, inl, inr, refl, sym, ap, subst, Result, Ok, Err, arith, ◌||◌, is_some, option_map, IfOk, OnOk, AllocError, eqb-true, eq-eqb, lt-ltb, false≢true, Text, Topology, IsIn, Channel, Broker, new_channel, with_pair, with_row, consumer_of, is_tagged, is_in_use, without_consumer, first_ready, by_channel, Is, Acts, Does, Gets, Performs, after_close, channel_or_new, with_freed, with_gone, Content, Command, TooLarge, Fault, Send, Entry, Get, Qos, Method, ConnectionClose, ChannelOpen, ChannelFlow, ChannelClose, ChannelCloseOk, ExchangeDeclare, QueuePurge, BasicQos, BasicConsume, BasicCancel, BasicPublish, BasicGet, BasicAck, BasicReject, BasicNack, BasicRecover, ConfirmSelect, Note, open_in, running_in, channel_at, connection_at, Step, Performed, AnswersOn, Acted, AllConsumersStay, OtherConsumersStay, LeavesChannel, TellsStayOn, TellsStay, has_consumers, cancels_one, ends_of, opens_or_closes, Kept, broker_of, channel_on, names_of, topology_kept}
+use Rattle.commands.proofs.Names.{◌≡◌, ◌∙◌, ℕ, List, [], ◌∷◌, ◌++◌, filter, not, cond, Bool, true, false, Option, None, inl, inr, refl, sym, ap, subst, Result, Ok, Err, arith, ◌||◌, is_some, option_map, IfOk, OnOk, AllocError, eqb-true, eq-eqb, lt-ltb, false≢true, Text, Topology, IsIn, Channel, Broker, new_channel, with_pair, with_row, consumer_of, is_tagged, is_in_use, without_consumer, first_ready, by_channel, Is, Acts, Does, Gets, Performs, after_close, channel_or_new, with_freed, with_gone, Content, Command, TooLarge, Fault, Send, Entry, Get, Qos, Method, ConnectionClose, ChannelOpen, ChannelFlow, ChannelClose, ChannelCloseOk, ExchangeDeclare, QueuePurge, BasicQos, BasicConsume, BasicCancel, BasicPublish, BasicGet, BasicAck, BasicReject, BasicNack, BasicRecover, ConfirmSelect, Note, open_in, running_in, channel_at, connection_at, Step, Performed, AnswersOn, Acted, AllConsumersStay, OtherConsumersStay, LeavesChannel, ReportsConsumersOn, ReportsConsumers, has_consumers, cancels_one, ends_of, opens_or_closes, Kept, broker_of, channel_on, names_of, topology_kept}
 use Rattle.std.proofs.Common.{Some}
 use Rattle.std.specs.Prelude.{◌==◌, ◌&&◌, if◌then◌else◌, nat_lt, length}
 use Rattle.model.specs.Broker.{Consumer}
@@ -72,9 +72,9 @@ both true false e = absurd (false≢true e)
 both false q e = absurd (false≢true e)
 
 -- what is told where it is known whether one leaves
-tells_on : (c h : ℕ) (old new : Broker) (v : Bool) → (v ≡ true → LeavesChannel c h old new) → (v ≡ false → AllConsumersStay old new) → TellsStayOn c h (ends_of v) old new
-tells_on c h old new true leaves stay = leaves refl
-tells_on c h old new false leaves stay = stay refl
+reports_on : (c h : ℕ) (old new : Broker) (v : Bool) → (v ≡ true → LeavesChannel c h old new) → (v ≡ false → AllConsumersStay old new) → ReportsConsumersOn c h (ends_of v) old new
+reports_on c h old new true leaves stay = leaves refl
+reports_on c h old new false leaves stay = stay refl
 
 module _ (old new : Broker) where
   -- no channel changed
@@ -119,8 +119,8 @@ module _ (old new : Broker) where
     }
 
     -- it has none now: those that it had leave
-    pub emptied_tells : (v : Bool) → (channel_or_new x).consumers ≡ [] → v ≡ has_consumers (channel_or_new (old.channel c h)) → TellsStayOn c h (ends_of v) old new
-    emptied_tells v none e = tells_on c h old new v (λ t. leave (old.channel c h) refl (sym e ∙ t)) (λ f. stay (sym e ∙ f))
+    pub emptied_reports : (v : Bool) → (channel_or_new x).consumers ≡ [] → v ≡ has_consumers (channel_or_new (old.channel c h)) → ReportsConsumersOn c h (ends_of v) old new
+    emptied_reports v none e = reports_on c h old new v (λ t. leave (old.channel c h) refl (sym e ∙ t)) (λ f. stay (sym e ∙ f))
       where
         leave : (o : Option Channel) → old.channel c h ≡ o → has_consumers (channel_or_new o) ≡ true → LeavesChannel c h old new
         leave None at t = absurd (false≢true t)
@@ -141,11 +141,11 @@ module _ (old new : Broker) where
   opened_stay c h none is = one_stays c h new_channel is.channels (λ k i. absurd (subst (λ (o : Option Channel). IsIn k (channel_or_new o).consumers) none i))
 
   -- the client closes one
-  pub answered_tells : (c h : ℕ) (v : Bool) → (channel_or_new (old.channel c h)).is_closing ≡ false → v ≡ has_consumers (channel_or_new (old.channel c h)) → Is (after_close old c h (channel_or_new (old.channel c h))) new
-      → TellsStayOn c h (ends_of v) old new
-  answered_tells c h v runs e is =
+  pub answered_reports : (c h : ℕ) (v : Bool) → (channel_or_new (old.channel c h)).is_closing ≡ false → v ≡ has_consumers (channel_or_new (old.channel c h)) → Is (after_close old c h (channel_or_new (old.channel c h))) new
+      → ReportsConsumersOn c h (ends_of v) old new
+  answered_reports c h v runs e is =
       let left = subst (λ (b : Bool). Is (if b then old else with_freed (with_channel old c h None) (by_channel c h)) new) runs is in
-      emptied_tells c h None left.channels v refl e
+      emptied_reports c h None left.channels v refl e
 
 -- ---- commands
 
@@ -198,10 +198,10 @@ module _ (t : Topology) (old new : Broker) (c h : ℕ) (content : Option Content
   performed_leaves _ used p = absurd (false≢true used)
 
 -- what is told of one that is performed on its channel alone
-pub performed_tells : (old new : Kept) (c h : ℕ) (m : Method) (content : Option Content) (s : Step) (v : Bool) → (opens_or_closes m ≡ true → ⊥) → v ≡ cancels_one (channel_on old c h) m
-    → AnswersOn old c h m content (Some (Ok (Performed s))) new → TellsStayOn c h (ends_of v) (broker_of old) (broker_of new)
-performed_tells old new c h m content s v distinct e (conn, at, judged) =
-    tells_on c h (broker_of old) (broker_of new) v
+pub performed_reports : (old new : Kept) (c h : ℕ) (m : Method) (content : Option Content) (s : Step) (v : Bool) → (opens_or_closes m ≡ true → ⊥) → v ≡ cancels_one (channel_on old c h) m
+    → AnswersOn old c h m content (Some (Ok (Performed s))) new → ReportsConsumersOn c h (ends_of v) (broker_of old) (broker_of new)
+performed_reports old new c h m content s v distinct e (conn, at, judged) =
+    reports_on c h (broker_of old) (broker_of new) v
     (λ t. performed_leaves (topology_kept old) (broker_of old) (broker_of new) c h content s.sends.items s.notes.items m (sym e ∙ t) judged.1)
     (λ f. performed_stay (topology_kept old) (broker_of old) (broker_of new) c h content s.sends.items s.notes.items m (here (opens_or_closes m) refl) (sym e ∙ f) judged.1)
   where
@@ -212,15 +212,15 @@ performed_tells old new c h m content s v distinct e (conn, at, judged) =
 -- ---- events
 
 -- what is told on a channel is told of its event
-pub command_tells : (c h : ℕ) (m : Method) (content : Option Content) (ends : Ends) (old new : Broker) → TellsStayOn c h ends old new → TellsStay (Command c h m content) ends old new
-command_tells c h m content ended.Nothing old new p = p
-command_tells c h m content ended.Consumers old new p = p
-command_tells c h m content ended.Connection old new p = p
+pub command_reports : (c h : ℕ) (m : Method) (content : Option Content) (ends : Ends) (old new : Broker) → ReportsConsumersOn c h ends old new → ReportsConsumers (Command c h m content) ends old new
+command_reports c h m content ended.Nothing old new p = p
+command_reports c h m content ended.Consumers old new p = p
+command_reports c h m content ended.Connection old new p = p
 
-pub large_tells : (c h : ℕ) (ends : Ends) (old new : Broker) → TellsStayOn c h ends old new → TellsStay (TooLarge c h) ends old new
-large_tells c h ended.Nothing old new p = p
-large_tells c h ended.Consumers old new p = p
-large_tells c h ended.Connection old new p = p
+pub large_reports : (c h : ℕ) (ends : Ends) (old new : Broker) → ReportsConsumersOn c h ends old new → ReportsConsumers (TooLarge c h) ends old new
+large_reports c h ended.Nothing old new p = p
+large_reports c h ended.Consumers old new p = p
+large_reports c h ended.Connection old new p = p
 
 -- a connection that doesn't run has no channel
 none_open : (kept : Kept) (c h : ℕ) → is_some ((broker_of kept).connection c) ≡ false → (broker_of kept).channel c h ≡ None
@@ -232,7 +232,7 @@ none_open kept c h = go (running_in kept.connections c)
 
 -- a connection begins to run
 pub opening_tells : (t : Topology) (old : Kept) (new : Broker) (sends : List Send) (notes : List Note) (c max n : ℕ) (v : Bool) → v ≡ is_some ((broker_of old).connection c)
-    → Acts t (broker_of old) (Running c max n) sends notes new → TellsStay (Running c max n) (ends_of v) (broker_of old) new
+    → Acts t (broker_of old) (Running c max n) sends notes new → ReportsConsumers (Running c max n) (ends_of v) (broker_of old) new
 opening_tells t old new sends notes c max n true e p = (sym e, row_stays (broker_of old) new c _ p.left.channels)
 opening_tells t old new sends notes c max n false e p = stay
   where
@@ -244,10 +244,10 @@ opening_tells t old new sends notes c max n false e p = stay
         go false distinct = row_stays (broker_of old) new c _ p.left.channels d l k distinct was
 
 -- a connection is closed, which is told
-pub closed_tells : (c h : ℕ) (old new : Broker) (r : Result Acted AllocError) → IfOk r (λ a. a.ends ≡ ended.Connection) → OnOk r (OtherConsumersStay c old new) → IfOk r (λ a. TellsStayOn c h a.ends old new)
-closed_tells c h old new (Ok a) whole stay = subst (λ (e : Ends). TellsStayOn c h e old new) (sym whole) stay
-closed_tells c h old new (Err e) whole stay = tt
+pub closed_reports : (c h : ℕ) (old new : Broker) (r : Result Acted AllocError) → IfOk r (λ a. a.ends ≡ ended.Connection) → OnOk r (OtherConsumersStay c old new) → IfOk r (λ a. ReportsConsumersOn c h a.ends old new)
+closed_reports c h old new (Ok a) whole stay = subst (λ (e : Ends). ReportsConsumersOn c h e old new) (sym whole) stay
+closed_reports c h old new (Err e) whole stay = tt
 
-pub fault_tells : (c code : ℕ) (old new : Broker) (r : Result Acted AllocError) → IfOk r (λ a. a.ends ≡ ended.Connection) → OnOk r (OtherConsumersStay c old new) → IfOk r (λ a. TellsStay (Fault c code) a.ends old new)
-fault_tells c code old new (Ok a) whole stay = subst (λ (e : Ends). TellsStay (Fault c code) e old new) (sym whole) stay
-fault_tells c code old new (Err e) whole stay = tt
+pub fault_reports : (c code : ℕ) (old new : Broker) (r : Result Acted AllocError) → IfOk r (λ a. a.ends ≡ ended.Connection) → OnOk r (OtherConsumersStay c old new) → IfOk r (λ a. ReportsConsumers (Fault c code) a.ends old new)
+fault_reports c code old new (Ok a) whole stay = subst (λ (e : Ends). ReportsConsumers (Fault c code) e old new) (sym whole) stay
+fault_reports c code old new (Err e) whole stay = tt

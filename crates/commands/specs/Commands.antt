@@ -22,7 +22,7 @@ use Rattle.exchange_graph.specs.Marks.{queue_name}
 use Rattle.channels.specs.Open.{Open, open_in}
 use Rattle.depot.specs.Store.{Store, entries_named}
 use Rattle.channels.specs.Placed.{IsPlaced}
-use Rattle.commands.specs.Judged.{HasChannel, IsQueuePlace, refusal_seen}
+use Rattle.commands.specs.Judged.{HasChannel, IsQueueIndex, refusal_seen}
 use Rattle.commands.specs.declared.refusals.Refusal.{Refusal}
 use Rattle.commands.specs.declared.refusals.Stop.{Stop}
 use Rattle.commands.specs.declared.refusals.Stop.TheVariants.{Refused, Memory}
@@ -112,7 +112,7 @@ AsksLeft t ch m left.AnswerClose = (x : Close) × (m ≡ method.ChannelClose x) 
 AsksLeft t ch m left.AnswerClosing = (x : Close) × (m ≡ method.ChannelClose x) × IsSome ch × ((channel_or_new ch).is_closing ≡ true)
 AsksLeft t ch m left.EndChannel = (m ≡ method.ChannelCloseOk) × IsSome ch
 AsksLeft t ch m left.CloseConnection = (x : Close) × (m ≡ method.ConnectionClose x)
-AsksLeft t ch m (left.FindQueue place d) = (m ≡ method.QueueDeclare d.now) × IsSome ch × IsQueuePlace t d.now.queue place
+AsksLeft t ch m (left.FindQueue place d) = (m ≡ method.QueueDeclare d.now) × IsSome ch × IsQueueIndex t d.now.queue place
 
 -- some method asks for `l`
 abbrev pub CanFinish : Topology → Option Channel → asked.Left → Type 0

@@ -21,10 +21,10 @@ AllRunStill old new = (d : ℕ) → new.connection d ≡ None → old.connection
 
 -- What an `Ends` says of connections. `Connection`: `c` is no longer running, and each other that was running still is.
 -- `Consumers` and `Nothing`: each that was running still is.
-abbrev pub TellsEnd : ℕ → Ends → Broker → Broker → Type 0
-TellsEnd c Connection old new = (new.connection c ≡ None) × OthersRunStill c old new
-TellsEnd c Consumers old new = AllRunStill old new
-TellsEnd c Nothing old new = AllRunStill old new
+abbrev pub ReportsEnd : ℕ → Ends → Broker → Broker → Type 0
+ReportsEnd c Connection old new = (new.connection c ≡ None) × OthersRunStill c old new
+ReportsEnd c Consumers old new = AllRunStill old new
+ReportsEnd c Nothing old new = AllRunStill old new
 
 -- ---- consumers
 
@@ -44,10 +44,10 @@ pub record LeavesChannel (c h : ℕ) (old new : Broker) : Type 0 where
   pub others : (d l : ℕ) (k : Consumer) → (d == c && l == h) ≡ false → WasConsumer old d l k → WasConsumer new d l k
 
 -- What an `Ends` says of consumers after an event of channel `h` of connection `c`: each still exists; or one of the channel is gone; or `c` ended.
-abbrev pub TellsStayOn : ℕ → ℕ → Ends → Broker → Broker → Type 0
-TellsStayOn c h Nothing old new = AllConsumersStay old new
-TellsStayOn c h Consumers old new = LeavesChannel c h old new
-TellsStayOn c h Connection old new = OtherConsumersStay c old new
+abbrev pub ReportsConsumersOn : ℕ → ℕ → Ends → Broker → Broker → Type 0
+ReportsConsumersOn c h Nothing old new = AllConsumersStay old new
+ReportsConsumersOn c h Consumers old new = LeavesChannel c h old new
+ReportsConsumersOn c h Connection old new = OtherConsumersStay c old new
 
 -- the event ends consumers: one of its channel is gone; or its connection was running and begins anew. All others still exist.
 abbrev pub MayLeave : Event → Broker → Broker → Type 0
@@ -57,10 +57,10 @@ MayLeave (TooLarge c h) old new = LeavesChannel c h old new
 MayLeave e old new = ⊥
 
 -- What an `Ends` says of consumers after an event: each still exists; or some are gone as `MayLeave` says; or the event's connection ended.
-abbrev pub TellsStay : Event → Ends → Broker → Broker → Type 0
-TellsStay e Nothing old new = AllConsumersStay old new
-TellsStay e Consumers old new = MayLeave e old new
-TellsStay e Connection old new = OtherConsumersStay (connection_of_event e) old new
+abbrev pub ReportsConsumers : Event → Ends → Broker → Broker → Type 0
+ReportsConsumers e Nothing old new = AllConsumersStay old new
+ReportsConsumers e Consumers old new = MayLeave e old new
+ReportsConsumers e Connection old new = OtherConsumersStay (connection_of_event e) old new
 
 -- the channel has a consumer
 abbrev pub has_consumers : Channel → Bool

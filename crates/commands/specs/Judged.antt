@@ -10,9 +10,9 @@ use Rattle.model.specs.declared.methods.Method.TheVariants as method
 use Rattle.model.specs.declared.events.Event.{Event}
 use Rattle.model.specs.declared.events.Event.TheVariants as event
 use Rattle.channels.specs.declared.consumers.ConsumerRefusal.{ConsumerRefusal}
-use Rattle.channels.specs.declared.consumers.ConsumerRefusal.TheVariants as seat
+use Rattle.channels.specs.declared.consumers.ConsumerRefusal.TheVariants as against
 use Rattle.channels.specs.declared.consumers.ConsumeError.{ConsumeError}
-use Rattle.channels.specs.declared.consumers.ConsumeError.TheVariants as unseated
+use Rattle.channels.specs.declared.consumers.ConsumeError.TheVariants as failed
 use Rattle.exchange_graph.specs.Marks.{queue_name}
 use Rattle.commands.specs.declared.refusals.Refusal.{Refusal}
 use Rattle.commands.specs.declared.refusals.Refusal.TheVariants as refused
@@ -32,14 +32,14 @@ refused_by (Err r) = Some (refusal_seen r)
 
 -- the refusal of a consume, by the reason why its channel can't have the consumer
 abbrev pub refusal_by : ConsumerRefusal → Refusal
-refusal_by seat.InUse = refused.Connection 530
-refusal_by seat.TooMany = refused.Connection 506
-refusal_by seat.Spent = refused.Connection 541
+refusal_by against.InUse = refused.Connection 530
+refusal_by against.TooMany = refused.Connection 506
+refusal_by against.Spent = refused.Connection 541
 
 -- the reason that stops a consume, by the reason that its consumer was not made
 abbrev pub stop_of : ConsumeError → Stop
-stop_of (unseated.Refused r) = Refused (refusal_by r)
-stop_of unseated.Memory = Memory
+stop_of (failed.Refused r) = Refused (refusal_by r)
+stop_of failed.Memory = Memory
 
 -- if the refusal closes a channel, that channel is open
 abbrev pub HasChannel : Refusal → Option Channel → Type 0
@@ -118,9 +118,9 @@ IsAsked (event.Deliver c) = ⊥
 IsAsked e = Unit {0}
 
 -- the queue with this name is at this index of the topology
-pub record IsQueuePlace (t : Topology) (name : Text) (place : ℕ) : Type 0 where
-  pub within : place < length t.queues
-  pub named : queue_name t place ≡ name
+pub record IsQueueIndex (t : Topology) (name : Text) (index : ℕ) : Type 0 where
+  pub within : index < length t.queues
+  pub named : queue_name t index ≡ name
 
 -- A publish whose content is too large is refused as the model says; `None` if its connection is not running.
 abbrev pub JudgesLarge : Broker → ℕ → ℕ → Option Refusal → Type 0

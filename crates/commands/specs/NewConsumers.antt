@@ -39,18 +39,18 @@ next_consumer c h None = None
 next_consumer c h (Some l) = option_map (λ (n : ℕ). record { connection = c; channel = h; number = n }) (next_number (channel_in l h))
 
 -- whether a method on channel `h` of this connection makes a consumer: it is a consume that is not refused
-abbrev pub is_seating : Kept → ℕ → Method → Option Running → Bool
-is_seating kept h m None = false
-is_seating kept h m (Some l) =
+abbrev pub makes_consumer : Kept → ℕ → Method → Option Running → Bool
+makes_consumer kept h m None = false
+makes_consumer kept h m (Some l) =
     is_consume m && not (is_some (refusal (topology_kept kept) (broker_of kept) (limits_of l) h m (channel_seen (names_of kept) l h)))
 
 -- the numbers of the consumer that a method on channel `h` of connection `c` makes, if any
-abbrev pub seat_on : Kept → ℕ → ℕ → Method → Option Running → Option Pick
-seat_on kept c h m l = if is_seating kept h m l then next_consumer c h l else None
+abbrev pub consumer_made_on : Kept → ℕ → ℕ → Method → Option Running → Option Pick
+consumer_made_on kept c h m l = if makes_consumer kept h m l then next_consumer c h l else None
 
 -- the numbers of the consumer that this event is going to make, if any; an event that is refused makes none
 abbrev pub consumer_to_make : Kept → Event → Option Pick
-consumer_to_make kept (Command c h m content) = seat_on kept c h m (running_in kept.connections c)
+consumer_to_make kept (Command c h m content) = consumer_made_on kept c h m (running_in kept.connections c)
 consumer_to_make kept e = None
 
 -- the name of the queue from which a method consumes, if it is a consume

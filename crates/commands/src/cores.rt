@@ -67,7 +67,7 @@ impl Core {
     ghost use Rattle.commands.specs.Steps.{PerformsOn};
     ghost use Rattle.commands.specs.Commands.{AnswersOn, IsAddressedBy, IsNotPerformed, UnlessPerformed, WantsNone};
     ghost use Rattle.commands.specs.Commands.{AsksLeft, CanFinish};
-    ghost use Rattle.commands.specs.Ended.{AllRunStill, TellsEnd, TellsStay, TellsStayOn};
+    ghost use Rattle.commands.specs.Ended.{AllRunStill, ReportsConsumers, ReportsConsumersOn, ReportsEnd};
     ghost use Rattle.commands.specs.Judged.{is_requeueing, opens_or_closes, IsAsked, IsRequeued, IsIgnored, IsLargeIgnored, WantsNoMemory, JudgesLarge};
     ghost use Rattle.replies.specs.Sent.{AreAddressed, connection_of_event};
 
@@ -150,8 +150,8 @@ impl Core {
             → AsksLeft (topology_kept self.old) ((broker_of self.old).channel id.connection id.number) m left.entry
             → IsMethod m → AreCarried (broker_of self.old) → AreAddressed id.connection a.step.sends.items) }
         // What ends.
-        ensures ended { IfOk result (λ a. TellsEnd id.connection a.ends (broker_of self.old) (broker_of self.new)) }
-        ensures stay { IfOk result (λ a. TellsStayOn id.connection id.number a.ends (broker_of self.old) (broker_of self.new)) }
+        ensures ended { IfOk result (λ a. ReportsEnd id.connection a.ends (broker_of self.old) (broker_of self.new)) }
+        ensures stay { IfOk result (λ a. ReportsConsumersOn id.connection id.number a.ends (broker_of self.old) (broker_of self.new)) }
         // The frame; a failure changes nothing.
         ensures topology { topology_kept self.new ≡ topology_kept self.old }
         ensures err { OnErr result (self.new ≡ self.old) }
@@ -206,8 +206,8 @@ impl Core {
         ensures addressed { IfOk result (λ a. IsMethod method.now → AreCarried (broker_of self.old)
             → AreAddressed id.connection a.step.sends.items) }
         // What ends.
-        ensures ended { IfOk result (λ a. TellsEnd id.connection a.ends (broker_of self.old) (broker_of self.new)) }
-        ensures stay { IfOk result (λ a. TellsStayOn id.connection id.number a.ends (broker_of self.old) (broker_of self.new)) }
+        ensures ended { IfOk result (λ a. ReportsEnd id.connection a.ends (broker_of self.old) (broker_of self.new)) }
+        ensures stay { IfOk result (λ a. ReportsConsumersOn id.connection id.number a.ends (broker_of self.old) (broker_of self.new)) }
         // The frame; a failure changes nothing.
         ensures topology { topology_kept self.new ≡ topology_kept self.old }
         ensures err { OnErr result (self.new ≡ self.old) }
@@ -239,8 +239,8 @@ impl Core {
         ensures ignored { IsLargeIgnored (broker_of self.old) connection channel ((broker_of self.old).connection connection) → IsOk result }
         ensures addressed { IfOk result (λ a. AreAddressed connection a.step.sends.items) }
         // What ends.
-        ensures ended { IfOk result (λ a. TellsEnd connection a.ends (broker_of self.old) (broker_of self.new)) }
-        ensures stay { IfOk result (λ a. TellsStayOn connection channel a.ends (broker_of self.old) (broker_of self.new)) }
+        ensures ended { IfOk result (λ a. ReportsEnd connection a.ends (broker_of self.old) (broker_of self.new)) }
+        ensures stay { IfOk result (λ a. ReportsConsumersOn connection channel a.ends (broker_of self.old) (broker_of self.new)) }
         // The frame; a failure changes nothing.
         ensures topology { topology_kept self.new ≡ topology_kept self.old }
         ensures err { OnErr result (self.new ≡ self.old) }
@@ -264,8 +264,8 @@ impl Core {
         ensures addressed { IfOk result (λ a. IsSaid event.now → AreCarried (broker_of self.old)
             → AreAddressed (connection_of_event event.now) a.step.sends.items) }
         // What ends: whether the event's connection is still running, and whose consumers may be gone.
-        ensures ended { IfOk result (λ a. TellsEnd (connection_of_event event.now) a.ends (broker_of self.old) (broker_of self.new)) }
-        ensures stay { IfOk result (λ a. TellsStay event.now a.ends (broker_of self.old) (broker_of self.new)) }
+        ensures ended { IfOk result (λ a. ReportsEnd (connection_of_event event.now) a.ends (broker_of self.old) (broker_of self.new)) }
+        ensures stay { IfOk result (λ a. ReportsConsumers event.now a.ends (broker_of self.old) (broker_of self.new)) }
         // The frame; a failure changes nothing, and the events that never allocate don't fail.
         ensures topology { topology_kept self.new ≡ topology_kept self.old }
         ensures err { OnErr result (self.new ≡ self.old) }

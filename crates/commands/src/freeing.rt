@@ -16,7 +16,7 @@ fn requeue_channels(depot: &mut Depot, connection: u64, running: &RunningConnect
     requires { (h : ℕ) → AreWithin depot.old.topology (outstanding_on (channel_in running.now h)) }
     ensures { AreReturnedFrom connection 0 depot.old running.now.channels depot.new }
 {
-    for place in 0..running.places() {
+    for place in 0..running.slots() {
         let number = place as u16;
         depot.requeue(
             ChannelId { connection, number },

@@ -12,7 +12,7 @@ ghost use Rattle.model.specs.Step as said;
 ghost use Rattle.model.specs.Prefetch.{has_tag_left};
 ghost use Rattle.model.specs.declared.messages.Entry.{Entry};
 ghost use Rattle.model.specs.declared.methods.Method.TheVariants.{BasicConsume};
-ghost use Rattle.commands.specs.Judged.{refusal_seen, refused_by, refusal_of_number, is_taken, HasChannel, IsQueuePlace};
+ghost use Rattle.commands.specs.Judged.{refusal_seen, refused_by, refusal_of_number, is_taken, HasChannel, IsQueueIndex};
 ghost use Rattle.channels.specs.Open.{open_in};
 ghost use Rattle.channels.specs.RunningConnections.{limits_of, channel_seen};
 
@@ -76,10 +76,10 @@ impl From<ConsumerRefusal> for Refusal {
     ghost use Rattle.std.specs.Prelude.{◌≡◌};
     ghost use Rattle.commands.specs.Judged.{refusal_by};
 
-    ghost from_gives = { λ seat refusal. refusal ≡ refusal_by seat };
+    ghost from_gives = { λ why refusal. refusal ≡ refusal_by why };
 
-    fn from(seat: ConsumerRefusal) -> Refusal {
-        match seat {
+    fn from(why: ConsumerRefusal) -> Refusal {
+        match why {
             ConsumerRefusal::InUse => Refusal::Connection(530),
             ConsumerRefusal::TooMany => Refusal::Connection(506),
             ConsumerRefusal::Spent => Refusal::Connection(541),
@@ -95,7 +95,7 @@ impl From<ConsumeError> for Stop {
 
     fn from(why: ConsumeError) -> Stop {
         match why {
-            ConsumeError::Refused(seat) => Stop::Refused(Refusal::from(seat)),
+            ConsumeError::Refused(refusal) => Stop::Refused(Refusal::from(refusal)),
             ConsumeError::Memory => Stop::Memory,
         }
     }
@@ -167,7 +167,7 @@ pub fn check_number(channel_max: u16, number: u16, method: &Method) -> Result<()
 
 /// Returns the index of the queue with this name. Refused with 404 if there is none.
 pub fn check_queue(topology: &Topology, name: &Text) -> Result<usize, Refusal>
-    ensures place { IfOk result (IsQueuePlace topology.now name.now) }
+    ensures index { IfOk result (IsQueueIndex topology.now name.now) }
     ensures refusal { refused_by result ≡ said.refusal_in topology.now name.now }
 {
     match topology.queue_at(name.as_bytes()) {

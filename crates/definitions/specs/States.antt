@@ -10,8 +10,8 @@ use Rattle.model.specs.declared.messages.User.{User}
 use Rattle.model.specs.declared.topologies.Exchange.{Exchange}
 use Rattle.model.specs.declared.topologies.DeclaredQueue.{DeclaredQueue}
 use Rattle.model.specs.declared.topologies.Binding.{Binding}
-use Rattle.model.specs.declared.topologies.Place.{Place}
-use Rattle.model.specs.declared.topologies.Place.TheVariants as place
+use Rattle.model.specs.declared.topologies.Destination.{Destination}
+use Rattle.model.specs.declared.topologies.Destination.TheVariants as destination
 use Rattle.model.specs.declared.topologies.ExchangeKind.{ExchangeKind}
 use Rattle.model.specs.declared.topologies.ExchangeKind.TheVariants.{Direct, Fanout, Topic}
 use Rattle.definitions.specs.declared.document.UserEntry.{UserEntry}
@@ -42,11 +42,11 @@ queue_of q = record {
 }
 
 -- the destination of a binding; one of an unknown type counts as the binding's source, so that no other name is looked up
-abbrev pub destination_of : BindingEntry → Place
+abbrev pub destination_of : BindingEntry → Destination
 destination_of b =
-    if bytes_eq b.destination_type (codes "queue") then place.Queue b.destination else
-    if bytes_eq b.destination_type (codes "exchange") then place.Exchange b.destination else
-    place.Exchange b.source
+    if bytes_eq b.destination_type (codes "queue") then destination.Queue b.destination else
+    if bytes_eq b.destination_type (codes "exchange") then destination.Exchange b.destination else
+    destination.Exchange b.source
 
 -- the binding that an entry sets up
 abbrev pub binding_of : BindingEntry → Binding

@@ -11,7 +11,7 @@ use crate::document::{BindingEntry, Document, ExchangeEntry, QueueEntry, UserEnt
 use base64::DecodeAllocError;
 use base64::engine::general_purpose::STANDARD;
 use exchange_graph::Topology;
-use model::{Binding, DeclaredQueue, Exchange, ExchangeKind, Place, Text, User};
+use model::{Binding, DeclaredQueue, Destination, Exchange, ExchangeKind, Text, User};
 use std::alloc::{AllocError, Global};
 use std::marker::Model;
 use topology_drafts::Draft;
@@ -77,15 +77,15 @@ impl Entry for QueueEntry {
 }
 
 /// Returns the destination of a binding; for an unknown destination type the binding's own source.
-fn destination_of(entry: &BindingEntry) -> Result<Place, AllocError>
+fn destination_of(entry: &BindingEntry) -> Result<Destination, AllocError>
     ensures { IfOk result (λ p. p ≡ destination_of entry.now) }
 {
     if entry.destination_type.as_bytes() == b"queue".as_slice() {
-        Ok(Place::Queue(entry.destination.clone()?))
+        Ok(Destination::Queue(entry.destination.clone()?))
     } else if entry.destination_type.as_bytes() == b"exchange".as_slice() {
-        Ok(Place::Exchange(entry.destination.clone()?))
+        Ok(Destination::Exchange(entry.destination.clone()?))
     } else {
-        Ok(Place::Exchange(entry.source.clone()?))
+        Ok(Destination::Exchange(entry.source.clone()?))
     }
 }
 

@@ -1,5 +1,5 @@
 -- Fields put one behind another are the pairs of a table.
-use Rattle.depot.proofs.Names.{◌≡◌, subst, Option, Some, None, Result, Ok, Err, IfOk, ℕ, List, ◌∷◌, ◌++◌, length, sym, ap, ◌∙◌, append_assoc, append-nil, Text, TellsOfDeath, AreMarked, alone, added, marked_before, death_queue, first_death, text_field, ArePropertiesMarked}
+use Rattle.depot.proofs.Names.{◌≡◌, subst, Option, Some, None, Result, Ok, Err, IfOk, ℕ, List, ◌∷◌, ◌++◌, length, sym, ap, ◌∙◌, append_assoc, append-nil, Text, DescribesDeath, AreMarked, alone, added, marked_before, death_queue, first_death, text_field, ArePropertiesMarked}
 use Rattle.model.specs.Tables.{Pairs, no_pairs, pair, Long_string, pairs_bytes, with_length}
 use Rattle.model.specs.declared.contents.Fields.{Fields as Properties}
 use Rattle.field_table.specs.Lookups.{HasField}
@@ -22,10 +22,10 @@ three_behind bytes n t m u o v =
 
 -- ---- the headers
 
-pub tells : (headers : Text) → HasField death_queue headers → TellsOfDeath headers
+pub tells : (headers : Text) → HasField death_queue headers → DescribesDeath headers
 tells headers h = record { pairs = h.pairs; fits = h.fits; spelled = h.spelled; field = h.field }
 
-pub has : (headers : Text) → TellsOfDeath headers → HasField death_queue headers
+pub has : (headers : Text) → DescribesDeath headers → HasField death_queue headers
 has headers t = record { pairs = t.pairs; fits = t.fits; spelled = t.spelled; field = t.field }
 
 -- there were none

@@ -8,15 +8,15 @@ pub use Rattle.depot.specs.Settled.{AreOf, AreSettledBy, IsHeldOnce, departure_i
 pub use Rattle.depot.specs.Signs.{AreSignedBut, ReturnsNext, ready_bit, ready_places}
 pub use Rattle.depot.specs.Store.{IsNextReady, IsStoreWhole, Store, entries_named, entries_of, queue_at, with_entries_at}
 pub use Rattle.depot.specs.Turns.{AreEmptied, Enters, GainsNone, IsPlan, IsRoomy, LinesHaveRoom, MakesAtMost, MakesRoom, TurnOutcome, all_entered, arriving, entered_one, is_full_at, is_refusal, no_line, no_turns, notes_of_outcomes, outcome, outcome_at, outcome_of, outcomes, places, room_at, times, turn_at}
-pub use Rattle.depot.specs.Tallies.{AreTallied, CountsTurn, TellsTurn, arrivals_at, is_limited, taken_if, tally_at, tally_of}
+pub use Rattle.depot.specs.Tallies.{AreTallied, CountsTurn, DecidesTurn, arrivals_at, is_limited, taken_if, tally_at, tally_of}
 pub use Rattle.depot.specs.declared.arrivals.Arrival.{Arrival}
 pub use Rattle.depot.specs.declared.tallies.Tally.{Tally}
 pub use Rattle.depot.specs.declared.turns.PlannedTurn.{PlannedTurn}
 pub use Rattle.exchange_graph.specs.Marks.{queue_name}
 pub use Rattle.exchange_graph.specs.Targets.{AreTargets, names_at}
-pub use Rattle.marks.specs.Places.{IsNextMark, bit_of}
+pub use Rattle.marks.specs.Sets.{IsNextMark, bit_of}
 pub use Rattle.model.specs.Broker.{is_full, is_ready, listed, queue_named, ready_bytes, refuses}
-pub use Rattle.model.specs.Deaths.{AreMarked, DiesBy, DiesIn, MayDie, TellsOfDeath, added, alone, dead_letter, death_exchange, death_queue, death_reason, first_death, marked_before}
+pub use Rattle.model.specs.Deaths.{AreMarked, DescribesDeath, DiesBy, DiesIn, MayDie, added, alone, dead_letter, death_exchange, death_queue, death_reason, first_death, marked_before}
 pub use Rattle.model.specs.Deliveries.{AreRejected, Leaves, Returns, left_note, purge_notes, ready_in, with_queue}
 pub use Rattle.model.specs.Entries.{freed, is_held_as, is_under, number_of, without_first}
 pub use Rattle.model.specs.Message.{Message}

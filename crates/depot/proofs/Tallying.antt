@@ -1,5 +1,5 @@
 -- What queues will hold, turn by turn.
-use Rattle.depot.proofs.Names.{◌≡◌, ℕ, zero, suc, ◌+◌, ◌<◌, List, [], ◌∷◌, ◌++◌, Bool, true, false, cond, length, get_or, set, filter, refl, sym, ap, subst, ◌∙◌, arith, append-nil, inl, inr, ◌||◌, Option, Some, None, eqb_tells, length-set, get_or-set_other, get_or-set_same, slice_get, is_ready, ready_bytes, refuses, Message, is_held_as, Entry, Holder, Ready, DeclaredQueue, ready_count, arriving, is_full_at, Tally, AreTallied, TellsTurn, is_limited, tally_at, tally_of}
+use Rattle.depot.proofs.Names.{◌≡◌, ℕ, zero, suc, ◌+◌, ◌<◌, List, [], ◌∷◌, ◌++◌, Bool, true, false, cond, length, get_or, set, filter, refl, sym, ap, subst, ◌∙◌, arith, append-nil, inl, inr, ◌||◌, Option, Some, None, eqb_tells, length-set, get_or-set_other, get_or-set_same, slice_get, is_ready, ready_bytes, refuses, Message, is_held_as, Entry, Holder, Ready, DeclaredQueue, ready_count, arriving, is_full_at, Tally, AreTallied, DecidesTurn, is_limited, tally_at, tally_of}
 use Rattle.std.proofs.Common.{not}
 use Rattle.std.proofs.lemmas.Option.{slice_get_read}
 use Rattle.std.proofs.lemmas.List.Sums.{sum_by-cons}
@@ -89,7 +89,7 @@ nothing_arrives (x ∷ xs) (suc i) = ap (λ (ys : List (List Entry)). x ∷ ys) 
 
 -- a queue that is full refuses it
 pub refuses_full : (qs : List DeclaredQueue) (old : List (List Entry)) (tl : List (ℕ × Tally)) (place size : ℕ) (q : DeclaredQueue) (t : Tally) → place < length qs → q ≡ get_or qs place q → is_limited q ≡ true → t ≡ tally_at old tl place
-    → (is_at q.limit t.ready || is_past q.byte_limit (t.bytes + size)) ≡ true → (entries : List (List Entry)) → TellsTurn qs old tl tl place size true entries
+    → (is_at q.limit t.ready || is_past q.byte_limit (t.bytes + size)) ≡ true → (entries : List (List Entry)) → DecidesTurn qs old tl tl place size true entries
 refuses_full qs old tl place size q t lt at limited is full entries = record {
   reported = λ are. sym full ∙ judged qs old entries tl place size q t (found_there qs place q lt at) limited is are;
   tallied = λ are m long. subst (AreTallied qs old tl) (sym (nothing_arrives entries place)) are;
@@ -98,7 +98,7 @@ refuses_full qs old tl place size q t lt at limited is full entries = record {
 -- one that isn't takes it, and is tallied with it
 pub takes_more : (qs : List DeclaredQueue) (old : List (List Entry)) (tl tl' : List (ℕ × Tally)) (place size : ℕ) (q : DeclaredQueue) (t t' : Tally) → place < length qs → q ≡ get_or qs place q → is_limited q ≡ true → t ≡ tally_at old tl place
     → (is_at q.limit t.ready || is_past q.byte_limit (t.bytes + size)) ≡ false → t'.ready ≡ t.ready + 1 → t'.bytes ≡ t.bytes + size
-    → ((k : ℕ) → lookup (nat_eq k) tl' ≡ cond (nat_eq place k) (Some t') (lookup (nat_eq k) tl)) → (entries : List (List Entry)) → TellsTurn qs old tl tl' place size false entries
+    → ((k : ℕ) → lookup (nat_eq k) tl' ≡ cond (nat_eq place k) (Some t') (lookup (nat_eq k) tl)) → (entries : List (List Entry)) → DecidesTurn qs old tl tl' place size false entries
 takes_more qs old tl tl' place size q t t' lt at limited is takes more long updates entries =
     let found = found_there qs place q lt at in
     record {

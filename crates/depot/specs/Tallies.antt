@@ -39,12 +39,12 @@ abbrev pub taken_if : Bool → Message → Option Message
 taken_if full m = if full then None else Some m
 
 -- If the queues `entries` are tallied, this is whether the queue at index `place` refuses a body of `size` bytes, and they are tallied after that.
-pub record TellsTurn (queues : List DeclaredQueue) (old : List (List Entry)) (tallies tallies' : List (ℕ × Tally)) (place size : ℕ) (full : Bool)
+pub record DecidesTurn (queues : List DeclaredQueue) (old : List (List Entry)) (tallies tallies' : List (ℕ × Tally)) (place size : ℕ) (full : Bool)
     (entries : List (List Entry)) : Type 0 where
   pub reported : AreTallied queues old tallies entries → full ≡ is_full_at queues entries place size
   pub tallied : AreTallied queues old tallies entries → (m : Message) → length m.content.body ≡ size
       → AreTallied queues old tallies' (slice_set entries place (slice_index_or entries place [] ++ arriving (taken_if full m)))
 
--- `TellsTurn`, whatever the queues hold
+-- `DecidesTurn`, whatever the queues hold
 abbrev pub CountsTurn : List DeclaredQueue → List (List Entry) → List (ℕ × Tally) → List (ℕ × Tally) → ℕ → ℕ → Bool → Type 0
-CountsTurn queues old tallies tallies' place size full = (entries : List (List Entry)) → TellsTurn queues old tallies tallies' place size full entries
+CountsTurn queues old tallies tallies' place size full = (entries : List (List Entry)) → DecidesTurn queues old tallies tallies' place size full entries

@@ -132,7 +132,7 @@ impl Depot {
         if self.keeps_notes {
             Notes::new(alloc)
         } else {
-            Notes::untold(alloc)
+            Notes::unkept(alloc)
         }
     }
 
@@ -412,20 +412,20 @@ impl Depot {
         self.queues.queue(index).held(holder, arrival)
     }
 
-    /// Removes the ready messages of the queue at index `place`, in the order of arrival, with a note for each, and returns their number. Held
+    /// Removes the ready messages of the queue at `index`, in the order of arrival, with a note for each, and returns their number. Held
     /// messages stay. Fails only if there is a ready message and an allocation fails; only capacity may have grown then.
-    pub fn purge_at(&mut self, place: usize, notes: &mut Notes) -> Result<usize, AllocError>
-        requires { place < length self.old.topology.queues }
+    pub fn purge_at(&mut self, index: usize, notes: &mut Notes) -> Result<usize, AllocError>
+        requires { index < length self.old.topology.queues }
         ensures ok { IfOk result (λ count.
-            IsPurgedBy self.old (queue_name self.old.topology place) notes.old.items notes.new.items count self.new) }
+            IsPurgedBy self.old (queue_name self.old.topology index) notes.old.items notes.new.items count self.new) }
         ensures store { OnErr result (self.new ≡ self.old) }
         ensures notes { OnErr result (notes.new.items ≡ notes.old.items) }
-        ensures wanted { OnErr result (0 < ready_count (queue_at self.old place)) }
+        ensures wanted { OnErr result (0 < ready_count (queue_at self.old index)) }
     {
         let topology = self.router.topology();
         topology.ghost_is_well_formed();
-        let name = &topology.queue(place).name;
-        purge_in(self.queues.queue_mut(place), name, notes)
+        let name = &topology.queue(index).name;
+        purge_in(self.queues.queue_mut(index), name, notes)
     }
 
     /// Returns an iterator over the entries of the queue at `index`, ready and held, in the order of arrival; empty if there is no such queue.

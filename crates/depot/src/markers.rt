@@ -5,7 +5,7 @@ ghost use Rattle.depot.specs.Marked.{ArePropertiesMarked};
 ghost use Rattle.depot.specs.Kept.{IsRight};
 
 use crate::marking::marked;
-use headers::one_header;
+use headers::ghost_one_header;
 use model::{Content, Form, Properties, Text};
 use std::alloc::{AllocError, Global};
 use std::marker::Model;
@@ -23,7 +23,7 @@ struct Marking {
 fn are_alike(some: &Properties, others: &Properties) -> bool
     ensures { IsTrue result → some.now ≡ others.now }
 {
-    one_header();
+    ghost_one_header();
     match (some.form(), others.form()) {
         (Form::Spelled(some), Form::Spelled(others)) => some == others,
         _ => false,

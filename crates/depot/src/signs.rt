@@ -1,11 +1,11 @@
 //! Which queues have a ready message.
 
 ghost use Rattle.std.specs.Prelude.{◌≡◌, ℕ, ◌<◌, ◌≤◌, ◌*◌, length, cond, IfOk};
-ghost use Rattle.marks.specs.Places.{bit_of, Differs};
+ghost use Rattle.marks.specs.Sets.{bit_of, Differs};
 ghost use Rattle.depot.specs.Signs.{ready_bit};
 
 use crate::queues::Queue;
-use marks::{Flat, Over, Places};
+use marks::{Flat, IndexSet, Over};
 use queue::Store;
 use std::alloc::{AllocError, Global};
 use std::marker::Model;
@@ -59,7 +59,7 @@ fn room_for(alloc: Global, places: usize) -> Result<QueueMarks, AllocError>
 
 impl QueueSigns {
     ghost use Rattle.std.specs.Prelude.{◌≡◌, [], ◌<◌, ◌*◌, length, replicate, IfOk};
-    ghost use Rattle.marks.specs.Places.{bit_of, Differs};
+    ghost use Rattle.marks.specs.Sets.{bit_of, Differs};
     ghost use Rattle.depot.specs.Signs.{ready_bit, AreSignedBut, ReturnsNext};
 
     /// Makes the set for `queues` empty queues. Fails only if an allocation fails.

@@ -1,5 +1,5 @@
 -- What a call did keeps the world consistent, with its consumers named as they should be.
-use Rattle.engine.proofs.Names.{◌≡◌, ◌+◌, ℕ, List, Bool, true, false, Some, sym, subst, IfOk, OnErr, MatchBool, Happening, opened_stream, running_stream, World, Same, Turns, Waits, is_over, is_gone, with_heard, Takes_off, Delivers, delivers, Loses, IsConsistent, stay_consistent, worlds_named, OpensNew, OpensReady, Hears, IsLost, world_same, Parts, world_of, IsEngine, Turned, Turn}
+use Rattle.engine.proofs.Names.{◌≡◌, ◌+◌, ℕ, List, Bool, true, false, Some, sym, subst, IfOk, OnErr, MatchBool, Happening, opened_stream, running_stream, World, Same, Turns, Waits, is_over, is_gone, with_heard, TakesOutput, Delivers, delivers, Loses, IsConsistent, stay_consistent, worlds_named, OpensNew, OpensReady, Hears, IsLost, world_same, Parts, world_of, IsEngine, Turned, Turn}
 use Rattle.std.proofs.Common.{Result, Ok, Err}
 use Rattle.model.specs.declared.events.Event.TheVariants as event
 use Rattle.laws.specs.Consumers.{IsWorldNamed}
@@ -29,7 +29,7 @@ hears_agrees old new c bytes k heard = go (is_over old c) heard
     go true same = same_agrees old new k same
     go false is = subst Agrees (sym is) (record { consistent = stay_consistent.hears old c bytes k.consistent; named = worlds_named.hears old c bytes k.named })
 
-pub takes_off_agrees : (old new : World) (c n : ℕ) (hs : List Happening) → Agrees old → Takes_off old c n hs new → Agrees new
+pub takes_off_agrees : (old new : World) (c n : ℕ) (hs : List Happening) → Agrees old → TakesOutput old c n hs new → Agrees new
 takes_off_agrees old new c n hs k t = record { consistent = stay_consistent.takes old new c n hs k.consistent t; named = worlds_named.takes old new c n hs k.named t }
 
 pub loses_agrees : (old new : World) (c : ℕ) → Agrees old → IsLost old c new → Agrees new

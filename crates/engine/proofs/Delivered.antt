@@ -1,5 +1,5 @@
 -- A delivery to one connection is a delivery of the world.
-use Rattle.engine.proofs.Names.{◌≡◌, ℕ, List, ◌∷◌, ◌++◌, Bool, true, false, cond, Option, Some, None, get_or, set, remove, length, refl, sym, ap, subst, ◌∙◌, append-nil, ◌&&◌, not, nat_lt, is_some, IfOk, OnErr, false≢true, CanDeliver, IsConsistent, Session, is_running, State, spelling, Happening, notes_of, Wire, Same, Pauses, Delivers, delivers, NoneCanDeliver, is_ended, is_past_bound, is_paused, Phase, Note, pump_keeps, Kept, WithTurn, Idles, IsKeptEvent, WaitingBytes, ConnectionPumped, OutputChanges, ConnectionsPumped, ConnectionsNotPumped, IsPumpTo, Parts, connection_in, session_of, wire_in, wire_of, config_of, state_of, world_of, is_connection_gone, AreRising, IsEngine, Becomes, Changes, HasConnection, IsConnectionPlace, Connection}
+use Rattle.engine.proofs.Names.{◌≡◌, ℕ, List, ◌∷◌, ◌++◌, Bool, true, false, cond, Option, Some, None, get_or, set, remove, length, refl, sym, ap, subst, ◌∙◌, append-nil, ◌&&◌, not, nat_lt, is_some, IfOk, OnErr, false≢true, CanDeliver, IsConsistent, Session, is_running, State, spelling, Happening, notes_of, Wire, Same, Pauses, Delivers, delivers, NoneCanDeliver, is_ended, is_past_bound, is_paused, Phase, Note, pump_keeps, Kept, WithTurn, Idles, IsKeptEvent, WaitingBytes, ConnectionPumped, OutputChanges, ConnectionsPumped, ConnectionsNotPumped, IsPumpTo, Parts, connection_in, session_of, wire_in, wire_of, config_of, state_of, world_of, is_connection_gone, AreRising, IsEngine, Becomes, Changes, HasConnection, IsConnectionIndex, Connection}
 use Rattle.std.proofs.Common.{Result, Ok, Err}
 use Rattle.model.specs.declared.events.Phase.TheVariants as phase
 use Rattle.model.specs.declared.events.Event.TheVariants as event
@@ -61,7 +61,7 @@ output_changes ls new_ls c f awake =
       over = λ gone. absurd (false≢true (sym still ∙ gone));
     }
 
-abbrev output_change : (ls : List Connection) (c i : ℕ) (old new : Connection) → IsConnectionPlace ls c (Some i) → get_or ls i old ≡ old → new ≡ record old { output = new.output } → OutputChanges c ls (set ls i new)
+abbrev output_change : (ls : List Connection) (c i : ℕ) (old new : Connection) → IsConnectionIndex ls c (Some i) → get_or ls i old ≡ old → new ≡ record old { output = new.output } → OutputChanges c ls (set ls i new)
 output_change ls c i old new at here only = record {
   place = i;
   within = at.0;
@@ -217,7 +217,7 @@ pub record PumpedAt {V E : Type 0} (r : Result V E) (notes : V → List Note) (o
 
 -- the connection with this number is at this index, and became another by it
 pub pumped_at : {V E : Type 0} (r : Result V E) (notes : V → List Note) (old : Parts) (b new_b : WithTurn) (to : Pick) (place : ℕ) (l l' : Connection) → IsEngine old → b.kept ≡ old.broker.kept → topology_kept new_b ≡ topology_kept b
-    → CanDeliver (broker_of old.broker) to.connection → IsConnectionPlace old.connections to.connection (Some place) → get_or old.connections place l ≡ l → l' ≡ record l { output = l'.output }
+    → CanDeliver (broker_of old.broker) to.connection → IsConnectionIndex old.connections to.connection (Some place) → get_or old.connections place l ≡ l → l' ≡ record l { output = l'.output }
     → IfOk r (λ v. ConnectionPumped (topology_kept b) (broker_of b) to l (notes v) (broker_of new_b) l') → OnErr r (new_b ≡ b) → OnErr r (l'.output.bytes ≡ l.output.bytes)
     → PumpedAt r notes old to (record old { broker = new_b; connections = set old.connections place l' })
 pumped_at (Ok v) notes old b new_b to place l l' e same topology made at here only ok kept output =

@@ -1,5 +1,5 @@
 -- The index of a connection among ascending numbers.
-use Rattle.engine.proofs.Names.{◌≡◌, ◌≢◌, ◌<◌, ◌≤◌, ℕ, zero, suc, List, [], ◌∷◌, Bool, true, false, cond, ltb, ltb-true, ltb-false, Some, None, get_or, length, refl, sym, ap, subst, ◌∙◌, arith, ◌==◌, is_some, HoldsAt, eqb-true, false≢true, nat_tests, connection_in, AreRising, HasConnection, IsConnectionPlace, Connection}
+use Rattle.engine.proofs.Names.{◌≡◌, ◌≢◌, ◌<◌, ◌≤◌, ℕ, zero, suc, List, [], ◌∷◌, Bool, true, false, cond, ltb, ltb-true, ltb-false, Some, None, get_or, length, refl, sym, ap, subst, ◌∙◌, arith, ◌==◌, is_some, HoldsAt, eqb-true, false≢true, nat_tests, connection_in, AreRising, HasConnection, IsConnectionIndex, Connection}
 use Rattle.std.specs.List.Sorted.{IsNonDecreasingBy, IsPartitionPoint}
 use Rattle.std.specs.Ordering.{nat_cmp, ordering_index}
 use Rattle.std.proofs.lemmas.Cmp.{ranked}
@@ -33,12 +33,12 @@ absent (l ∷ ls) c f =
     ap (λ (b : Bool). cond b (Some l) (connection_in ls c)) (other_false l.number c (f 0 l (omega arith)))
     ∙ absent ls c (λ j d lt. f (suc j) d (omega (arith, lt)))
 
-pub found : (ls : List Connection) (c i : ℕ) → i < length ls → HoldsAt (λ (l : Connection). nat_cmp l.number c ≡ Equal) ls i → IsConnectionPlace ls c (Some i)
+pub found : (ls : List Connection) (c i : ℕ) → i < length ls → HoldsAt (λ (l : Connection). nat_cmp l.number c ≡ Equal) ls i → IsConnectionIndex ls c (Some i)
 found ls c i lt at = (lt, λ l. ranked _ c _ (sym (at l)))
 
 pub not_found : (ls : List Connection) (c i : ℕ) → AreRising 0 ls
     → (IsNonDecreasingBy (λ (l : Connection). ordering_index (nat_cmp l.number c)) ls → IsPartitionPoint (λ (l : Connection). nat_cmp l.number c ≡ Less) (λ (l : Connection). nat_cmp l.number c ≡ Greater) ls i)
-    → IsConnectionPlace ls c None
+    → IsConnectionIndex ls c None
 not_found ls c i r parted =
     let p = parted (comparisons_rise ls c r) in
     absent ls c (λ j d within same. parts j d within same p)
@@ -65,15 +65,15 @@ somewhere (x ∷ xs) c l e = go (x.number == c) refl e (somewhere xs c l)
 
 -- and that is the first place of its number or a greater one
 pub first_there : (ls : List Connection) (c i : ℕ) → AreRising 0 ls
-    → IsPartitionPoint (λ (l : Connection). ltb l.number c ≡ true) (λ (l : Connection). ltb l.number c ≡ false) ls i → HasConnection ls c → IsConnectionPlace ls c (Some i)
+    → IsPartitionPoint (λ (l : Connection). ltb l.number c ≡ true) (λ (l : Connection). ltb l.number c ≡ false) ls i → HasConnection ls c → IsConnectionIndex ls c (Some i)
 first_there ls c i r p (l, e) = at (somewhere ls c l e)
   where
-    at : (j : ℕ) × (j < length ls) × ((d : Connection) → (get_or ls j d).number ≡ c) → IsConnectionPlace ls c (Some i)
+    at : (j : ℕ) × (j < length ls) × ((d : Connection) → (get_or ls j d).number ≡ c) → IsConnectionIndex ls c (Some i)
     at (j, within, is) =
         let before : j < i → ⊥ = λ lt. let less = ltb-true _ _ (p.0 j l (omega arith) lt) in let same = is l in omega (arith, less, same) in
         let behind : i < j → ⊥ = λ lt. let less = pairs_rise 0 ls i j l r lt within in let more = ltb-false _ _ (p.1 i l (omega arith) (omega (arith, lt, within))) in let same = is l in omega (arith, less, more, same) in
         let here : j ≡ i = grind (arith, before, behind) in
-        subst (λ (k : ℕ). IsConnectionPlace ls c (Some k)) here (within, is)
+        subst (λ (k : ℕ). IsConnectionIndex ls c (Some k)) here (within, is)
 
 -- there is an element at each place
 pub element : (ls : List Connection) (i : ℕ) → i < length ls → (l : Connection) × (get_or ls i l ≡ l)

@@ -1,5 +1,5 @@
 -- A turn of one connection is a turn of the world.
-use Rattle.engine.proofs.Names.{◌≡◌, ◌≢◌, ℕ, List, [], ◌∷◌, ◌++◌, Bool, true, false, cond, Option, Some, None, drop, refl, sym, ap, subst, ◌∙◌, append-nil, ◌⊎◌, inl, inr, ◌==◌, ◌&&◌, not, if◌then◌else◌, MatchBool, eq-eqb, Broker, with_one, Stream, Ends, stays, running_stream, heard, Session, Move, to_phase, after_sends, faulted, IsAnswered, first_move, User, Config, State, Step, Steps, Moves, OfCommand, OfLarge, OfFault, OfFirst, Acts, empty_publish, spelling, Happening, notes_of, Wire, Turns, Pauses, Reads, again, fresh, fault, event_of, is_over, is_paused, is_ended, is_past_bound, wire_after, under_session, new_wire, Waits, Same, SameToCome, still, waits, IsIdle, Takes_off, Loses, with_heard, Note, Send, Phase, Command, Head, Plain, TooLarge, Event, stream_of, rules_of, IsAskedBy, DecidesByPhase, ByBroker, ByPhase, session_after, PausesOr, kept_of, ConnectionDid, ConnectionWaits, WaitingBytes, Parts, connection_in, session_of, wire_in, wire_of, config_of, state_of, world_of, Becomes, ConnectionSent, ConnectionFed, world_same, Hears, Connection}
+use Rattle.engine.proofs.Names.{◌≡◌, ◌≢◌, ℕ, List, [], ◌∷◌, ◌++◌, Bool, true, false, cond, Option, Some, None, drop, refl, sym, ap, subst, ◌∙◌, append-nil, ◌⊎◌, inl, inr, ◌==◌, ◌&&◌, not, if◌then◌else◌, MatchBool, eq-eqb, Broker, with_one, Stream, Ends, stays, running_stream, heard, Session, Move, to_phase, after_sends, faulted, IsAnswered, first_move, User, Config, State, Step, Steps, Moves, OfCommand, OfLarge, OfFault, OfFirst, Acts, empty_publish, spelling, Happening, notes_of, Wire, Turns, Pauses, Reads, again, fresh, fault, event_of, is_over, is_paused, is_ended, is_past_bound, wire_after, under_session, new_wire, Waits, Same, SameToCome, still, waits, IsIdle, TakesOutput, Loses, with_heard, Note, Send, Phase, Command, Head, Plain, TooLarge, Event, stream_of, rules_of, IsAskedBy, DecidesByPhase, ByBroker, ByPhase, session_after, PausesOr, kept_of, ConnectionDid, ConnectionWaits, WaitingBytes, Parts, connection_in, session_of, wire_in, wire_of, config_of, state_of, world_of, Becomes, ConnectionSent, ConnectionFed, world_same, Hears, Connection}
 use Rattle.model.specs.Words.{Text}
 use Rattle.model.specs.declared.contents.Content.{Content}
 use Rattle.model.specs.declared.methods.Method.{Method}
@@ -251,7 +251,7 @@ idle old l found none ends open_still =
 
 pub taken : (old new : Parts) (l l' : Connection) (n : ℕ) → Becomes old l l' new → connection_in old.connections l.number ≡ Some l
     → ConnectionSent (topology_kept old.broker) (broker_of old.broker) l n (broker_of new.broker) l'
-    → (hs : List Happening) × Takes_off (world_of old) l.number n hs (world_of new)
+    → (hs : List Happening) × TakesOutput (world_of old) l.number n hs (world_of new)
 taken old new l l' n b found s =
     let c = l.number in
     let sessions : (d : ℕ) → session_of (connection_in new.connections d) ≡ session_of (connection_in old.connections d) =

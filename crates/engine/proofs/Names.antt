@@ -7,7 +7,7 @@ pub use Rattle.broker.specs.Turns.{WithTurn}
 pub use Rattle.broker.specs.Waiting.{IsPickedInTurn, LinesMove, NobodyIsPutBack, NoneIsLater, ServesSoon}
 pub use Rattle.commands.specs.Picked.{IsPick}
 pub use Rattle.commands.specs.State.{Kept, nothing}
-pub use Rattle.engine.specs.Engines.{Becomes, Changes, ConnectionFed, ConnectionSent, ConnectionTookOr, ConnectionsFed, ConnectionsSent, ConnectionsTook, HasConnection, IsConnectionPlace, IsStanding, IsSwept, OnDid, Turned, left_in, left_to_read, room_for, room_in}
+pub use Rattle.engine.specs.Engines.{Becomes, Changes, ConnectionFed, ConnectionSent, ConnectionTookOr, ConnectionsFed, ConnectionsSent, ConnectionsTook, HasConnection, IsConnectionIndex, IsNotGone, IsSwept, OnDid, Turned, left_in, left_to_read, room_for, room_in}
 pub use Rattle.engine.specs.InForce.{in_force}
 pub use Rattle.engine.specs.Offered.{JudgesOffered}
 pub use Rattle.engine.specs.Opening.{Numbers, OpenedBy, OpenedNew, OpenedReady}
@@ -24,7 +24,7 @@ pub use Rattle.engine.specs.declared.turning.Turn.{Turn}
 pub use Rattle.laws.proofs.Consistency.{new_is_consistent, stay_consistent}
 pub use Rattle.laws.proofs.Naming.{worlds_named}
 pub use Rattle.laws.proofs.Whole.{pump_keeps, turn_confirms, turn_keeps}
-pub use Rattle.model.specs.Arrivals.{Delivers, IsIdle, IsSaid, Loses, NoneCanDeliver, Pauses, Reads, Same, SameToCome, Seen, Takes_off, Turns, Waits, Wire, World, again, can_open, delivers, event_of, fault, fresh, is_awake, is_ended, is_gone, is_over, is_past_bound, is_paused, kept, new_wire, new_world, standing, still, with_setup, under_session, waits, wire_after, with_heard}
+pub use Rattle.model.specs.Arrivals.{Delivers, IsIdle, IsSaid, Loses, NoneCanDeliver, Pauses, Reads, Same, SameToCome, Seen, TakesOutput, Turns, Waits, Wire, World, again, can_open, delivers, event_of, fault, fresh, is_awake, is_ended, is_gone, is_over, is_past_bound, is_paused, kept, new_wire, new_world, count_open, still, with_setup, under_session, waits, wire_after, with_heard}
 pub use Rattle.model.specs.Broker.{Broker, with_one}
 pub use Rattle.model.specs.Commands.{Ends, GoesOn, IsCommand, Stream, Takes, Yields, goes, heard, opened_stream, running_stream, stays}
 pub use Rattle.model.specs.Consistent.{IsConsistent}

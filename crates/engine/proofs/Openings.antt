@@ -1,12 +1,12 @@
 -- An engine with no connection, and one more connection.
-use Rattle.engine.proofs.Names.{◌≡◌, ◌<◌, ◌≤◌, ◌+◌, ℕ, List, [], ◌∷◌, ◌++◌, Bool, true, false, cond, Option, Some, None, length, refl, sym, ap, subst, ◌∙◌, arith, ◌==◌, ◌&&◌, not, nat_lt, AllByRecursion, nat_tests, Broker, with_one, Stream, opened_stream, running_stream, new_session, Session, running_session, Config, Step, Acts, Is, Happening, Topology, Guarantee, Wire, new_wire, new_world, is_ended, can_open, standing, Same, Event, nothing, WithTurn, IsOpened, IsKeptEvent, kept_of, Parts, connection_in, session_of, wire_in, wire_of, config_of, state_of, world_of, AreConnections, IsConnection, IsNew, IsEngine, Numbers, OpenedBy, Connection}
+use Rattle.engine.proofs.Names.{◌≡◌, ◌<◌, ◌≤◌, ◌+◌, ℕ, List, [], ◌∷◌, ◌++◌, Bool, true, false, cond, Option, Some, None, length, refl, sym, ap, subst, ◌∙◌, arith, ◌==◌, ◌&&◌, not, nat_lt, AllByRecursion, nat_tests, Broker, with_one, Stream, opened_stream, running_stream, new_session, Session, running_session, Config, Step, Acts, Is, Happening, Topology, Guarantee, Wire, new_wire, new_world, is_ended, can_open, count_open, Same, Event, nothing, WithTurn, IsOpened, IsKeptEvent, kept_of, Parts, connection_in, session_of, wire_in, wire_of, config_of, state_of, world_of, AreConnections, IsConnection, IsNew, IsEngine, Numbers, OpenedBy, Connection}
 use Rattle.std.proofs.Common.{Result, Ok, Err}
 use Rattle.model.specs.declared.events.Event.TheVariants as event
 use Rattle.broker.specs.Turns.{topology_kept, broker_of}
 use Rattle.engine.specs.declared.engines.Refused.{Refused}
 use Rattle.engine.specs.declared.engines.Refused.TheVariants.{Full, Spent, Memory}
 use Rattle.engine.proofs.Numbered.{connection_in-push, rising-push, other_false}
-use Rattle.engine.proofs.Standing.{standing_is}
+use Rattle.engine.proofs.Standing.{count_open_is}
 use Rattle.engine.proofs.Agreeing.{Agrees, agreed, opens_new_agrees, opens_ready_agrees}
 use Rattle.engine.proofs.Asked.{is_same}
 use Rattle.engine.proofs.Changed.{either}
@@ -87,7 +87,7 @@ wires_are old new l sess st a m d =
     ∙ ap (λ (c : ℕ). with_one (λ c. wire_of (connection_in old.connections c)) c (record new_wire { stream = st }) d) m.is.number_is
 
 pub can_open_is : (p : Parts) → AreConnections p.given p.connections → length p.connections < 1024 → p.given < 18446744073709551615 → can_open (world_of p) ≡ true
-can_open_is p a few left = let same = standing_is p a in grind (arith, nat_tests, same, few, left)
+can_open_is p a few left = let same = count_open_is p a in grind (arith, nat_tests, same, few, left)
 
 -- ---- what happens then
 
@@ -192,11 +192,11 @@ opens_ready old b l n k given ls new_ls e numbers same more is topology count ac
 
 -- ---- refusals
 
-full_is : (p : Parts) → AreConnections p.given p.connections → 1024 ≤ length p.connections → nat_lt (standing (world_of p) p.given) 1024 ≡ false
-full_is p a many = let same = standing_is p a in grind (arith, nat_tests, same, many)
+full_is : (p : Parts) → AreConnections p.given p.connections → 1024 ≤ length p.connections → nat_lt (count_open (world_of p) p.given) 1024 ≡ false
+full_is p a many = let same = count_open_is p a in grind (arith, nat_tests, same, many)
 
-room_is : (p : Parts) → AreConnections p.given p.connections → length p.connections < 1024 → nat_lt (standing (world_of p) p.given) 1024 ≡ true
-room_is p a few = let same = standing_is p a in grind (arith, nat_tests, same, few)
+room_is : (p : Parts) → AreConnections p.given p.connections → length p.connections < 1024 → nat_lt (count_open (world_of p) p.given) 1024 ≡ true
+room_is p a few = let same = count_open_is p a in grind (arith, nat_tests, same, few)
 
 spent_is : (given : ℕ) → 18446744073709551615 ≤ given → nat_lt given 18446744073709551615 ≡ false
 spent_is given most = grind (arith, nat_tests, most)

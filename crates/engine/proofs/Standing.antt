@@ -1,5 +1,5 @@
 -- There are as many connections that are not gone as are kept.
-use Rattle.engine.proofs.Names.{◌≡◌, ◌≢◌, ◌+◌, ◌<◌, ◌≤◌, ℕ, zero, suc, List, [], ◌∷◌, Bool, true, false, cond, eqb, Option, Some, None, length, refl, sym, ap, subst, ◌∙◌, arith, ◌==◌, ◌&&◌, not, nat_lt, nat_le, AllByRecursion, eqb-true, false≢true, nat_tests, is_gone, is_ended, standing, Parts, connection_in, session_of, wire_in, wire_of, world_of, is_connection_gone, IsConnection, AreConnections, AreRising, Connection}
+use Rattle.engine.proofs.Names.{◌≡◌, ◌≢◌, ◌+◌, ◌<◌, ◌≤◌, ℕ, zero, suc, List, [], ◌∷◌, Bool, true, false, cond, eqb, Option, Some, None, length, refl, sym, ap, subst, ◌∙◌, arith, ◌==◌, ◌&&◌, not, nat_lt, nat_le, AllByRecursion, eqb-true, false≢true, nat_tests, is_gone, is_ended, count_open, Parts, connection_in, session_of, wire_in, wire_of, world_of, is_connection_gone, IsConnection, AreConnections, AreRising, Connection}
 use Rattle.engine.proofs.Numbered.{none_below}
 
 abbrev pub one : Bool → ℕ
@@ -89,19 +89,19 @@ gone_none p c a e = gone_is p c a ∙ ap (λ (o : Option Connection). cond (eqb 
 pub gone_some : (p : Parts) (c : ℕ) (l : Connection) → AreConnections p.given p.connections → connection_in p.connections c ≡ Some l → is_gone (world_of p) c ≡ false
 gone_some p c l a e = gone_is p c a ∙ ap (λ (o : Option Connection). cond (eqb (there o) 0) true false) e
 
-standing_up : (p : Parts) (n : ℕ) → AreConnections p.given p.connections → standing (world_of p) n ≡ up_to n p.connections
-standing_up p zero a = sym (none_up 0 p.connections a.rising)
-standing_up p (suc n) a = go (connection_in p.connections (suc n)) refl (standing_up p n a)
+count_open_up : (p : Parts) (n : ℕ) → AreConnections p.given p.connections → count_open (world_of p) n ≡ up_to n p.connections
+count_open_up p zero a = sym (none_up 0 p.connections a.rising)
+count_open_up p (suc n) a = go (connection_in p.connections (suc n)) refl (count_open_up p n a)
   where
-    go : (o : Option Connection) → connection_in p.connections (suc n) ≡ o → standing (world_of p) n ≡ up_to n p.connections → standing (world_of p) (suc n) ≡ up_to (suc n) p.connections
+    go : (o : Option Connection) → connection_in p.connections (suc n) ≡ o → count_open (world_of p) n ≡ up_to n p.connections → count_open (world_of p) (suc n) ≡ up_to (suc n) p.connections
     go None e up =
         let more : up_to (suc n) p.connections ≡ 0 + up_to n p.connections = one_more 0 p.connections n a.rising ∙ ap (λ (o : Option Connection). there o + up_to n p.connections) e in
-        let here : standing (world_of p) (suc n) ≡ standing (world_of p) n = ap (λ (b : Bool). cond b (standing (world_of p) n) (standing (world_of p) n + 1)) (gone_none p (suc n) a e) in
+        let here : count_open (world_of p) (suc n) ≡ count_open (world_of p) n = ap (λ (b : Bool). cond b (count_open (world_of p) n) (count_open (world_of p) n + 1)) (gone_none p (suc n) a e) in
         omega (arith, up, more, here)
     go (Some l) e up =
         let more : up_to (suc n) p.connections ≡ 1 + up_to n p.connections = one_more 0 p.connections n a.rising ∙ ap (λ (o : Option Connection). there o + up_to n p.connections) e in
-        let here : standing (world_of p) (suc n) ≡ standing (world_of p) n + 1 = ap (λ (b : Bool). cond b (standing (world_of p) n) (standing (world_of p) n + 1)) (gone_some p (suc n) l a e) in
+        let here : count_open (world_of p) (suc n) ≡ count_open (world_of p) n + 1 = ap (λ (b : Bool). cond b (count_open (world_of p) n) (count_open (world_of p) n + 1)) (gone_some p (suc n) l a e) in
         omega (arith, up, more, here)
 
-pub standing_is : (p : Parts) → AreConnections p.given p.connections → standing (world_of p) p.given ≡ length p.connections
-standing_is p a = standing_up p p.given a ∙ all_up p.given p.connections a.each
+pub count_open_is : (p : Parts) → AreConnections p.given p.connections → count_open (world_of p) p.given ≡ length p.connections
+count_open_is p a = count_open_up p p.given a ∙ all_up p.given p.connections a.each

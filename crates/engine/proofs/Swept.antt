@@ -1,5 +1,5 @@
 -- A connection that changed in its place, and is taken out where it is gone.
-use Rattle.engine.proofs.Names.{◌≡◌, ◌<◌, ℕ, zero, suc, List, [], ◌∷◌, Bool, true, false, cond, get_or, set, length, remove, refl, sym, ap, subst, ◌∙◌, arith, Option, ◌&&◌, not, nat_lt, IsOk, IfOk, OnOk, OnErr, AllByRecursion, false≢true, Rules, rules_of, Topology, is_ended, Session, User, Event, Broker, Held, stream_of, IsKeptEvent, HasMore, kept_of, ConnectionTook, ConnectionWaits, MayTurn, has_performed, is_connection_gone, IsConnection, Changes, IsSwept, IsStanding, ConnectionTookOr, ConnectionSent, ConnectionFed, ConnectionsTook, ConnectionsSent, ConnectionsFed, Connection, Turn}
+use Rattle.engine.proofs.Names.{◌≡◌, ◌<◌, ℕ, zero, suc, List, [], ◌∷◌, Bool, true, false, cond, get_or, set, length, remove, refl, sym, ap, subst, ◌∙◌, arith, Option, ◌&&◌, not, nat_lt, IsOk, IfOk, OnOk, OnErr, AllByRecursion, false≢true, Rules, rules_of, Topology, is_ended, Session, User, Event, Broker, Held, stream_of, IsKeptEvent, HasMore, kept_of, ConnectionTook, ConnectionWaits, MayTurn, has_performed, is_connection_gone, IsConnection, Changes, IsSwept, IsNotGone, ConnectionTookOr, ConnectionSent, ConnectionFed, ConnectionsTook, ConnectionsSent, ConnectionsFed, Connection, Turn}
 use Rattle.std.proofs.Common.{Result, Ok, Err}
 use Rattle.std.proofs.lemmas.List.{set-get_or, get_or_default}
 use Rattle.engine.specs.declared.turning.Turn.TheVariants as turn
@@ -29,10 +29,10 @@ changes_swept ls i old new new_ls lt here number kept swept =
     }
 
 -- one that is not gone is left where it is
-pub swept_standing : (ls : List Connection) (i : ℕ) (l : Connection) → is_connection_gone l ≡ false → IsSwept ls i l ls
-swept_standing ls i l stands = record {
-  left = ap (λ (b : Bool). cond b (remove ls i) ls) (sym stands);
-  over = λ gone. absurd (false≢true (sym stands ∙ gone));
+pub swept_not_gone : (ls : List Connection) (i : ℕ) (l : Connection) → is_connection_gone l ≡ false → IsSwept ls i l ls
+swept_not_gone ls i l not_gone = record {
+  left = ap (λ (b : Bool). cond b (remove ls i) ls) (sym not_gone);
+  over = λ gone. absurd (false≢true (sym not_gone ∙ gone));
 }
 
 gone_same : (old new : Connection) → new.session ≡ old.session → new.output.bytes ≡ old.output.bytes → is_connection_gone new ≡ is_connection_gone old
@@ -52,10 +52,10 @@ unperformed (Ok turn.Over) r b old new_b new took waits none = ap is_connection_
 unperformed (Err e) r b old new_b new took waits none = gone_waits b new_b old new waits
 
 -- then it is not gone
-pub stands_after : {E : Type 0} (what : Result Turn E) (r : Rules) (b : Broker) (given : ℕ) (ls : List Connection) (i : ℕ) (old new : Connection) (new_b : Broker)
+pub not_gone_after : {E : Type 0} (what : Result Turn E) (r : Rules) (b : Broker) (given : ℕ) (ls : List Connection) (i : ℕ) (old new : Connection) (new_b : Broker)
     → AllByRecursion (IsConnection given) ls → i < length ls → get_or ls i old ≡ old → IfOk what (λ x. ConnectionTook r b old x new_b new) → OnErr what (ConnectionWaits b old new_b new)
-    → has_performed what ≡ false → IsStanding (set ls i new) i
-stands_after what r b given ls i old new new_b all lt here took waits none l there =
+    → has_performed what ≡ false → IsNotGone (set ls i new) i
+not_gone_after what r b given ls i old new new_b all lt here took waits none l there =
     ap is_connection_gone (sym there ∙ at_set ls i new l lt) ∙ unperformed what r b old new_b new took waits none ∙ (all_at (IsConnection given) ls i old all lt here).here
 
 pub took_or : {E : Type 0} (r : Result Turn E) (t : Rules) (b : Broker) (old : Connection) (new_b : Broker) (new : Connection) → IfOk r (λ x. ConnectionTook t b old x new_b new) → OnErr r (ConnectionWaits b old new_b new) → OnErr r (MayTurn old)

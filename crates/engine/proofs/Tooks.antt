@@ -1,5 +1,5 @@
 -- From the connection at a place to the world.
-use Rattle.engine.proofs.Names.{◌≡◌, ◌⊎◌, inl, inr, ◌<◌, ◌+◌, ℕ, List, [], Bool, true, false, cond, Option, Some, None, get_or, set, remove, length, refl, sym, ap, subst, ◌∙◌, arith, IsOk, IfOk, OnOk, OnErr, MatchBool, ◌==◌, ◌&&◌, not, false≢true, Broker, Topology, Rules, rules_of, Acts, Happening, IsSound, Same, Waits, is_ended, is_over, is_paused, is_awake, is_gone, is_past_bound, Takes_off, Loses, with_heard, Event, Note, turn_keeps, turn_confirms, is_running, runs, Hears, TakesAway, IsLost, waits_not, stream_of, HasMore, IsKeptEvent, kept_of, to_read, ConnectionDid, ConnectionWaits, ConnectionSame, Parts, connection_in, session_of, wire_of, wire_in, config_of, world_of, is_connection_gone, AreConnections, AreRising, IsEngine, Becomes, Changes, IsConnectionPlace, ConnectionTookOr, ConnectionsTook, ConnectionsSent, ConnectionFed, ConnectionsFed, Turned, OnDid, left_to_read, left_in, room_in, room_for, Connection, Turn}
+use Rattle.engine.proofs.Names.{◌≡◌, ◌⊎◌, inl, inr, ◌<◌, ◌+◌, ℕ, List, [], Bool, true, false, cond, Option, Some, None, get_or, set, remove, length, refl, sym, ap, subst, ◌∙◌, arith, IsOk, IfOk, OnOk, OnErr, MatchBool, ◌==◌, ◌&&◌, not, false≢true, Broker, Topology, Rules, rules_of, Acts, Happening, IsSound, Same, Waits, is_ended, is_over, is_paused, is_awake, is_gone, is_past_bound, TakesOutput, Loses, with_heard, Event, Note, turn_keeps, turn_confirms, is_running, runs, Hears, TakesAway, IsLost, waits_not, stream_of, HasMore, IsKeptEvent, kept_of, to_read, ConnectionDid, ConnectionWaits, ConnectionSame, Parts, connection_in, session_of, wire_of, wire_in, config_of, world_of, is_connection_gone, AreConnections, AreRising, IsEngine, Becomes, Changes, IsConnectionIndex, ConnectionTookOr, ConnectionsTook, ConnectionsSent, ConnectionFed, ConnectionsFed, Turned, OnDid, left_to_read, left_in, room_in, room_for, Connection, Turn}
 use Rattle.std.proofs.Common.{Result, Ok, Err}
 use Rattle.model.specs.declared.events.Event.TheVariants as event
 use Rattle.broker.specs.Turns.{topology_kept, broker_of}
@@ -137,10 +137,10 @@ outcome old new i l l' (Err x) e st ch t =
     let found = connection_in-place 0 old.connections i l e.connections.rising ch.within ch.here in
     record { ok = tt; fewer = tt; err = waited old new l l' b found t.waits; awake = awake_is (is_over (world_of old) l.number) (is_paused (world_of old) l.number) (over_is old l found ∙ t.awake.0) (paused_is old l found ∙ t.awake.1); more = more_is old l found t.awake.0 t.more }
 
-pub number_is : (ls : List Connection) (c i : ℕ) (l : Connection) → IsConnectionPlace ls c (Some i) → get_or ls i l ≡ l → l.number ≡ c
+pub number_is : (ls : List Connection) (c i : ℕ) (l : Connection) → IsConnectionIndex ls c (Some i) → get_or ls i l ≡ l → l.number ≡ c
 number_is ls c i l place here = sym (ap (λ (z : Connection). z.number) here) ∙ place.1 l
 
-pub took : {E : Type 0} (old new : Parts) (c i : ℕ) (what : Result Turn E) → IsEngine old → Stays old new → IsConnectionPlace old.connections c (Some i)
+pub took : {E : Type 0} (old new : Parts) (c i : ℕ) (what : Result Turn E) → IsEngine old → Stays old new → IsConnectionIndex old.connections c (Some i)
     → ConnectionsTook (rules_of (topology_kept old.broker) old.users) (broker_of old.broker) old.connections i what (broker_of new.broker) new.connections → Outcome old new c what
 took old new c i what e st place t =
     subst (λ (n : ℕ). Outcome old new n what) (number_is old.connections c i t.old place t.changes.here) (outcome old new i t.old t.new what e st t.changes t.took)
@@ -168,14 +168,14 @@ on_false A B false e b = b
 pub nothing_changes : (p : Parts) → Same (world_of p) (world_of p)
 nothing_changes p = record { config = refl; state = refl; given = refl; wires = λ d. refl }
 
-pub sends : (old new : Parts) (c i n : ℕ) → IsEngine old → Stays old new → IsConnectionPlace old.connections c (Some i)
+pub sends : (old new : Parts) (c i n : ℕ) → IsEngine old → Stays old new → IsConnectionIndex old.connections c (Some i)
     → ConnectionsSent (topology_kept old.broker) (broker_of old.broker) old.connections i n (broker_of new.broker) new.connections → TakesAway (world_of old) c n (world_of new)
 sends old new c i n e st place s =
     let found = connection_in-place 0 old.connections i s.old e.connections.rising s.changes.within s.changes.here in
     let b = becomes old new i s.old s.new st e.connections.rising s.changes in
     let gone : is_gone (world_of old) s.old.number ≡ false = gone_some old s.old.number s.old e.connections found in
     subst (λ (k : ℕ). TakesAway (world_of old) k n (world_of new)) (number_is old.connections c i s.old place s.changes.here)
-    (on_false (Same (world_of old) (world_of new)) ((hs : List Happening) × Takes_off (world_of old) s.old.number n hs (world_of new)) (is_gone (world_of old) s.old.number) gone (taken old new s.old s.new n b found s.sent))
+    (on_false (Same (world_of old) (world_of new)) ((hs : List Happening) × TakesOutput (world_of old) s.old.number n hs (world_of new)) (is_gone (world_of old) s.old.number) gone (taken old new s.old s.new n b found s.sent))
 
 pub sends_engine : (old new : Parts) (i n : ℕ) → IsEngine old → Stays old new
     → ConnectionsSent (topology_kept old.broker) (broker_of old.broker) old.connections i n (broker_of new.broker) new.connections → IsEngine new
@@ -204,7 +204,7 @@ fed_changes given ls new_ls i bytes a f =
       over = λ gone. absurd (false≢true (sym still ∙ gone));
     }
 
-pub feeds : (old new : Parts) (c i : ℕ) (bytes : List ℕ) → IsEngine old → Stays old new → broker_of new.broker ≡ broker_of old.broker → IsConnectionPlace old.connections c (Some i) → ConnectionsFed old.connections i bytes new.connections
+pub feeds : (old new : Parts) (c i : ℕ) (bytes : List ℕ) → IsEngine old → Stays old new → broker_of new.broker ≡ broker_of old.broker → IsConnectionIndex old.connections c (Some i) → ConnectionsFed old.connections i bytes new.connections
     → Hears (world_of old) c bytes (world_of new)
 feeds old new c i bytes e st same place f =
     let ch = fed_changes old.given old.connections new.connections i bytes e.connections f in
@@ -224,7 +224,7 @@ hears_none p c bytes none = on_true (Same (world_of p) (world_of p)) (world_of p
 
 -- ---- losses
 
-pub loses : (old new : Parts) (c i : ℕ) → IsEngine old → Stays old new → IsConnectionPlace old.connections c (Some i) → new.connections ≡ remove old.connections i
+pub loses : (old new : Parts) (c i : ℕ) → IsEngine old → Stays old new → IsConnectionIndex old.connections c (Some i) → new.connections ≡ remove old.connections i
     → Acts (topology_kept old.broker) (broker_of old.broker) (event.Lose c) [] [] (broker_of new.broker) → IsLost (world_of old) c (world_of new)
 loses old new c i e st place left acts =
     let at = Rattle.engine.proofs.Found.element old.connections i place.0 in
@@ -236,7 +236,7 @@ loses old new c i e st place left acts =
     (lost old new c st.topology st.guarantees st.users st.given acts
     (λ d. ap (λ (z : List Connection). connection_in z d) left ∙ connection_in-remove 0 old.connections i l d e.connections.rising place.0 at.1 ∙ ap (λ (k : ℕ). cond (k == d) None (connection_in old.connections d)) is))
 
-pub loses_engine : (old new : Parts) (c i : ℕ) → IsEngine old → Stays old new → IsConnectionPlace old.connections c (Some i) → new.connections ≡ remove old.connections i
+pub loses_engine : (old new : Parts) (c i : ℕ) → IsEngine old → Stays old new → IsConnectionIndex old.connections c (Some i) → new.connections ≡ remove old.connections i
     → Acts (topology_kept old.broker) (broker_of old.broker) (event.Lose c) [] [] (broker_of new.broker) → IsEngine new
 loses_engine old new c i e st place left acts = engine_with old new e st
     (subst (λ (z : List Connection). AreConnections old.given z) (sym left) (record { rising = rising-remove 0 old.connections i e.connections.rising; each = all-remove (Rattle.engine.specs.World.IsConnection old.given) old.connections i e.connections.each }))
@@ -249,7 +249,7 @@ fed_engine (Ok x) old new i bytes e st same ok err = feeds_engine old new i byte
 fed_engine (Err x) old new i bytes e st same ok err =
     engine_with old new e st (subst (λ (z : List Connection). AreConnections old.given z) (sym err) e.connections) (same_agrees (world_of old) (world_of new) (agreed old e) (world_stays old new st same err))
 
-pub fed_ok : {T E : Type 0} (r : Result T E) (old new : Parts) (c i : ℕ) (bytes : List ℕ) → IsEngine old → Stays old new → broker_of new.broker ≡ broker_of old.broker → IsConnectionPlace old.connections c (Some i)
+pub fed_ok : {T E : Type 0} (r : Result T E) (old new : Parts) (c i : ℕ) (bytes : List ℕ) → IsEngine old → Stays old new → broker_of new.broker ≡ broker_of old.broker → IsConnectionIndex old.connections c (Some i)
     → OnOk r (ConnectionsFed old.connections i bytes new.connections) → OnOk r (Hears (world_of old) c bytes (world_of new))
 fed_ok (Ok x) old new c i bytes e st same place ok = feeds old new c i bytes e st same place ok
 fed_ok (Err x) old new c i bytes e st same place ok = tt
@@ -260,16 +260,16 @@ fed_err (Err x) p ls err = λ i. record p { connections = err i }
 
 -- ---- what is asked of one connection
 
-pub found_at : (ls : List Connection) (c i : ℕ) (l : Connection) → AreRising 0 ls → IsConnectionPlace ls c (Some i) → get_or ls i l ≡ l → connection_in ls c ≡ Some l
+pub found_at : (ls : List Connection) (c i : ℕ) (l : Connection) → AreRising 0 ls → IsConnectionIndex ls c (Some i) → get_or ls i l ≡ l → connection_in ls c ≡ Some l
 found_at ls c i l r place here = subst (λ (k : ℕ). connection_in ls k ≡ Some l) (number_is ls c i l place here) (connection_in-place 0 ls i l r place.0 here)
 
-pub output_at : (p : Parts) (c i : ℕ) (l : Connection) → IsEngine p → IsConnectionPlace p.connections c (Some i) → get_or p.connections i l ≡ l → ((world_of p).wire c).output ≡ l.output.bytes
+pub output_at : (p : Parts) (c i : ℕ) (l : Connection) → IsEngine p → IsConnectionIndex p.connections c (Some i) → get_or p.connections i l ≡ l → ((world_of p).wire c).output ≡ l.output.bytes
 output_at p c i l e place here = ap (λ (o : Option Connection). (wire_of o).output) (found_at p.connections c i l e.connections.rising place here) ∙ Rattle.engine.proofs.Standing.output_in (is_ended l.session.phase) l
 
-pub over_at : (p : Parts) (c i : ℕ) (l : Connection) → IsEngine p → IsConnectionPlace p.connections c (Some i) → get_or p.connections i l ≡ l → is_over (world_of p) c ≡ is_ended l.session.phase
+pub over_at : (p : Parts) (c i : ℕ) (l : Connection) → IsEngine p → IsConnectionIndex p.connections c (Some i) → get_or p.connections i l ≡ l → is_over (world_of p) c ≡ is_ended l.session.phase
 over_at p c i l e place here = ap (λ (o : Option Connection). is_ended (session_of o).phase) (found_at p.connections c i l e.connections.rising place here)
 
-pub runs_at : (p : Parts) (c i : ℕ) (l : Connection) → IsEngine p → IsConnectionPlace p.connections c (Some i) → get_or p.connections i l ≡ l → runs (world_of p) c ≡ is_running l.session.phase
+pub runs_at : (p : Parts) (c i : ℕ) (l : Connection) → IsEngine p → IsConnectionIndex p.connections c (Some i) → get_or p.connections i l ≡ l → runs (world_of p) c ≡ is_running l.session.phase
 runs_at p c i l e place here = ap (λ (o : Option Connection). is_running (session_of o).phase) (found_at p.connections c i l e.connections.rising place here)
 
 -- ---- of one that is over nothing is heard
@@ -278,7 +278,7 @@ fed_nothing : {T E : Type 0} (r : Result T E) (p : Parts) (ls : List Connection)
 fed_nothing r p ls both = (both.0, λ i. record p { connections = both.1 i })
 
 -- the connection at this place is over, and so nothing was kept
-pub fed_over : {T E : Type 0} (r : Result T E) (p : Parts) (ls : List Connection) (c i : ℕ) → IsEngine p → IsConnectionPlace p.connections c (Some i)
+pub fed_over : {T E : Type 0} (r : Result T E) (p : Parts) (ls : List Connection) (c i : ℕ) → IsEngine p → IsConnectionIndex p.connections c (Some i)
     → ((l : Connection) → get_or p.connections i l ≡ l → is_ended l.session.phase ≡ true → IsOk r × (ls ≡ p.connections)) → is_over (world_of p) c ≡ true → IsOk r × (record p { connections = ls } ≡ p)
 fed_over r p ls c i e place over is =
     let at = Rattle.engine.proofs.Found.element p.connections i place.0 in
@@ -286,7 +286,7 @@ fed_over r p ls c i e place over is =
 
 -- ---- memory is wanted for more bytes than there is room for
 
-pub fed_full : {T E : Type 0} (r : Result T E) (p : Parts) (c i n : ℕ) → IsEngine p → IsConnectionPlace p.connections c (Some i) → ((l : Connection) → get_or p.connections i l ≡ l → OnErr r (l.stream.room < n)) → OnErr r (room_for p c < n)
+pub fed_full : {T E : Type 0} (r : Result T E) (p : Parts) (c i n : ℕ) → IsEngine p → IsConnectionIndex p.connections c (Some i) → ((l : Connection) → get_or p.connections i l ≡ l → OnErr r (l.stream.room < n)) → OnErr r (room_for p c < n)
 fed_full r p c i n e place full =
     let at = Rattle.engine.proofs.Found.element p.connections i place.0 in
     subst (λ (o : Option Connection). OnErr r (room_in o < n)) (sym (found_at p.connections c i at.0 e.connections.rising place at.1)) (full at.0 at.1)

@@ -1,5 +1,5 @@
 -- What the calls of an engine leave of turns to be served.
-use Rattle.engine.proofs.Names.{◌≡◌, ◌∙◌, ◌<◌, ℕ, List, Bool, false, Option, Some, None, get_or, length, refl, sym, ap, subst, arith, IfOk, Broker, Stream, Wire, Reads, is_ended, Command, Event, stream_of, IsPick, WithTurn, Note, IsPumpTo, NobodyIsPutBack, NoneIsLater, IsPickedInTurn, ServesSoon, Rules, rules_of, kept_of, ComesNext, DidEvent, DidNext, Parts, connection_in, wire_in, wire_of, world_of, IsEngine, IsConnectionPlace, ConnectionsTook, KeepsTurns, PerformsNext, TurnLeaves, KeepsPicked, PicksOne, ServesOne, Connection, Turn}
+use Rattle.engine.proofs.Names.{◌≡◌, ◌∙◌, ◌<◌, ℕ, List, Bool, false, Option, Some, None, get_or, length, refl, sym, ap, subst, arith, IfOk, Broker, Stream, Wire, Reads, is_ended, Command, Event, stream_of, IsPick, WithTurn, Note, IsPumpTo, NobodyIsPutBack, NoneIsLater, IsPickedInTurn, ServesSoon, Rules, rules_of, kept_of, ComesNext, DidEvent, DidNext, Parts, connection_in, wire_in, wire_of, world_of, IsEngine, IsConnectionIndex, ConnectionsTook, KeepsTurns, PerformsNext, TurnLeaves, KeepsPicked, PicksOne, ServesOne, Connection, Turn}
 use Rattle.std.proofs.Common.{Result, Ok, Err}
 use Rattle.std.proofs.lemmas.Option.{same_Some}
 use Rattle.commands.specs.State as core
@@ -73,7 +73,7 @@ pub leaves_here : {E : Type 0} (result : Result Turn E) (ls : List Connection) (
 leaves_here result ls i l old new lt here leaves m there = subst (λ (k : Connection). IfOk result (λ t. TurnLeaves k.number (wire_in false k) old t new)) (same_at ls i l m lt here there) leaves
 
 -- from the connection at a place to the world
-pub leaves_at : {E : Type 0} (result : Result Turn E) (p : Parts) (c i : ℕ) (b : Broker) (ls : List Connection) (new : WithTurn) → IsEngine p → IsConnectionPlace p.connections c (Some i)
+pub leaves_at : {E : Type 0} (result : Result Turn E) (p : Parts) (c i : ℕ) (b : Broker) (ls : List Connection) (new : WithTurn) → IsEngine p → IsConnectionIndex p.connections c (Some i)
     → ConnectionsTook (rules_of (topology_kept p.broker) p.users) (broker_of p.broker) p.connections i result b ls
     → ((l : Connection) → get_or p.connections i l ≡ l → IfOk result (λ t. TurnLeaves l.number (wire_in false l) p.broker t new)) → IfOk result (λ t. TurnLeaves c ((world_of p).wire c) p.broker t new)
 leaves_at (Ok (turn.Did notes)) p c i b ls new e place t leaves =
@@ -89,20 +89,20 @@ leaves_at (Err x) p c i b ls new e place t leaves = tt
 
 -- ---- a delivery
 
-pub told_again : (old : WithTurn) (reported : Pick) → ((p : Pick) → old.turn ≡ Some p → IsPick (broker_of old) p → Some reported ≡ Some p) → KeepsPicked old reported
-told_again old reported again p had could = same_Some reported p (again p had could)
+pub kept_picked : (old : WithTurn) (picked : Pick) → ((p : Pick) → old.turn ≡ Some p → IsPick (broker_of old) p → Some picked ≡ Some p) → KeepsPicked old picked
+kept_picked old picked again p had could = same_Some picked p (again p had could)
 
--- who is told, and whether it is served or not
-pub tells_one : (old mid : WithTurn) (reported : Pick) → mid.kept ≡ old.kept → IsPickedInTurn old reported mid → mid.turn ≡ Some reported
-    → ((p : Pick) → old.turn ≡ Some p → IsPick (broker_of old) p → Some reported ≡ Some p) → PicksOne old mid
-tells_one old mid reported kept turns has again = record { reported = reported; again = told_again old reported again; turn = has; kept = kept; in_turn = turns }
+-- who is picked, and whether it is served or not
+pub picks_one : (old mid : WithTurn) (picked : Pick) → mid.kept ≡ old.kept → IsPickedInTurn old picked mid → mid.turn ≡ Some picked
+    → ((p : Pick) → old.turn ≡ Some p → IsPick (broker_of old) p → Some picked ≡ Some p) → PicksOne old mid
+picks_one old mid picked kept turns has again = record { picked = picked; again = kept_picked old picked again; turn = has; kept = kept; in_turn = turns }
 
-pub serves_one : (old : Parts) (mid : WithTurn) (new : Parts) (reported : Pick) (notes : List Note) → mid.kept ≡ old.broker.kept → IsPickedInTurn old.broker reported mid → mid.turn ≡ Some reported
-    → ((p : Pick) → old.broker.turn ≡ Some p → IsPick (broker_of old.broker) p → Some reported ≡ Some p) → IsPumpTo (world_of old) reported notes (world_of new)
-    → NoneIsLater mid new.broker → topology_kept new.broker ≡ topology_kept mid → new.broker.turn ≡ None → ServesSoon mid reported → ServesOne old reported.connection notes new
-serves_one old mid new reported notes kept turns has again served later topology over soon = record {
+pub serves_one : (old : Parts) (mid : WithTurn) (new : Parts) (picked : Pick) (notes : List Note) → mid.kept ≡ old.broker.kept → IsPickedInTurn old.broker picked mid → mid.turn ≡ Some picked
+    → ((p : Pick) → old.broker.turn ≡ Some p → IsPick (broker_of old.broker) p → Some picked ≡ Some p) → IsPumpTo (world_of old) picked notes (world_of new)
+    → NoneIsLater mid new.broker → topology_kept new.broker ≡ topology_kept mid → new.broker.turn ≡ None → ServesSoon mid picked → ServesOne old picked.connection notes new
+serves_one old mid new picked notes kept turns has again served later topology over soon = record {
   mid = mid;
-  reported = record { reported = reported; again = told_again old.broker reported again; turn = has; kept = kept; in_turn = turns };
+  picked = record { picked = picked; again = kept_picked old.broker picked again; turn = has; kept = kept; in_turn = turns };
   its = refl;
   served = served;
   over = over;

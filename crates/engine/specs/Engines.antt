@@ -75,17 +75,17 @@ abbrev pub HasConnection : List Connection → ℕ → Type 0
 HasConnection ls c = (l : Connection) × (connection_in ls c ≡ Some l)
 
 -- `i` is the index of connection `c`, or `None` if it isn't in the list
-abbrev pub IsConnectionPlace : List Connection → ℕ → Option ℕ → Type 0
-IsConnectionPlace ls c None = connection_in ls c ≡ None
-IsConnectionPlace ls c (Some i) = (i < length ls) × ((l : Connection) → (get_or ls i l).number ≡ c)
+abbrev pub IsConnectionIndex : List Connection → ℕ → Option ℕ → Type 0
+IsConnectionIndex ls c None = connection_in ls c ≡ None
+IsConnectionIndex ls c (Some i) = (i < length ls) × ((l : Connection) → (get_or ls i l).number ≡ c)
 
 -- the list with `l` at index `i`, or without that entry if `l` is gone
 abbrev pub put_back : List Connection → ℕ → Connection → List Connection
 put_back ls i l = if is_connection_gone l then remove ls i else set ls i l
 
 -- the connection at index `i` is not gone
-abbrev pub IsStanding : List Connection → ℕ → Type 0
-IsStanding ls i = (l : Connection) → get_or ls i l ≡ l → is_connection_gone l ≡ false
+abbrev pub IsNotGone : List Connection → ℕ → Type 0
+IsNotGone ls i = (l : Connection) → get_or ls i l ≡ l → is_connection_gone l ≡ false
 
 -- the connection `l` at index `i` is removed if it is gone; a gone connection keeps no agreed limits
 pub record IsSwept (ls : List Connection) (i : ℕ) (l : Connection) (new_ls : List Connection) : Type 0 where

@@ -1,7 +1,7 @@
 -- The contracts of opening a connection.
 use Rattle.std.specs.Prelude.{◌≡◌, ◌+◌, ◌<◌, ◌≤◌, ℕ, List, length, true, false, nat_lt, Some, Result, Ok, Err}
 use Rattle.model.specs.Commands.{Stream, opened_stream, running_stream}
-use Rattle.model.specs.Arrivals.{World, Same, standing, can_open}
+use Rattle.model.specs.Arrivals.{World, Same, count_open, can_open}
 use Rattle.model.specs.declared.events.Event.{Event}
 use Rattle.model.specs.declared.events.Event.TheVariants as event
 use Rattle.runs.specs.Opened.{IsOpened}
@@ -20,8 +20,8 @@ Numbers given ls (Err Memory) = (length ls < 1024) × (given < 18446744073709551
 -- connections that are not gone, the last number was given, or an allocation failed.
 abbrev pub OpenedBy : Event → Stream → World → Result ℕ Refused → World → Type 0
 OpenedBy e s old (Ok n) new = IsOpened e s old (Some n) new
-OpenedBy e s old (Err Full) new = (nat_lt (standing old old.given) 1024 ≡ false) × Same old new
-OpenedBy e s old (Err Spent) new = (nat_lt (standing old old.given) 1024 ≡ true) × (nat_lt old.given 18446744073709551615 ≡ false) × Same old new
+OpenedBy e s old (Err Full) new = (nat_lt (count_open old old.given) 1024 ≡ false) × Same old new
+OpenedBy e s old (Err Spent) new = (nat_lt (count_open old old.given) 1024 ≡ true) × (nat_lt old.given 18446744073709551615 ≡ false) × Same old new
 OpenedBy e s old (Err Memory) new = (can_open old ≡ true) × Same old new
 
 -- `OpenedBy` for a connection that has sent no byte yet

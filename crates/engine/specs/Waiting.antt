@@ -41,27 +41,27 @@ TurnLeaves c w old turn.Over new = new ≡ old
 
 -- if a consumer is picked already and still can take a message, it is picked again
 abbrev pub KeepsPicked : WithTurn → Pick → Type 0
-KeepsPicked old reported = (p : Pick) → old.turn ≡ Some p → IsPick (broker_of old) p → reported ≡ p
+KeepsPicked old picked = (p : Pick) → old.turn ≡ Some p → IsPick (broker_of old) p → picked ≡ p
 
--- The consumer `reported` is picked: again if it was picked before and still can take a message, otherwise in round-robin order. Nothing is delivered.
+-- Consumer `picked` gets the turn: again if it was picked before and still can take a message, otherwise in round-robin order. Nothing is delivered.
 pub record PicksOne (old new : WithTurn) : Type 0 where
-  pub reported : Pick
-  pub again : KeepsPicked old reported
-  pub turn : new.turn ≡ Some reported
+  pub picked : Pick
+  pub again : KeepsPicked old picked
+  pub turn : new.turn ≡ Some picked
   pub kept : new.kept ≡ old.kept
-  pub in_turn : IsPickedInTurn old reported new
+  pub in_turn : IsPickedInTurn old picked new
 
 -- A consumer of `connection` was picked in its turn, and a message was delivered to it. Each other consumer that waits at the same queue was passed
 -- over by few deliveries of that queue, this delivery included, and no consumer is put back.
 pub record ServesOne (old : Parts) (connection : ℕ) (notes : List Note) (new : Parts) : Type 0 where
   pub mid : WithTurn
-  pub reported : PicksOne old.broker mid
-  pub its : reported.reported.connection ≡ connection
-  pub served : IsPumpTo (world_of old) reported.reported notes (world_of new)
+  pub picked : PicksOne old.broker mid
+  pub its : picked.picked.connection ≡ connection
+  pub served : IsPumpTo (world_of old) picked.picked notes (world_of new)
   pub over : new.broker.turn ≡ None
   pub topology : topology_kept new.broker ≡ topology_kept old.broker
   pub later : NoneIsLater mid new.broker
-  pub soon : ServesSoon mid reported.reported
+  pub soon : ServesSoon mid picked.picked
 
 -- No consumer is picked: the order of each queue's consumers is unchanged, and so is everything else.
 pub record PicksNobody (old new : WithTurn) : Type 0 where

@@ -21,12 +21,12 @@ ghost use Rattle.outputs.specs.Storages.{TakesIn};
 ghost use Rattle.outputs.specs.Waiting.{HoldsNone};
 ghost use Rattle.engine.specs.World.{AreRising};
 ghost use Rattle.engine.specs.Turning.{has_performed as performs};
-ghost use Rattle.engine.specs.Engines.{HasConnection, IsConnectionPlace, ConnectionSent, ConnectionFed, IsSwept, IsStanding};
+ghost use Rattle.engine.specs.Engines.{HasConnection, IsConnectionIndex, ConnectionSent, ConnectionFed, IsSwept, IsNotGone};
 ghost use Rattle.engine.specs.declared.connection.Connection as seen;
 
 use crate::connection::{BOUND, Connection};
+use crate::indices::Indices;
 use crate::performing::resume_if;
-use crate::places::Places;
 use crate::reserve::feed;
 use crate::turning::{Turn, has_performed};
 use broker::Broker;
@@ -37,49 +37,49 @@ use std::alloc::AllocError;
 /// search.
 pub(crate) fn connection_index(
     connections: &[Connection],
-    places: &Places,
+    indices: &Indices,
     number: u64,
 ) -> Option<usize>
     requires { AreRising 0 connections.now }
-    ensures place { IsConnectionPlace connections.now number result }
+    ensures index { IsConnectionIndex connections.now number result }
     ensures within { IfSome result (λ i. i < length connections.now) }
 {
-    match place_at_once(connections, places.guess(number), number) {
+    match index_at_once(connections, indices.guess(number), number) {
         Some(place) => Some(place),
-        None => place_by_search(connections, number),
+        None => index_by_search(connections, number),
     }
 }
 
 /// Returns the index of connection `number`, which is in the list. Tries the remembered index first, and falls back to a binary
 /// search.
-pub(crate) fn known_index(connections: &[Connection], places: &Places, number: u64) -> usize
+pub(crate) fn known_index(connections: &[Connection], indices: &Indices, number: u64) -> usize
     requires rising { AreRising 0 connections.now }
     requires there { HasConnection connections.now number }
-    ensures place { IsConnectionPlace connections.now number (Some result) }
+    ensures index { IsConnectionIndex connections.now number (Some result) }
     ensures within { result < length connections.now }
 {
-    match place_at_once(connections, places.guess(number), number) {
+    match index_at_once(connections, indices.guess(number), number) {
         Some(place) => place,
         None => connections.partition_point(|connection| connection.number < number),
     }
 }
 
-/// Returns `place` if connection `number` is at that index.
-fn place_at_once(connections: &[Connection], place: usize, number: u64) -> Option<usize>
-    ensures place { IfSome result (λ i. IsConnectionPlace connections.now number (Some i)) }
+/// Returns `index` if connection `number` is there.
+fn index_at_once(connections: &[Connection], index: usize, number: u64) -> Option<usize>
+    ensures index { IfSome result (λ i. IsConnectionIndex connections.now number (Some i)) }
 {
-    let connection = connections.get(place)?;
+    let connection = connections.get(index)?;
     if connection.number == number {
-        Some(place)
+        Some(index)
     } else {
         None
     }
 }
 
 /// Returns the index of connection `number` by binary search.
-fn place_by_search(connections: &[Connection], number: u64) -> Option<usize>
+fn index_by_search(connections: &[Connection], number: u64) -> Option<usize>
     requires { AreRising 0 connections.now }
-    ensures place { IsConnectionPlace connections.now number result }
+    ensures index { IsConnectionIndex connections.now number result }
     ensures within { IfSome result (λ i. i < length connections.now) }
 {
     match connections.binary_search_by_key(&number, |connection| connection.number) {
@@ -90,29 +90,29 @@ fn place_by_search(connections: &[Connection], number: u64) -> Option<usize>
 
 /// Removes the connection at `index` if it is over and its output is empty, and remembers the new indices of those
 /// behind it.
-pub(crate) fn sweep(places: &mut Places, connections: &mut Vec<Connection>, index: usize)
+pub(crate) fn sweep(indices: &mut Indices, connections: &mut Vec<Connection>, index: usize)
     requires { index < length connections.old.items }
     ensures { (l : seen.Connection) → get_or connections.old.items index l ≡ l → IsSwept connections.old.items index l connections.new.items }
 {
     if connections[index].is_gone() {
         connections.remove(index);
-        places.learn_from(connections, index);
+        indices.learn_from(connections, index);
     }
 }
 
 /// Removes the connection at `index` if it is gone after its turn. It can be gone only if the turn performed something.
 pub(crate) fn sweep_after(
     turn: &Result<Turn, AllocError>,
-    places: &mut Places,
+    indices: &mut Indices,
     connections: &mut Vec<Connection>,
     index: usize,
 )
     requires within { index < length connections.old.items }
-    requires stands { performs turn.now ≡ false → IsStanding connections.old.items index }
+    requires not_gone { performs turn.now ≡ false → IsNotGone connections.old.items index }
     ensures { (l : seen.Connection) → get_or connections.old.items index l ≡ l → IsSwept connections.old.items index l connections.new.items }
 {
     if has_performed(turn) {
-        sweep(places, connections, index);
+        sweep(indices, connections, index);
     }
 }
 

@@ -21,7 +21,7 @@ use crate::connection::Connection;
 use crate::connections::{
     connection_index, feed_connection, known_index, remove_lost, sweep, sweep_after, take_from,
 };
-use crate::places::Places;
+use crate::indices::Indices;
 use crate::pumping::pump_connection;
 use crate::turning::{Turn, turn_connection};
 use broker::Broker;
@@ -73,7 +73,7 @@ pub struct Engine {
     given: u64,
     /// The connections that are not gone, in ascending order of their numbers.
     connections: Vec<Connection>,
-    places: Places,
+    indices: Indices,
     scratch: Scratch,
     spares: Spares,
 }
@@ -87,7 +87,7 @@ impl Drop for Engine {
             users: _,
             given: _,
             connections: _,
-            places: _,
+            indices: _,
             scratch: _,
             spares: _,
         } = self;
@@ -130,7 +130,7 @@ impl Engine {
             connections: Vec::with_capacity(alloc, MOST_CONNECTIONS)?,
             scratch: Scratch::new(alloc)?,
             spares: Spares::new(alloc)?,
-            places: Places::new(alloc)?,
+            indices: Indices::new(alloc)?,
         })
     }
 
@@ -150,7 +150,7 @@ impl Engine {
         ensures broker { self.new.broker ≡ self.old.broker }
     {
         let number = next_number(&mut self.connections, self.given)?;
-        self.places.learn(number, self.connections.len());
+        self.indices.learn(number, self.connections.len());
         self.connections
             .push_reserved(Connection::new(alloc, number));
         self.given = number;
@@ -167,7 +167,7 @@ impl Engine {
         let number = next_number(&mut self.connections, self.given)?;
         self.broker
             .open(alloc, number, limits::CHANNEL_MAX, u16::from(channels))?;
-        self.places.learn(number, self.connections.len());
+        self.indices.learn(number, self.connections.len());
         self.connections
             .push_reserved(Connection::running(alloc, number));
         self.given = number;
@@ -186,7 +186,7 @@ impl Engine {
         // The frame: the broker is not touched.
         ensures broker { self.new.broker ≡ self.old.broker }
     {
-        match connection_index(&self.connections, &self.places, c) {
+        match connection_index(&self.connections, &self.indices, c) {
             Some(place) => {
                 feed_connection(&mut self.spares, &mut self.connections[place], bytes)
             }
@@ -213,7 +213,7 @@ impl Engine {
         ensures turns { IfOk result (λ t. TurnLeaves c ((world_of self.old).wire c) self.old.broker t self.new.broker) }
         ensures broker { OnErr result (self.new.broker ≡ self.old.broker) }
     {
-        let Some(place) = connection_index(&self.connections, &self.places, c) else {
+        let Some(place) = connection_index(&self.connections, &self.indices, c) else {
             return Ok(Turn::Over);
         };
         let turn = turn_connection(
@@ -224,7 +224,7 @@ impl Engine {
             &mut self.spares,
             &mut self.connections[place],
         );
-        sweep_after(&turn, &mut self.places, &mut self.connections, place);
+        sweep_after(&turn, &mut self.indices, &mut self.connections, place);
         turn
     }
 
@@ -243,14 +243,14 @@ impl Engine {
             (λ d. ServesOne self.old d.connection d.notes.items self.new)) }
         // A failure delivers nothing, leaves the picked consumer picked, and occurs only if a delivery can be made.
         ensures err { OnErr result (Same (world_of self.old) (world_of self.new)) }
-        ensures reported { OnErr result (PicksOne self.old.broker self.new.broker) }
+        ensures picked { OnErr result (PicksOne self.old.broker self.new.broker) }
         ensures wanted { OnErr result ((c : ℕ) × CanDeliver (world_of self.old).state.broker c) }
     {
         let Some(pick) = self.broker.pick() else {
             return Ok(None);
         };
         let connection = pick.connection;
-        let place = known_index(&self.connections, &self.places, connection);
+        let place = known_index(&self.connections, &self.indices, connection);
         let notes = pump_connection(
             alloc,
             &mut self.broker,
@@ -267,7 +267,7 @@ impl Engine {
         ensures taken { TakesAway (world_of self.old) c n (world_of self.new) }
         ensures turns { KeepsTurns self.old.broker self.new.broker }
     {
-        let Some(place) = connection_index(&self.connections, &self.places, c) else {
+        let Some(place) = connection_index(&self.connections, &self.indices, c) else {
             return;
         };
         take_from(
@@ -276,7 +276,7 @@ impl Engine {
             &mut self.connections[place],
             n,
         );
-        sweep(&mut self.places, &mut self.connections, place);
+        sweep(&mut self.indices, &mut self.connections, place);
     }
 
     /// Drops connection `c`: its remaining output is discarded, and its unacknowledged messages are ready again.
@@ -284,10 +284,10 @@ impl Engine {
         ensures lost { IsLost (world_of self.old) c (world_of self.new) }
         ensures turns { KeepsTurns self.old.broker self.new.broker }
     {
-        if let Some(place) = connection_index(&self.connections, &self.places, c) {
+        if let Some(place) = connection_index(&self.connections, &self.indices, c) {
             self.broker.lose(c);
             remove_lost(&mut self.spares, &mut self.connections, place);
-            self.places.learn_from(&self.connections, place);
+            self.indices.learn_from(&self.connections, place);
         }
     }
 
@@ -295,7 +295,7 @@ impl Engine {
     pub fn output(&self, c: ConnId) -> &[u8]
         ensures { result.now ≡ ((world_of self.now).wire c).output }
     {
-        match connection_index(&self.connections, &self.places, c) {
+        match connection_index(&self.connections, &self.indices, c) {
             Some(place) => self.connections[place].output.bytes(),
             None => &[],
         }
@@ -305,7 +305,7 @@ impl Engine {
     pub fn is_over(&self, c: ConnId) -> bool
         ensures { result ≡ is_over (world_of self.now) c }
     {
-        match connection_index(&self.connections, &self.places, c) {
+        match connection_index(&self.connections, &self.indices, c) {
             Some(place) => self.connections[place].session.is_over(),
             None => true,
         }
@@ -315,7 +315,7 @@ impl Engine {
     pub fn runs(&self, c: u64) -> bool
         ensures { result ≡ runs (world_of self.now) c }
     {
-        match connection_index(&self.connections, &self.places, c) {
+        match connection_index(&self.connections, &self.indices, c) {
             Some(place) => self.connections[place].runs(),
             None => false,
         }

@@ -8,9 +8,9 @@
 mod connection;
 mod connections;
 mod engines;
+mod indices;
 mod machines;
 mod performing;
-mod places;
 mod pumping;
 mod reading;
 mod reserve;

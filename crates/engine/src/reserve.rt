@@ -143,12 +143,19 @@ pub(crate) fn next(
 {
     let unread = stream.unread();
     match stream.next() {
-        Err(Fault::Memory) if unread <= allowance => {
-            spares.release();
-            stream.next()
-        }
+        Err(Fault::Memory) if unread <= allowance => next_again(spares, stream),
         next => next,
     }
+}
+
+/// Frees the reserve, and reads the next command of `stream` again. Not inlined, so that only one copy of the reader is on the usual path.
+#[inline(never)]
+fn next_again(spares: &mut Spares, stream: &mut Stream) -> Result<Option<Command>, Fault>
+    ensures yields { YieldsNext (stream_of stream.old) result (stream_of stream.new) }
+    ensures keeps { stream.new.fault ≡ broken_by result }
+{
+    spares.release();
+    stream.next()
 }
 
 /// Returns what `event` needs room for: a content for a get, a publish that may be returned and a delivery, a reply for any other.
@@ -267,6 +274,7 @@ pub(crate) fn step(
 
 /// Answers an event of the connection `c`, which does not run, if necessary with the memory of the reserve. If that fails, nothing has
 /// changed, and the reserve was freed. A command with a content leaves the reserve alone.
+#[inline(never)]
 pub(crate) fn by_phase(
     c: u64,
     alloc: Global,

@@ -1,26 +1,26 @@
 -- Single steps of a route, by names.
-use Rattle.exchange_graph.proofs.Names.{◌≡◌, ℕ, ◌<◌, List, [], ◌∷◌, Bool, true, false, refl, sym, ap, ◌∙◌, subst, length, inl, inr, eqb, eq-eqb, arith, Decides, Contains, ◌||◌, bytes_eq, bytes_eq-Decides, list_any, eqb-true, length-map, Text, Topology, IsIn, IsWellFormed, IsThere, exchange_names, queue_names, Reading, Edge, bound, alternate, default, of_key, Exchange, DeclaredQueue, Place, End, Onward, Into, AreSteps, place_of, EndsWithin, exchange_name, queue_name, in_contains, in_map}
-use Rattle.model.specs.declared.topologies.Place.TheVariants as place
+use Rattle.exchange_graph.proofs.Names.{◌≡◌, ℕ, ◌<◌, List, [], ◌∷◌, Bool, true, false, refl, sym, ap, ◌∙◌, subst, length, inl, inr, eqb, eq-eqb, arith, Decides, Contains, ◌||◌, bytes_eq, bytes_eq-Decides, list_any, eqb-true, length-map, Text, Topology, IsIn, IsWellFormed, IsThere, exchange_names, queue_names, Reading, Edge, bound, alternate, default, of_key, Exchange, DeclaredQueue, Destination, End, Onward, Into, AreSteps, destination_of, EndsWithin, exchange_name, queue_name, in_contains, in_map}
+use Rattle.model.specs.declared.topologies.Destination.TheVariants as destination
 use Rattle.exchange_graph.specs.Edges.{LeadsToQueue, LeadsOn, is_into, is_onward}
 use Rattle.exchange_graph.proofs.Naming.{apart_same, one_at}
 
 -- ---- what leads on is there
 
 -- an exchange that leads on is there
-pub on_from_there : {t : Topology} {r : Reading} {name other : Text} {to : Place} → Edge t r name to → to ≡ place.Exchange other → IsIn name (exchange_names t.exchanges)
+pub on_from_there : {t : Topology} {r : Reading} {name other : Text} {to : Destination} → Edge t r name to → to ≡ destination.Exchange other → IsIn name (exchange_names t.exchanges)
 on_from_there {t} (bound x b c e s p) q = subst (λ (n : Text). IsIn n (exchange_names t.exchanges)) e (in_map (λ (y : Exchange). y.name) t.exchanges x (in_contains t.exchanges x c))
 on_from_there {t} (alternate x c e o s) q = subst (λ (n : Text). IsIn n (exchange_names t.exchanges)) e (in_map (λ (y : Exchange). y.name) t.exchanges x (in_contains t.exchanges x c))
 on_from_there (default d c e n) q = absurd (cc)
 
 -- and so is one that leads into a queue, but for the default exchange
-pub in_from_there : {t : Topology} {r : Reading} {name : Text} {to : Place} → Edge t r name to → (name ≡ [] → ⊥) → IsIn name (exchange_names t.exchanges)
+pub in_from_there : {t : Topology} {r : Reading} {name : Text} {to : Destination} → Edge t r name to → (name ≡ [] → ⊥) → IsIn name (exchange_names t.exchanges)
 in_from_there {t} (bound x b c e s p) some = subst (λ (n : Text). IsIn n (exchange_names t.exchanges)) e (in_map (λ (y : Exchange). y.name) t.exchanges x (in_contains t.exchanges x c))
 in_from_there {t} (alternate x c e o s) some = subst (λ (n : Text). IsIn n (exchange_names t.exchanges)) e (in_map (λ (y : Exchange). y.name) t.exchanges x (in_contains t.exchanges x c))
 in_from_there (default d c e n) some = absurd (some refl)
 
 -- what is led to is there
-pub end_there : {t : Topology} {r : Reading} {name : Text} {to : Place} → IsWellFormed t → Edge t r name to → IsThere t to
-end_there {t} w (bound x b c e s p) = subst (λ (z : Place). IsThere t z) s.leads (w.ends b s.is_binding)
+pub end_there : {t : Topology} {r : Reading} {name : Text} {to : Destination} → IsWellFormed t → Edge t r name to → IsThere t to
+end_there {t} w (bound x b c e s p) = subst (λ (z : Destination). IsThere t z) s.leads (w.ends b s.is_binding)
 end_there {t} w (alternate {other = other} x c e o s) = w.alternates x other c o
 end_there {t} w (default q c e n) = subst (λ (z : Text). IsIn z (queue_names t.queues)) e (in_map (λ (y : DeclaredQueue). y.name) t.queues q (in_contains t.queues q c))
 
@@ -65,7 +65,7 @@ no_fan t key name queue some absent = (λ h. absurd (cc), λ s. absurd (absent (
 
 -- the end of a step on to an exchange stands at the place of its name
 onward_end : (t : Topology) (at : ℕ) (other : Text) (e : End) → IsWellFormed t → at < length t.exchanges → exchange_name t at ≡ other → EndsWithin (length t.exchanges) (length t.queues) e
-    → place_of t e ≡ place.Exchange other → e ≡ Onward at
+    → destination_of t e ≡ destination.Exchange other → e ≡ Onward at
 onward_end t at other (Onward i) w h q r p =
     let n : length (exchange_names t.exchanges) ≡ length t.exchanges = length-map t.exchanges (λ (z : Exchange). z.name) in
     let same : exchange_name t i ≡ other = cc in
@@ -73,7 +73,7 @@ onward_end t at other (Onward i) w h q r p =
 onward_end t at other (Into i) w h q r p = absurd (cc)
 
 into_end : (t : Topology) (at : ℕ) (queue : Text) (e : End) → IsWellFormed t → at < length t.queues → queue_name t at ≡ queue → EndsWithin (length t.exchanges) (length t.queues) e
-    → place_of t e ≡ place.Queue queue → e ≡ Into at
+    → destination_of t e ≡ destination.Queue queue → e ≡ Into at
 into_end t at queue (Into i) w h q r p =
     let n : length (queue_names t.queues) ≡ length t.queues = length-map t.queues (λ (z : DeclaredQueue). z.name) in
     let same : queue_name t i ≡ queue = cc in
@@ -85,7 +85,7 @@ pub steps_on : (t : Topology) (key name other : Text) (at : ℕ) (ends : List En
 steps_on t key name other at ends w a h q = (
   λ yes'. subst (λ (z : Text). LeadsOn t key name z) q (a.only (Onward at) ((any_end (λ (e : End). is_onward at e) (Onward at) (onward_same at) (same_onward at) ends).0 yes')),
   λ s. (
-      let m = a.all (place.Exchange other) s in
+      let m = a.all (destination.Exchange other) s in
       let e : m.0 ≡ Onward at = onward_end t at other m.0 w h q (a.within m.0 m.1) m.2 in
       (any_end (λ (e' : End). is_onward at e') (Onward at) (onward_same at) (same_onward at) ends).1 (subst (λ (z : End). IsIn z ends) e m.1)),
 )
@@ -95,7 +95,7 @@ pub steps_in : (t : Topology) (key name queue : Text) (at : ℕ) (ends : List En
 steps_in t key name queue at ends w a h q = (
   λ yes'. subst (λ (z : Text). LeadsToQueue t key name z) q (a.only (Into at) ((any_end (λ (e : End). is_into at e) (Into at) (into_same at) (same_into at) ends).0 yes')),
   λ s. (
-      let m = a.all (place.Queue queue) s in
+      let m = a.all (destination.Queue queue) s in
       let e : m.0 ≡ Into at = into_end t at queue m.0 w h q (a.within m.0 m.1) m.2 in
       (any_end (λ (e' : End). is_into at e') (Into at) (into_same at) (same_into at) ends).1 (subst (λ (z : End). IsIn z ends) e m.1)),
 )
@@ -116,7 +116,7 @@ by_name t key name queue at w z h q = (
     no_name : (t : Topology) (name : Text) (x : Exchange) → IsWellFormed t → Contains t.exchanges x → x.name ≡ name → name ≡ [] → ⊥
     no_name t name x w c e z = w.none_is_default (subst (λ (n : Text). IsIn n (exchange_names t.exchanges)) (e ∙ z) (in_map (λ (y : Exchange). y.name) t.exchanges x (in_contains t.exchanges x c)))
 
-    named_by_key : {t : Topology} {key name queue : Text} {to : Place} → IsWellFormed t → Edge t (of_key key) name to → to ≡ place.Queue queue → name ≡ [] → queue ≡ key
+    named_by_key : {t : Topology} {key name queue : Text} {to : Destination} → IsWellFormed t → Edge t (of_key key) name to → to ≡ destination.Queue queue → name ≡ [] → queue ≡ key
     named_by_key {t} w (bound {name} x b c e s p) q z = absurd (no_name t name x w c e z)
     named_by_key {t} w (alternate {name} x c e o s) q z = absurd (no_name t name x w c e z)
     named_by_key {t} {key} {name} {queue} w (default {queue = other} d c e n) q z =

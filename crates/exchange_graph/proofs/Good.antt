@@ -1,11 +1,11 @@
 -- What can be built is well formed.
-use Rattle.exchange_graph.proofs.Names.{◌≡◌, ◌≤◌, [], length, sym, subst, inl, inr, arith, Contains, Text, Topology, IsIn, IsThere, IsWellFormed, exchange_names, queue_names, Exchange, DeclaredQueue, Binding, Place, map_in, contains_in}
+use Rattle.exchange_graph.proofs.Names.{◌≡◌, ◌≤◌, [], length, sym, subst, inl, inr, arith, Contains, Text, Topology, IsIn, IsThere, IsWellFormed, exchange_names, queue_names, Exchange, DeclaredQueue, Binding, Destination, map_in, contains_in}
 use Rattle.std.proofs.Common.{◌⊎◌}
 use Rattle.std.proofs.lemmas.List.Elements.{All-contains}
-use Rattle.model.specs.declared.topologies.Place.TheVariants as place
+use Rattle.model.specs.declared.topologies.Destination.TheVariants as destination
 use Rattle.topology_drafts.specs.declared.bad.BadTopology.{BadTopology}
 use Rattle.topology_drafts.specs.declared.bad.BadTopology.TheVariants.{Repeated, Absent, Argument, Worded, TooMany, NoExchange, Memory}
-use Rattle.topology_drafts.specs.Causes.{IsBuildable, IsFirstFailure, IsTopologyRefused, IsNamed, IsWorded, IsPlace, Joins, AlternateIsThere, DeadLettersLead}
+use Rattle.topology_drafts.specs.Causes.{IsBuildable, IsFirstFailure, IsTopologyRefused, IsNamed, IsWorded, IsDestination, Joins, AlternateIsThere, DeadLettersLead}
 
 none_unnamed : (t : Topology) → IsBuildable t → IsIn [] (exchange_names t.exchanges) → ⊥
 none_unnamed t b h =
@@ -19,9 +19,9 @@ short_lead t b exchange (inr h) =
     let m = map_in (λ (x : Exchange). x.name) t.exchanges exchange h in
     subst (λ (name : Text). length name ≤ 255) m.2 (All-contains IsNamed t.exchanges m.0 b.worded.exchanges (contains_in t.exchanges m.0 m.1)).short
 
-place_there : (t : Topology) (to : Place) → IsPlace (exchange_names t.exchanges) (queue_names t.queues) to → IsThere t to
-place_there t (place.Exchange name) h = h.there
-place_there t (place.Queue name) h = h
+place_there : (t : Topology) (to : Destination) → IsDestination (exchange_names t.exchanges) (queue_names t.queues) to → IsThere t to
+place_there t (destination.Exchange name) h = h.there
+place_there t (destination.Queue name) h = h
 
 pub well_formed : (t : Topology) → IsBuildable t → IsWellFormed t
 well_formed t b =

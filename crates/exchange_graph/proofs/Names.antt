@@ -1,5 +1,5 @@
 -- The names that several files of these proofs use.
-pub use Rattle.exchange_graph.specs.Fans.{ArePassing, AreSteps, EndsWithin, Fan, LeadOn, end_of, ends_at, ends_by_key, ends_of, exchange_index, fan_of, or_alternate, patterns_of, place_of, queue_place, way_of, ways_from}
+pub use Rattle.exchange_graph.specs.Fans.{ArePassing, AreSteps, EndsWithin, Fan, LeadOn, destination_of, end_of, ends_at, ends_by_key, ends_of, exchange_index, fan_of, or_alternate, patterns_of, queue_index, way_of, ways_from}
 pub use Rattle.exchange_graph.specs.Keyed.{IsEven, PutsUnder, ends_beside, ends_under}
 pub use Rattle.exchange_graph.specs.Marks.{AreFound, AreMet, AreSeen, Arrives, Expands, IsMet, IsPending, IsSet, MarksAreClosed, MarksEnds, Reaching, exchange_name, queue_name, set_indices, unset}
 pub use Rattle.exchange_graph.specs.Targets.{AreTargets, AreVisited, names_at}
@@ -13,7 +13,7 @@ pub use Rattle.model.specs.declared.topologies.Binding.{Binding}
 pub use Rattle.model.specs.declared.topologies.DeclaredQueue.{DeclaredQueue}
 pub use Rattle.model.specs.declared.topologies.Exchange.{Exchange}
 pub use Rattle.model.specs.declared.topologies.ExchangeKind.TheVariants.{Direct, Fanout, Topic}
-pub use Rattle.model.specs.declared.topologies.Place.{Place}
+pub use Rattle.model.specs.declared.topologies.Destination.{Destination}
 pub use Rattle.std.proofs.Common.{Bool, List, [], ap, append-nil, append_assoc, arith, cond, drop, eq-eqb, eqb, false, find, get_or, inl, inr, length, ltb, map, refl, replicate, set, slice_get, subst, suc, sym, true, zero, ℕ, ◌++◌, ◌+◌, ◌<◌, ◌==◌, ◌∙◌, ◌∷◌, ◌≡◌, ◌≤◌}
 pub use Rattle.std.proofs.lemmas.Bool.{eqb-true, ltb-false, ltb-true}
 pub use Rattle.std.proofs.lemmas.List.{at_drop_all, drop_more, length-append, length-map, length-replicate, length-set, take_more}

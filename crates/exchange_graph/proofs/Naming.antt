@@ -1,8 +1,8 @@
 -- Names, and where they stand.
-use Rattle.exchange_graph.proofs.Names.{◌≡◌, ℕ, zero, suc, ◌+◌, ◌<◌, List, [], ◌∷◌, Bool, true, false, cond, refl, sym, ap, ◌∙◌, subst, length, map, get_or, inl, inr, arith, Contains, IfNone, bytes_eq, position_or_len, bytes_eq-Decides, length-map, Text, Topology, IsIn, AreDistinct, IsThere, IsWellFormed, exchange_names, queue_names, Exchange, DeclaredQueue, Place, queue_name, exchange_index, queue_place, end_of, place_of, EndsWithin, in_get, in_contains, contains_in}
+use Rattle.exchange_graph.proofs.Names.{◌≡◌, ℕ, zero, suc, ◌+◌, ◌<◌, List, [], ◌∷◌, Bool, true, false, cond, refl, sym, ap, ◌∙◌, subst, length, map, get_or, inl, inr, arith, Contains, IfNone, bytes_eq, position_or_len, bytes_eq-Decides, length-map, Text, Topology, IsIn, AreDistinct, IsThere, IsWellFormed, exchange_names, queue_names, Exchange, DeclaredQueue, Destination, queue_name, exchange_index, queue_index, end_of, destination_of, EndsWithin, in_get, in_contains, contains_in}
 use Rattle.std.specs.Prelude.{not, Option, Some, None, position, IfSome}
 use Rattle.exchange_graph.proofs.Indices.{place_if_some, place_if_none}
-use Rattle.model.specs.declared.topologies.Place.TheVariants as place
+use Rattle.model.specs.declared.topologies.Destination.TheVariants as destination
 
 -- names that are apart stand in different places
 pub apart_same : (names : List Text) (i j : ℕ) → AreDistinct names → i < length names → j < length names → get_or names i [] ≡ get_or names j [] → i ≡ j
@@ -41,17 +41,17 @@ named_place {A} name_of (x ∷ xs) name h =
 pub exchange_stands : (xs : List Exchange) (name : Text) → IsIn name (exchange_names xs) → (exchange_index xs name < length xs) × (get_or (exchange_names xs) (exchange_index xs name) [] ≡ name)
 exchange_stands xs name h = let p = named_place (λ (x : Exchange). x.name) xs name h in (p.within, p.named)
 
-pub queue_stands : (qs : List DeclaredQueue) (name : Text) → IsIn name (queue_names qs) → (queue_place qs name < length qs) × (get_or (queue_names qs) (queue_place qs name) [] ≡ name)
+pub queue_stands : (qs : List DeclaredQueue) (name : Text) → IsIn name (queue_names qs) → (queue_index qs name < length qs) × (get_or (queue_names qs) (queue_index qs name) [] ≡ name)
 queue_stands qs name h = let p = named_place (λ (q : DeclaredQueue). q.name) qs name h in (p.within, p.named)
 
 -- a place that is there is found again
-pub place_again : (t : Topology) (to : Place) → IsThere t to → place_of t (end_of t.exchanges t.queues to) ≡ to
-place_again t (place.Exchange name) h = ap (λ (x : Text). place.Exchange x) (exchange_stands t.exchanges name h).1
-place_again t (place.Queue name) h = ap (λ (x : Text). place.Queue x) (queue_stands t.queues name h).1
+pub place_again : (t : Topology) (to : Destination) → IsThere t to → destination_of t (end_of t.exchanges t.queues to) ≡ to
+place_again t (destination.Exchange name) h = ap (λ (x : Text). destination.Exchange x) (exchange_stands t.exchanges name h).1
+place_again t (destination.Queue name) h = ap (λ (x : Text). destination.Queue x) (queue_stands t.queues name h).1
 
-pub ends_within : (t : Topology) (to : Place) → IsThere t to → EndsWithin (length t.exchanges) (length t.queues) (end_of t.exchanges t.queues to)
-ends_within t (place.Exchange name) h = (exchange_stands t.exchanges name h).0
-ends_within t (place.Queue name) h = (queue_stands t.queues name h).0
+pub ends_within : (t : Topology) (to : Destination) → IsThere t to → EndsWithin (length t.exchanges) (length t.queues) (end_of t.exchanges t.queues to)
+ends_within t (destination.Exchange name) h = (exchange_stands t.exchanges name h).0
+ends_within t (destination.Queue name) h = (queue_stands t.queues name h).0
 
 -- an exchange is known by its name
 pub same_exchange : (t : Topology) (x y : Exchange) → IsWellFormed t → Contains t.exchanges x → Contains t.exchanges y → x.name ≡ y.name → x ≡ y

@@ -1,7 +1,7 @@
 -- The ways that let a key pass, by the kind of their exchange.
 use Rattle.exchange_graph.proofs.Names.{◌≡◌, ℕ, zero, suc, ◌<◌, List, [], ◌∷◌, Bool, true, false, cond, refl, sym, ap, ◌∙◌, subst, length, get_or, inl, inr, arith, bytes_eq, bytes_eq-Decides, length-map, Text, words, tokens, Matches, IsIn, Direct, Fanout, Topic, End, Onward, Branch, ArePassing, ends_by_key, ends_of, ends_at, patterns_of, in_map, map_in, in_get}
 use Rattle.model.specs.declared.texts.Token.{Token}
-use Rattle.topic_match.specs.Places.{AreMatches}
+use Rattle.topic_match.specs.Indices.{AreMatches}
 
 -- ---- direct
 

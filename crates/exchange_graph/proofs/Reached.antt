@@ -1,18 +1,18 @@
 -- All that is marked is reached, and all that is reached is marked.
-use Rattle.exchange_graph.proofs.Names.{◌≡◌, ℕ, ◌<◌, List, Bool, true, sym, ap, ◌∙◌, subst, length, inl, inr, arith, length-map, length-set, Text, Topology, IsWellFormed, exchange_names, queue_names, Edge, Leads, here, on, Routes, of_key, Exchange, DeclaredQueue, Place, End, Onward, Into, place_of, MarksEnds, IsMet, IsSet, MarksAreClosed, IsPending, Arrives, Reaching, Expands, AreMet, exchange_name, queue_name}
+use Rattle.exchange_graph.proofs.Names.{◌≡◌, ℕ, ◌<◌, List, Bool, true, sym, ap, ◌∙◌, subst, length, inl, inr, arith, length-map, length-set, Text, Topology, IsWellFormed, exchange_names, queue_names, Edge, Leads, here, on, Routes, of_key, Exchange, DeclaredQueue, Destination, End, Onward, Into, destination_of, MarksEnds, IsMet, IsSet, MarksAreClosed, IsPending, Arrives, Reaching, Expands, AreMet, exchange_name, queue_name}
 use Rattle.std.proofs.Common.{None}
-use Rattle.model.specs.declared.topologies.Place.TheVariants as place
+use Rattle.model.specs.declared.topologies.Destination.TheVariants as destination
 use Rattle.exchange_graph.proofs.Marking.{set_only, set_within}
 use Rattle.exchange_graph.proofs.Naming.{apart_same}
 
 -- one step more at the end
-leads_on : {t : Topology} {key x y : Text} (z : Text) → Leads t (of_key key) x y → Edge t (of_key key) y (place.Exchange z) → Leads t (of_key key) x z
+leads_on : {t : Topology} {key x y : Text} (z : Text) → Leads t (of_key key) x y → Edge t (of_key key) y (destination.Exchange z) → Leads t (of_key key) x z
 leads_on z here s = on s here
 leads_on z (on f l) s = on f (leads_on z l s)
 
-arrives : (t : Topology) (key x y : Text) (to : Place) → Leads t (of_key key) x y → Edge t (of_key key) y to → Arrives t x key to
-arrives t key x y (place.Exchange z) l s = leads_on z l s
-arrives t key x y (place.Queue q) l s = (y, l, s)
+arrives : (t : Topology) (key x y : Text) (to : Destination) → Leads t (of_key key) x y → Edge t (of_key key) y to → Arrives t x key to
+arrives t key x y (destination.Exchange z) l s = leads_on z l s
+arrives t key x y (destination.Queue q) l s = (y, l, s)
 
 still_closed : (t : Topology) (key name : Text) (ends : List End) (seen found seen' found' : List Bool) → MarksEnds ends seen found seen' found' → MarksAreClosed t key name seen found → MarksAreClosed t key name seen' found'
 still_closed t key name ends seen found seen' found' m c to s = let p = c to s in (p.0, m.kept p.0 p.1, p.2)
@@ -26,7 +26,7 @@ expanded t start key at seen found done seen' found' done' met r x = record {
   begun = (r.begun.0, x.marks.kept (Onward r.begun.0) r.begun.1, r.begun.2);
   sound = λ e m. (elim (x.marks.only e m) [
     | inl p ↦ r.sound e p
-    | inr q ↦ arrives t key start (exchange_name t at) (place_of t e) (r.sound (Onward at) met) (x.steps.only e q)
+    | inr q ↦ arrives t key start (exchange_name t at) (destination_of t e) (r.sound (Onward at) met) (x.steps.only e q)
   ]);
   closed = λ i h. (elim (set_only done at i (subst (λ (bs : List Bool). IsSet bs i) x.ticked h)) [
     | inl p ↦ still_closed t key (exchange_name t i) x.ends seen found seen' found' x.marks (r.closed i p)
@@ -41,14 +41,14 @@ met_exchange : (t : Topology) (start key : Text) (seen found done : List Bool) �
     → {x y : Text} → Leads t (of_key key) x y → (i : ℕ) × IsSet seen i × (exchange_name t i ≡ x) → (k : ℕ) × IsSet seen k × (exchange_name t k ≡ y)
 met_exchange t start key seen found done r p here m = m
 met_exchange t start key seen found done r p (on {y = z} s l) m =
-    let c = r.closed m.0 (p m.0 m.1) (place.Exchange z) (subst (λ (n : Text). Edge t (of_key key) n (place.Exchange z)) (sym m.2) s) in
+    let c = r.closed m.0 (p m.0 m.1) (destination.Exchange z) (subst (λ (n : Text). Edge t (of_key key) n (destination.Exchange z)) (sym m.2) s) in
     met_exchange t start key seen found done r p l (exchange_end t seen found z c.0 c.1 c.2)
   where
-    exchange_end : (t : Topology) (seen found : List Bool) (z : Text) (e : End) → IsMet seen found e → place_of t e ≡ place.Exchange z → (k : ℕ) × IsSet seen k × (exchange_name t k ≡ z)
+    exchange_end : (t : Topology) (seen found : List Bool) (z : Text) (e : End) → IsMet seen found e → destination_of t e ≡ destination.Exchange z → (k : ℕ) × IsSet seen k × (exchange_name t k ≡ z)
     exchange_end t seen found z (Onward k) m e = (k, m, (let q : exchange_name t k ≡ z = cc in q))
     exchange_end t seen found z (Into k) m e = absurd (cc)
 
-queue_end : (t : Topology) (seen found : List Bool) (z : Text) (e : End) → IsMet seen found e → place_of t e ≡ place.Queue z → (k : ℕ) × IsSet found k × (queue_name t k ≡ z)
+queue_end : (t : Topology) (seen found : List Bool) (z : Text) (e : End) → IsMet seen found e → destination_of t e ≡ destination.Queue z → (k : ℕ) × IsSet found k × (queue_name t k ≡ z)
 queue_end t seen found z (Onward k) m e = absurd (cc)
 queue_end t seen found z (Into k) m e = (k, m, (let q : queue_name t k ≡ z = cc in q))
 
@@ -56,7 +56,7 @@ found_all : (t : Topology) (start key : Text) (seen found done : List Bool) → 
     → (i : ℕ) → i < length t.queues → Routes t start key (queue_name t i) → IsSet found i
 found_all t start key seen found done w r p i h s =
     let m = met_exchange t start key seen found done r p s.1 r.begun in
-    let c = r.closed m.0 (p m.0 m.1) (place.Queue (queue_name t i)) (subst (λ (n : Text). Edge t (of_key key) n (place.Queue (queue_name t i))) (sym m.2) s.2) in
+    let c = r.closed m.0 (p m.0 m.1) (destination.Queue (queue_name t i)) (subst (λ (n : Text). Edge t (of_key key) n (destination.Queue (queue_name t i))) (sym m.2) s.2) in
     let q = queue_end t seen found (queue_name t i) c.0 c.1 c.2 in
     let n : length (queue_names t.queues) ≡ length t.queues = length-map t.queues (λ (z : DeclaredQueue). z.name) in
     let k : q.0 < length found = set_within found q.0 q.1 in

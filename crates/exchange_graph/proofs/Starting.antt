@@ -1,6 +1,6 @@
 -- Where a route begins.
-use Rattle.exchange_graph.proofs.Names.{◌≡◌, ℕ, zero, suc, ◌<◌, [], ◌∷◌, Bool, true, false, refl, sym, ap, ◌∙◌, subst, length, set, replicate, eqb, inl, inr, arith, Contains, length-map, length-set, length-replicate, Text, Topology, IsIn, IsWellFormed, exchange_names, queue_names, Reading, Edge, bound, alternate, default, Leads, here, on, Routes, of_key, Exchange, DeclaredQueue, Place, End, Onward, Into, place_of, IsMet, IsSet, Arrives, Reaching, AreFound, AreSeen, exchange_name, queue_name, in_map, in_contains, in_get}
-use Rattle.model.specs.declared.topologies.Place.TheVariants as place
+use Rattle.exchange_graph.proofs.Names.{◌≡◌, ℕ, zero, suc, ◌<◌, [], ◌∷◌, Bool, true, false, refl, sym, ap, ◌∙◌, subst, length, set, replicate, eqb, inl, inr, arith, Contains, length-map, length-set, length-replicate, Text, Topology, IsIn, IsWellFormed, exchange_names, queue_names, Reading, Edge, bound, alternate, default, Leads, here, on, Routes, of_key, Exchange, DeclaredQueue, Destination, End, Onward, Into, destination_of, IsMet, IsSet, Arrives, Reaching, AreFound, AreSeen, exchange_name, queue_name, in_map, in_contains, in_get}
+use Rattle.model.specs.declared.topologies.Destination.TheVariants as destination
 use Rattle.exchange_graph.proofs.Marking.{set_only, set_here}
 use Rattle.exchange_graph.proofs.Naming.{apart_same, one_at}
 
@@ -11,7 +11,7 @@ none_set (suc n) (suc i) h = none_set n i h
 
 -- ---- from an exchange that is there
 
-first_sound : (t : Topology) (start key : Text) (at n m : ℕ) → exchange_name t at ≡ start → (e : End) → IsMet (set (replicate n false) at true) (replicate m false) e → Arrives t start key (place_of t e)
+first_sound : (t : Topology) (start key : Text) (at n m : ℕ) → exchange_name t at ≡ start → (e : End) → IsMet (set (replicate n false) at true) (replicate m false) e → Arrives t start key (destination_of t e)
 first_sound t start key at n m q (Onward j) h = elim (set_only (replicate n false) at j h) [
   | inl p ↦ absurd (none_set n j p)
   | inr p ↦ subst (λ (x : Text). Leads t (of_key key) start x) (sym (ap (λ (i : ℕ). exchange_name t i) p ∙ q)) here
@@ -30,12 +30,12 @@ begins t start key at n m a b h q = record {
 
 -- ---- from one that is not
 
-no_edge : {t : Topology} {r : Reading} {name : Text} {to : Place} → Edge t r name to → (name ≡ [] → ⊥) → (IsIn name (exchange_names t.exchanges) → ⊥) → ⊥
+no_edge : {t : Topology} {r : Reading} {name : Text} {to : Destination} → Edge t r name to → (name ≡ [] → ⊥) → (IsIn name (exchange_names t.exchanges) → ⊥) → ⊥
 no_edge {t} (bound x b c e s p) some absent = absent (subst (λ (n : Text). IsIn n (exchange_names t.exchanges)) e (in_map (λ (y : Exchange). y.name) t.exchanges x (in_contains t.exchanges x c)))
 no_edge {t} (alternate x c e o s) some absent = absent (subst (λ (n : Text). IsIn n (exchange_names t.exchanges)) e (in_map (λ (y : Exchange). y.name) t.exchanges x (in_contains t.exchanges x c)))
 no_edge (default q c e n) some absent = some refl
 
-no_route : {t : Topology} {r : Reading} {x y : Text} (q : Text) → Leads t r x y → Edge t r y (place.Queue q) → (x ≡ [] → ⊥) → (IsIn x (exchange_names t.exchanges) → ⊥) → ⊥
+no_route : {t : Topology} {r : Reading} {x y : Text} (q : Text) → Leads t r x y → Edge t r y (destination.Queue q) → (x ≡ [] → ⊥) → (IsIn x (exchange_names t.exchanges) → ⊥) → ⊥
 no_route q here s some absent = no_edge s some absent
 no_route q (on f l) s some absent = no_edge f some absent
 
@@ -51,7 +51,7 @@ alone : {t : Topology} {r : Reading} {x y : Text} → Leads t r x y → (IsIn x 
 alone here absent = refl
 alone (on s l) absent = absurd (no_onward s refl absent)
   where
-    no_onward : {t : Topology} {r : Reading} {name z : Text} {to : Place} → Edge t r name to → to ≡ place.Exchange z → (IsIn name (exchange_names t.exchanges) → ⊥) → ⊥
+    no_onward : {t : Topology} {r : Reading} {name z : Text} {to : Destination} → Edge t r name to → to ≡ destination.Exchange z → (IsIn name (exchange_names t.exchanges) → ⊥) → ⊥
     no_onward {t} (bound x b c e s p) q absent = absent (subst (λ (n : Text). IsIn n (exchange_names t.exchanges)) e (in_map (λ (y : Exchange). y.name) t.exchanges x (in_contains t.exchanges x c)))
     no_onward {t} (alternate x c e o s) q absent = absent (subst (λ (n : Text). IsIn n (exchange_names t.exchanges)) e (in_map (λ (y : Exchange). y.name) t.exchanges x (in_contains t.exchanges x c)))
     no_onward (default d c e n) q absent = cc
@@ -68,16 +68,16 @@ nothing_seen t start key m b absent = record {
 -- ---- from the default exchange
 
 -- its one step
-record IsNamed (t : Topology) (key : Text) (to : Place) : Type 0 where
+record IsNamed (t : Topology) (key : Text) (to : Destination) : Type 0 where
   queue : Text
-  leads : to ≡ place.Queue queue
+  leads : to ≡ destination.Queue queue
   there : IsIn queue (queue_names t.queues)
   same : queue ≡ key
 
 no_name : (t : Topology) (name : Text) (x : Exchange) → IsWellFormed t → Contains t.exchanges x → x.name ≡ name → name ≡ [] → ⊥
 no_name t name x w c e z = w.none_is_default (subst (λ (n : Text). IsIn n (exchange_names t.exchanges)) (e ∙ z) (in_map (λ (y : Exchange). y.name) t.exchanges x (in_contains t.exchanges x c)))
 
-default_edge : {t : Topology} {key name : Text} {to : Place} → IsWellFormed t → Edge t (of_key key) name to → name ≡ [] → IsNamed t key to
+default_edge : {t : Topology} {key name : Text} {to : Destination} → IsWellFormed t → Edge t (of_key key) name to → name ≡ [] → IsNamed t key to
 default_edge {t} w (bound {name} x b c e s p) z = absurd (no_name t name x w c e z)
 default_edge {t} w (alternate {name} x c e o s) z = absurd (no_name t name x w c e z)
 default_edge {t} w (default {queue = queue} q c e n) z = record {

@@ -1,7 +1,7 @@
 -- What leads on from an exchange are exactly the steps of a route.
-use Rattle.exchange_graph.proofs.Names.{◌≡◌, ℕ, ◌<◌, List, [], ◌∷◌, Bool, true, false, cond, refl, sym, ap, ◌∙◌, subst, length, map, get_or, inl, inr, Contains, option_map, bytes_eq, bytes_eq-Decides, Text, Topology, IsIn, IsThere, IsWellFormed, exchange_names, Passes, Binds, Edge, bound, alternate, default, of_key, Exchange, Binding, Place, Fanout, End, Onward, Branch, exchange_name, Fan, ArePassing, LeadOn, AreSteps, EndsWithin, ways_from, way_of, fan_of, end_of, place_of, or_alternate, exchange_index, in_contains, contains_in, in_map}
+use Rattle.exchange_graph.proofs.Names.{◌≡◌, ℕ, ◌<◌, List, [], ◌∷◌, Bool, true, false, cond, refl, sym, ap, ◌∙◌, subst, length, map, get_or, inl, inr, Contains, option_map, bytes_eq, bytes_eq-Decides, Text, Topology, IsIn, IsThere, IsWellFormed, exchange_names, Passes, Binds, Edge, bound, alternate, default, of_key, Exchange, Binding, Destination, Fanout, End, Onward, Branch, exchange_name, Fan, ArePassing, LeadOn, AreSteps, EndsWithin, ways_from, way_of, fan_of, end_of, destination_of, or_alternate, exchange_index, in_contains, contains_in, in_map}
 use Rattle.std.proofs.Common.{Option, Some, None}
-use Rattle.model.specs.declared.topologies.Place.TheVariants as place
+use Rattle.model.specs.declared.topologies.Destination.TheVariants as destination
 use Rattle.exchange_graph.specs.Built.{IsBuilt}
 use Rattle.exchange_graph.proofs.Good.{well_formed}
 use Rattle.exchange_graph.proofs.Naming.{get_any, get_map, same_exchange, place_again, ends_within, exchange_stands}
@@ -48,7 +48,7 @@ in_way t name (c ∷ bs) w h = in_way_at t name c bs w (bytes_eq c.source name) 
 -- an end that is a step
 record IsStep (t : Topology) (key name : Text) (e : End) : Type 0 where
   within : EndsWithin (length t.exchanges) (length t.queues) e
-  edge : Edge t (of_key key) name (place_of t e)
+  edge : Edge t (of_key key) name (destination_of t e)
 
 passing_step : (t : Topology) (key : Text) (x : Exchange) (passing : List End) → IsWellFormed t → Contains t.exchanges x
     → ArePassing x.kind key (Ways t x.name t.bindings) passing → (e : End) → IsIn e passing → IsStep t key x.name e
@@ -61,14 +61,14 @@ passing_step t key x passing w c a e h =
     let passes : Passes x.kind p.b.key key = subst (λ (k : Text). Passes x.kind k key) (ap (λ (z : Branch). z.key) p.way) m.3 in
     record {
       within = subst (λ (z : End). EndsWithin (length t.exchanges) (length t.queues) z) (sym q) (ends_within t p.b.to there);
-      edge = subst (λ (z : End). Edge t (of_key key) x.name (place_of t z)) (sym q)
-          (subst (λ (z : Place). Edge t (of_key key) x.name z) (sym (place_again t p.b.to there))
+      edge = subst (λ (z : End). Edge t (of_key key) x.name (destination_of t z)) (sym q)
+          (subst (λ (z : Destination). Edge t (of_key key) x.name z) (sym (place_again t p.b.to there))
           (bound x p.b c refl (record { is_binding = is; source = p.source; leads = refl }) passes));
     }
 
 -- a binding that lets the key pass has its end among them
 passing_end : (t : Topology) (key : Text) (x : Exchange) (passing : List End) → ArePassing x.kind key (Ways t x.name t.bindings) passing
-    → (to : Place) (b : Binding) → Binds t x to b → Passes x.kind b.key key → IsIn (end_of t.exchanges t.queues b.to) passing
+    → (to : Destination) (b : Binding) → Binds t x to b → Passes x.kind b.key key → IsIn (end_of t.exchanges t.queues b.to) passing
 passing_end t key x passing a to b s p = a.all (way_of t.exchanges t.queues b) (way_in t x.name t.bindings b (in_contains t.bindings b s.is_binding) s.source) p
 
 alternate_step : (t : Topology) (key : Text) (x : Exchange) → IsWellFormed t → Contains t.exchanges x → ArePassing x.kind key (Ways t x.name t.bindings) []
@@ -77,7 +77,7 @@ alternate_step t key x w c a other q =
     let s = exchange_stands t.exchanges other (w.alternates x other c q) in
     record {
       within = s.0;
-      edge = subst (λ (z : Text). Edge t (of_key key) x.name (place.Exchange z)) (sym s.1) (alternate x c refl q (λ to b d p. passing_end t key x [] a to b d p));
+      edge = subst (λ (z : Text). Edge t (of_key key) x.name (destination.Exchange z)) (sym s.1) (alternate x c refl q (λ to b d p. passing_end t key x [] a to b d p));
     }
 
 alternate_steps : (t : Topology) (key : Text) (x : Exchange) → IsWellFormed t → Contains t.exchanges x → ArePassing x.kind key (Ways t x.name t.bindings) []
@@ -100,7 +100,7 @@ passing_stays alternate' [] e h = absurd h
 passing_stays alternate' (p ∷ ps) e h = h
 
 none_passes : (t : Topology) (key : Text) (x : Exchange) (passing : List End) → IsWellFormed t → ArePassing x.kind key (Ways t x.name t.bindings) passing
-    → ((to : Place) (b : Binding) → Binds t x to b → Passes x.kind b.key key → ⊥) → passing ≡ []
+    → ((to : Destination) (b : Binding) → Binds t x to b → Passes x.kind b.key key → ⊥) → passing ≡ []
 none_passes t key x [] w a no' = refl
 none_passes t key x (p ∷ ps) w a no' =
     let m = a.only p (inl refl) in
@@ -109,17 +109,17 @@ none_passes t key x (p ∷ ps) w a no' =
     (subst (λ (k : Text). Passes x.kind k key) (ap (λ (z : Branch). z.key) q.way) m.3))
 
 -- the end of a step
-abbrev HasEnd : Topology → List End → Place → Type 0
-HasEnd t ends to = (e : End) × IsIn e ends × (place_of t e ≡ to)
+abbrev HasEnd : Topology → List End → Destination → Type 0
+HasEnd t ends to = (e : End) × IsIn e ends × (destination_of t e ≡ to)
 
 alternate_end : (t : Topology) (x : Exchange) → IsWellFormed t → Contains t.exchanges x → (other : Text) → x.alternate ≡ Some other
-    → HasEnd t (or_alternate (fan_of t x).alternate []) (place.Exchange other)
+    → HasEnd t (or_alternate (fan_of t x).alternate []) (destination.Exchange other)
 alternate_end t x w c other q =
     let s = exchange_stands t.exchanges other (w.alternates x other c q) in
-    rw q (Onward (exchange_index t.exchanges other), inl refl, ap (λ (z : Text). place.Exchange z) s.1)
+    rw q (Onward (exchange_index t.exchanges other), inl refl, ap (λ (z : Text). destination.Exchange z) s.1)
 
 every_step : (t : Topology) (key : Text) (x : Exchange) (passing : List End) → IsWellFormed t → Contains t.exchanges x
-    → ArePassing x.kind key (Ways t x.name t.bindings) passing → {name : Text} (to : Place) → Edge t (of_key key) name to → name ≡ x.name → HasEnd t (or_alternate (fan_of t x).alternate passing) to
+    → ArePassing x.kind key (Ways t x.name t.bindings) passing → {name : Text} (to : Destination) → Edge t (of_key key) name to → name ≡ x.name → HasEnd t (or_alternate (fan_of t x).alternate passing) to
 every_step t key x passing w c a to (bound y b d e s p) q =
     let same : y ≡ x = same_exchange t y x w d c (e ∙ q) in
     let s' : Binds t x to b = subst (λ (z : Exchange). Binds t z to b) same s in
@@ -131,8 +131,8 @@ every_step t key x passing w c a to (bound y b d e s p) q =
 every_step t key x passing w c a to (alternate {other = other} y d e o shut) q =
     let same : y ≡ x = same_exchange t y x w d c (e ∙ q) in
     let o' : x.alternate ≡ Some other = ap (λ (z : Exchange). z.alternate) (sym same) ∙ o in
-    let none' : passing ≡ [] = none_passes t key x passing w a (subst (λ (z : Exchange). (to' : Place) (b : Binding) → Binds t z to' b → Passes z.kind b.key key → ⊥) same shut) in
-    subst (λ (es : List End). HasEnd t (or_alternate (fan_of t x).alternate es) (place.Exchange other)) (sym none') (alternate_end t x w c other o')
+    let none' : passing ≡ [] = none_passes t key x passing w a (subst (λ (z : Exchange). (to' : Destination) (b : Binding) → Binds t z to' b → Passes z.kind b.key key → ⊥) same shut) in
+    subst (λ (es : List End). HasEnd t (or_alternate (fan_of t x).alternate es) (destination.Exchange other)) (sym none') (alternate_end t x w c other o')
 every_step t key x passing w c a to (default z d e n) q =
     absurd (w.none_is_default (subst (λ (n' : Text). IsIn n' (exchange_names t.exchanges)) (sym q) (in_map (λ (y : Exchange). y.name) t.exchanges x (in_contains t.exchanges x c))))
 

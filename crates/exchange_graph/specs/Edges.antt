@@ -3,17 +3,17 @@ use Rattle.std.specs.Prelude.{ℕ, Bool, false, ◌==◌}
 use Rattle.model.specs.Words.{Text}
 use Rattle.model.specs.Topology.{Topology}
 use Rattle.model.specs.Routing.{Edge, of_key}
-use Rattle.model.specs.declared.topologies.Place.TheVariants as place
+use Rattle.model.specs.declared.topologies.Destination.TheVariants as destination
 use Rattle.exchange_graph.specs.declared.ends.End.{End}
 use Rattle.exchange_graph.specs.declared.ends.End.TheVariants.{Onward, Into}
 
 -- `LeadsOn t key exchange other`: one step leads a message with `key` from `exchange` to the exchange `other`
 abbrev pub LeadsOn : Topology → Text → Text → Text → Type 0
-LeadsOn t key exchange other = Edge t (of_key key) exchange (place.Exchange other)
+LeadsOn t key exchange other = Edge t (of_key key) exchange (destination.Exchange other)
 
 -- `LeadsToQueue t key exchange queue`: one step leads a message with `key` from `exchange` into `queue`
 abbrev pub LeadsToQueue : Topology → Text → Text → Text → Type 0
-LeadsToQueue t key exchange queue = Edge t (of_key key) exchange (place.Queue queue)
+LeadsToQueue t key exchange queue = Edge t (of_key key) exchange (destination.Queue queue)
 
 -- the end is the exchange at this index
 abbrev pub is_onward : ℕ → End → Bool

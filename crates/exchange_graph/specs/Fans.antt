@@ -9,8 +9,8 @@ use Rattle.model.specs.declared.texts.Token.{Token}
 use Rattle.model.specs.declared.topologies.Exchange.{Exchange}
 use Rattle.model.specs.declared.topologies.DeclaredQueue.{DeclaredQueue}
 use Rattle.model.specs.declared.topologies.Binding.{Binding}
-use Rattle.model.specs.declared.topologies.Place.{Place}
-use Rattle.model.specs.declared.topologies.Place.TheVariants as place
+use Rattle.model.specs.declared.topologies.Destination.{Destination}
+use Rattle.model.specs.declared.topologies.Destination.TheVariants as destination
 use Rattle.model.specs.declared.topologies.ExchangeKind.{ExchangeKind}
 use Rattle.exchange_graph.specs.declared.ends.End.{End}
 use Rattle.exchange_graph.specs.declared.ends.End.TheVariants.{Onward, Into}
@@ -21,13 +21,13 @@ abbrev pub exchange_index : List Exchange → Text → ℕ
 exchange_index exchanges name = position_or_len (λ (x : Exchange). bytes_eq x.name name) exchanges
 
 -- the index of the first queue of this name, or the number of queues if there is none
-abbrev pub queue_place : List DeclaredQueue → Text → ℕ
-queue_place queues name = position_or_len (λ (q : DeclaredQueue). bytes_eq q.name name) queues
+abbrev pub queue_index : List DeclaredQueue → Text → ℕ
+queue_index queues name = position_or_len (λ (q : DeclaredQueue). bytes_eq q.name name) queues
 
 -- the destination of a binding, by its index
-abbrev pub end_of : List Exchange → List DeclaredQueue → Place → End
-end_of exchanges queues (place.Exchange name) = Onward (exchange_index exchanges name)
-end_of exchanges queues (place.Queue name) = Into (queue_place queues name)
+abbrev pub end_of : List Exchange → List DeclaredQueue → Destination → End
+end_of exchanges queues (destination.Exchange name) = Onward (exchange_index exchanges name)
+end_of exchanges queues (destination.Queue name) = Into (queue_index queues name)
 
 -- a binding without its source
 abbrev pub way_of : List Exchange → List DeclaredQueue → Binding → Branch
@@ -58,9 +58,9 @@ fan_of t x = record {
 }
 
 -- the exchange or the queue at an end, by its name
-abbrev pub place_of : Topology → End → Place
-place_of t (Onward i) = place.Exchange (slice_index_or (exchange_names t.exchanges) i [])
-place_of t (Into i) = place.Queue (slice_index_or (queue_names t.queues) i [])
+abbrev pub destination_of : Topology → End → Destination
+destination_of t (Onward i) = destination.Exchange (slice_index_or (exchange_names t.exchanges) i [])
+destination_of t (Into i) = destination.Queue (slice_index_or (queue_names t.queues) i [])
 
 -- the end is the index of an exchange below `exchanges`, or of a queue below `queues`
 abbrev pub EndsWithin : ℕ → ℕ → End → Type 0
@@ -100,5 +100,5 @@ pub record LeadOn (key : Text) (fan : Fan) (ends : List End) : Type 0 where
 -- `ends` has exactly the next steps of a message with `key` from the exchange `name`.
 pub record AreSteps (t : Topology) (key name : Text) (ends : List End) : Type 0 where
   pub within : (e : End) → IsIn e ends → EndsWithin (length t.exchanges) (length t.queues) e
-  pub only : (e : End) → IsIn e ends → Edge t (of_key key) name (place_of t e)
-  pub all : (to : Place) → Edge t (of_key key) name to → (e : End) × IsIn e ends × (place_of t e ≡ to)
+  pub only : (e : End) → IsIn e ends → Edge t (of_key key) name (destination_of t e)
+  pub all : (to : Destination) → Edge t (of_key key) name to → (e : End) × IsIn e ends × (destination_of t e ≡ to)

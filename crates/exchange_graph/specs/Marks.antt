@@ -3,9 +3,9 @@ use Rattle.std.specs.Prelude.{◌≡◌, ◌<◌, ℕ, ◌+◌, List, [], ◌∷
 use Rattle.model.specs.Words.{Text}
 use Rattle.model.specs.Topology.{Topology, IsIn, queue_names, exchange_names}
 use Rattle.model.specs.Routing.{Edge, Leads, RoutesBy, Routes, of_key}
-use Rattle.model.specs.declared.topologies.Place.{Place}
-use Rattle.model.specs.declared.topologies.Place.TheVariants as place
-use Rattle.exchange_graph.specs.Fans.{place_of, AreSteps}
+use Rattle.model.specs.declared.topologies.Destination.{Destination}
+use Rattle.model.specs.declared.topologies.Destination.TheVariants as destination
+use Rattle.exchange_graph.specs.Fans.{destination_of, AreSteps}
 use Rattle.exchange_graph.specs.declared.ends.End.{End}
 use Rattle.exchange_graph.specs.declared.ends.End.TheVariants.{Onward, Into}
 
@@ -37,13 +37,13 @@ unset [] = 0
 unset (b ∷ bs) = if b then unset bs else unset bs + 1
 
 -- a message with `key` that is sent to exchange `start` reaches this exchange or queue
-abbrev pub Arrives : Topology → Text → Text → Place → Type 0
-Arrives t start key (place.Exchange y) = Leads t (of_key key) start y
-Arrives t start key (place.Queue q) = RoutesBy t (of_key key) start q
+abbrev pub Arrives : Topology → Text → Text → Destination → Type 0
+Arrives t start key (destination.Exchange y) = Leads t (of_key key) start y
+Arrives t start key (destination.Queue q) = RoutesBy t (of_key key) start q
 
 -- each next step of a message with `key` from the exchange `name` is marked
 abbrev pub MarksAreClosed : Topology → Text → Text → List Bool → List Bool → Type 0
-MarksAreClosed t key name seen found = (to : Place) → Edge t (of_key key) name to → (e : End) × IsMet seen found e × (place_of t e ≡ to)
+MarksAreClosed t key name seen found = (to : Destination) → Edge t (of_key key) name to → (e : End) × IsMet seen found e × (destination_of t e ≡ to)
 
 -- the name of the exchange at this index
 abbrev pub exchange_name : Topology → ℕ → Text
@@ -64,7 +64,7 @@ pub record Reaching (t : Topology) (start key : Text) (seen found done : List Bo
   pub room : MarksHaveRoom t seen found
   pub done_room : length done ≡ length t.exchanges
   pub begun : (i : ℕ) × IsSet seen i × (exchange_name t i ≡ start)
-  pub sound : (e : End) → IsMet seen found e → Arrives t start key (place_of t e)
+  pub sound : (e : End) → IsMet seen found e → Arrives t start key (destination_of t e)
   pub closed : (i : ℕ) → IsSet done i → MarksAreClosed t key (exchange_name t i) seen found
 
 -- The next steps from exchange `at` are marked, and the exchange is marked as done.

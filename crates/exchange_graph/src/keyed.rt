@@ -33,7 +33,7 @@ fn put(keyed: &mut KeyedEnds, alloc: Global, key: &[u8], end: End) -> Result<(),
     requires { IsEven keyed.old }
     ensures { OnOk result (PutsUnder key.now end keyed.old keyed.new) }
 {
-    let Some(place) = keyed.keys.place(key) else {
+    let Some(place) = keyed.keys.index_of(key) else {
         return put_new(keyed, alloc, key, end);
     };
     push_at(&mut keyed.lists, place, end)?;
@@ -59,7 +59,7 @@ pub fn ends_under<'a>(keyed: &'a KeyedEnds, key: &[u8]) -> &'a [End]
     requires { IsEven keyed.now }
     ensures { result.now ≡ ends_under key.now keyed.now }
 {
-    match keyed.keys.place(key) {
+    match keyed.keys.index_of(key) {
         Some(place) => keyed.lists[place].as_slice(),
         None => &[],
     }

@@ -2,10 +2,10 @@
 
 ghost use Rattle.std.specs.Prelude.{◌≡◌, IfOk};
 ghost use Rattle.exchange_graph.specs.Built.{AreNamed};
-ghost use Rattle.exchange_graph.specs.Fans.{exchange_index, queue_place, end_of, ways_from};
+ghost use Rattle.exchange_graph.specs.Fans.{exchange_index, queue_index, end_of, ways_from};
 
 use crate::ends::{Branch, End};
-use model::{Binding, DeclaredQueue, Exchange, Place};
+use model::{Binding, DeclaredQueue, Destination, Exchange};
 use std::alloc::{AllocError, Global};
 use std::marker::Model;
 use topology_drafts::Names;
@@ -75,29 +75,29 @@ impl<'a> NamedLists<'a> {
     pub fn exchange_index(&self, name: &[u8]) -> usize
         ensures { result ≡ exchange_index self.now.exchanges name.now }
     {
-        match self.exchange_names.place(name) {
+        match self.exchange_names.index_of(name) {
             Some(place) => place,
             None => self.exchanges.len(),
         }
     }
 
     /// Returns the index of the queue `name`, or the number of queues if there is none.
-    fn queue_place(&self, name: &[u8]) -> usize
-        ensures { result ≡ queue_place self.now.queues name.now }
+    fn queue_index(&self, name: &[u8]) -> usize
+        ensures { result ≡ queue_index self.now.queues name.now }
     {
-        match self.queue_names.place(name) {
+        match self.queue_names.index_of(name) {
             Some(place) => place,
             None => self.queues.len(),
         }
     }
 
     /// Returns the destination `to` by its index.
-    fn end_of(&self, to: &Place) -> End
+    fn end_of(&self, to: &Destination) -> End
         ensures { result ≡ end_of self.now.exchanges self.now.queues to.now }
     {
         match to {
-            Place::Exchange(name) => End::Onward(self.exchange_index(name.as_bytes())),
-            Place::Queue(name) => End::Into(self.queue_place(name.as_bytes())),
+            Destination::Exchange(name) => End::Onward(self.exchange_index(name.as_bytes())),
+            Destination::Queue(name) => End::Into(self.queue_index(name.as_bytes())),
         }
     }
 

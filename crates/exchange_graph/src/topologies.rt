@@ -263,22 +263,22 @@ impl Topology {
 
     /// Returns the index of the exchange `name`, or `None` if there is none. The default exchange is not in the list.
     pub fn exchange_at(&self, name: &[u8]) -> Option<usize>
-        ensures place { result ≡ position (λ x. bytes_eq x.name name.now) self.now.exchanges }
+        ensures index { result ≡ position (λ x. bytes_eq x.name name.now) self.now.exchanges }
         ensures within { IfSome result (λ i. i < length self.now.exchanges) }
         ensures named { IfSome result (λ i. exchange_name self.now i ≡ name.now) }
         ensures absent { IfNone result (IsIn name.now (exchange_names self.now.exchanges) → ⊥) }
     {
-        self.exchange_names.place(name)
+        self.exchange_names.index_of(name)
     }
 
     /// Returns the index of the queue `name`, or `None` if there is none.
     pub fn queue_at(&self, name: &[u8]) -> Option<usize>
-        ensures place { result ≡ position (λ q. bytes_eq q.name name.now) self.now.queues }
+        ensures index { result ≡ position (λ q. bytes_eq q.name name.now) self.now.queues }
         ensures within { IfSome result (λ i. i < length self.now.queues) }
         ensures named { IfSome result (λ i. queue_name self.now i ≡ name.now) }
         ensures absent { IfNone result (IsIn name.now (queue_names self.now.queues) → ⊥) }
     {
-        self.queue_names.place(name)
+        self.queue_names.index_of(name)
     }
 
     /// Returns the queue at `index`, which has to be below the number of queues.

@@ -2,7 +2,7 @@
 
 ghost use Rattle.frame.specs.Laws.{OneFrame};
 
-/// Proves that at most one frame is at the front of any bytes. Does nothing when called.
-pub fn one_frame()
+/// Proves that at most one frame is at the front of any bytes. Does nothing at run time.
+pub fn ghost_one_frame()
     ensures { OneFrame }
 {}

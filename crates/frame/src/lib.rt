@@ -13,6 +13,6 @@ mod writing;
 
 pub use buffers::Buffer;
 pub use frames::{Frame, ReadFrame as Read};
-pub use laws::one_frame;
+pub use laws::ghost_one_frame;
 pub use reading::read_frame;
 pub use writing::{put_frame, write_frame};

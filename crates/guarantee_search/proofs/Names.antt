@@ -1,14 +1,14 @@
 -- The names that several files of these proofs use.
 pub use Rattle.certificate.proofs.Forming.{dropped_passed, passed_dropped, rise_tells}
 pub use Rattle.certificate.specs.Coverings.{AreMarks, Marks}
-pub use Rattle.certificate.specs.Places.{IsPassedOver, passes_over}
+pub use Rattle.certificate.specs.Indices.{IsPassedOver, passes_over}
 pub use Rattle.certificate.specs.Views.{form_view}
 pub use Rattle.certificate.specs.Walks.{IsGoodBy, ways_of}
 pub use Rattle.certificate_laws.proofs.Certificates.{letter_of, named_from, named_stands, other_stands, start_each, step_each}
 pub use Rattle.certificate_laws.proofs.Onces.{from_map, in_map, once_from}
 pub use Rattle.guarantee_search.specs.Spellings.{IsFilled, IsNoDot, SpellsLetters, followed_by, spelled_key}
-pub use Rattle.guarantee_search.specs.Walked.{AreSorted, AreTried, IsWalkOf, first_form, places_from, slice_form}
-pub use Rattle.model.specs.Certificates.{Accepts, AreChosen, ArePlaces, Ascend, Certificate, Excepting, Form, IsDropped, IsGoodState, IsShort, IsZeroFirst, LeadsIn, Sliced, Suits, Whole, at_places, mode_name}
+pub use Rattle.guarantee_search.specs.Walked.{AreSorted, AreTried, IsWalkOf, first_form, indices_from, slice_form}
+pub use Rattle.model.specs.Certificates.{Accepts, AreChosen, AreIndices, Ascend, Certificate, Excepting, Form, IsDropped, IsGoodState, IsShort, IsZeroFirst, LeadsIn, Sliced, Suits, Whole, at_indices, mode_name}
 pub use Rattle.model.specs.Guarantee.{CoversKey, Guarantee, Keeps}
 pub use Rattle.model.specs.Positions.{FitsEach, IsStartState, IsStateOf, IsStepOf, Letter, Named, Other, RepresentsWord, RecordsMatches, has_bit, letters, named_words, word_of}
 pub use Rattle.model.specs.Refutations.{Breaks, Refutation, Refutes}

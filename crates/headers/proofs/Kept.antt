@@ -1,6 +1,6 @@
 -- All fourteen properties: what is read is spelled so, and what is spelled so is read.
-use Rattle.headers.proofs.Names.{◌≡◌, ℕ, ◌+◌, ◌%◌, ◌^◌, ◌<◌, Bool, true, false, cond, eqb, List, [], ◌∷◌, ◌++◌, length, Option, Some, None, refl, sym, ap, subst, ◌∙◌, append-nil, arith, ◌==◌, if◌then◌else◌, AllByRecursion, flat_map, eqb-true, eq-eqb, mod-eq_of_lt, Text, Argument, text_of, octet_of, time_of, table_of, properties_of, flags, value_of, IsValue, AreProperties, text_told, octet_told, time_told, table_told, an_octet, a_short_text, a_long_long, a_field_table, IsArgumentWhole, ◌>>=◌, IsBytes, bind_some, whole, sized_of, Row, front_rows, back_rows, has_flag, option_at, options_at, properties_at, HeadersAreWhole, headers_in}
-use Rattle.model.specs.Properties.{properties_told}
+use Rattle.headers.proofs.Names.{◌≡◌, ℕ, ◌+◌, ◌%◌, ◌^◌, ◌<◌, Bool, true, false, cond, eqb, List, [], ◌∷◌, ◌++◌, length, Option, Some, None, refl, sym, ap, subst, ◌∙◌, append-nil, arith, ◌==◌, if◌then◌else◌, AllByRecursion, flat_map, eqb-true, eq-eqb, mod-eq_of_lt, Text, Argument, text_of, octet_of, time_of, table_of, properties_of, flags, value_of, IsValue, AreProperties, as_text, as_octet, as_time, as_table, an_octet, a_short_text, a_long_long, a_field_table, IsArgumentWhole, ◌>>=◌, IsBytes, bind_some, whole, sized_of, Row, front_rows, back_rows, has_flag, option_at, options_at, properties_at, HeadersAreWhole, headers_in}
+use Rattle.model.specs.Properties.{properties_from}
 use Rattle.model.specs.declared.contents.Fields.{Fields as Properties}
 use Rattle.headers.proofs.Flags.{IsSizedOption, HasKind, HaveKinds, Descend, AreKinds, TakesOptions, options_take, options_again, flags-below, flags-fours}
 
@@ -282,24 +282,24 @@ sized_again p pairs fits is lt =
 
 -- ---- told apart
 
-text_same : (t : Option Text) → text_told (text_of t) ≡ t
+text_same : (t : Option Text) → as_text (text_of t) ≡ t
 text_same None = refl
 text_same (Some t) = refl
 
-octet_same : (n : Option ℕ) → octet_told (octet_of n) ≡ n
+octet_same : (n : Option ℕ) → as_octet (octet_of n) ≡ n
 octet_same None = refl
 octet_same (Some n) = refl
 
-time_same : (n : Option ℕ) → time_told (time_of n) ≡ n
+time_same : (n : Option ℕ) → as_time (time_of n) ≡ n
 time_same None = refl
 time_same (Some n) = refl
 
-table_same : (t : Option (List ℕ)) → table_told (table_of t) ≡ t
+table_same : (t : Option (List ℕ)) → as_table (table_of t) ≡ t
 table_same None = refl
 table_same (Some t) = refl
 
-pub told_same : (p : Properties) → properties_told (properties_of p) ≡ p
-unfolding properties_told
+pub told_same : (p : Properties) → properties_from (properties_of p) ≡ p
+unfolding properties_from
 told_same p =
     rw (
       text_same p.content_type,
@@ -319,4 +319,4 @@ told_same p =
     ) refl
 
 pub same_properties : (p q : Properties) → properties_of p ≡ properties_of q → p ≡ q
-same_properties p q e = sym (told_same p) ∙ ap properties_told e ∙ told_same q
+same_properties p q e = sym (told_same p) ∙ ap properties_from e ∙ told_same q

@@ -8,7 +8,7 @@ pub use Rattle.headers.specs.Writing.{AreValues, back_flags, back_of, fixed, fro
 pub use Rattle.model.specs.Grammar.{Argument, Field_table, Long_long, Short_text, argument, class_at}
 pub use Rattle.model.specs.Headers.{AreProperties, IsNoHeader, IsValue, SaysHeader, SaysSize, bad_properties, flags, flags_at, header_bytes, no_header, octet_of, properties_of, said, size, size_at, table_of, text_of, time_of, value_of, weight_at}
 pub use Rattle.model.specs.Options.{◌>>=◌}
-pub use Rattle.model.specs.Properties.{First, IsSpelling, first_octet, first_table, first_text, first_time, is_flagged, octet_told, properties_bytes, sorts, table_told, text_told, time_told}
+pub use Rattle.model.specs.Properties.{First, IsSpelling, as_octet, as_table, as_text, as_time, first_octet, first_table, first_text, first_time, is_flagged, properties_bytes, sorts}
 pub use Rattle.model.specs.Words.{Text}
 pub use Rattle.std.proofs.Common.{Bool, Err, IfOk, List, None, Ok, Option, Result, Some, [], ap, append-nil, append_assoc, arith, cond, drop, eqb, false, inl, inr, length, length-append, option_map, refl, subst, suc, sym, take, true, zero, ℕ, ◌%◌, ◌*◌, ◌++◌, ◌+◌, ◌/◌, ◌<◌, ◌^◌, ◌∙◌, ◌∷◌, ◌≡◌, ◌≢◌, ◌≤◌}
 pub use Rattle.std.proofs.Math.Nat.{mod-eq_of_lt, mod-lt, pow-suc}

@@ -1,38 +1,38 @@
 -- Properties that were read as bytes are those that the bytes spell.
-use Rattle.headers.proofs.Names.{◌≡◌, ℕ, ◌+◌, ◌*◌, ◌^◌, ◌<◌, List, ◌++◌, take, drop, Option, Some, None, Result, Ok, Err, IfOk, option_map, refl, sym, ap, subst, ◌∙◌, arith, w16, to_be_bytes, from_be_bytes, flat_map, slice_index, Argument, text_of, octet_of, time_of, table_of, properties_of, flags, value_of, AreProperties, properties_bytes, text_told, octet_told, time_told, table_told, IsSpelling, IsBytes, properties_at, text_in, table_in, pairs_in, parts_in, HeadersAreWhole, from_be_bytes-to_be_bytes_2}
+use Rattle.headers.proofs.Names.{◌≡◌, ℕ, ◌+◌, ◌*◌, ◌^◌, ◌<◌, List, ◌++◌, take, drop, Option, Some, None, Result, Ok, Err, IfOk, option_map, refl, sym, ap, subst, ◌∙◌, arith, w16, to_be_bytes, from_be_bytes, flat_map, slice_index, Argument, text_of, octet_of, time_of, table_of, properties_of, flags, value_of, AreProperties, properties_bytes, as_text, as_octet, as_time, as_table, IsSpelling, IsBytes, properties_at, text_in, table_in, pairs_in, parts_in, HeadersAreWhole, from_be_bytes-to_be_bytes_2}
 use Rattle.std.specs.Borrow.{Bor}
-use Rattle.model.specs.Properties.{properties_told, spelled_by}
+use Rattle.model.specs.Properties.{properties_from, spelled_by}
 use Rattle.model.specs.declared.contents.Fields.{Fields as Properties}
 use Rattle.headers.specs.declared.optional.Parts.{Parts}
 use Rattle.headers.proofs.Flags.{flags-below}
 use Rattle.headers.proofs.Spelled.{one_spelled}
 use Rattle.headers.proofs.Kept.{properties_are, properties_again, told_same, same_properties}
 
-text_again : (t : Option (Bor (List ℕ))) → text_of (text_told (text_in t)) ≡ text_in t
+text_again : (t : Option (Bor (List ℕ))) → text_of (as_text (text_in t)) ≡ text_in t
 text_again None = refl
 text_again (Some t) = refl
 
-table_again : (t : Option (Bor (List ℕ))) → table_of (table_told (table_in t)) ≡ table_in t
+table_again : (t : Option (Bor (List ℕ))) → table_of (as_table (table_in t)) ≡ table_in t
 table_again None = refl
 table_again (Some t) = refl
 
-octet_again : (n : Option ℕ) → octet_of (octet_told (octet_of n)) ≡ octet_of n
+octet_again : (n : Option ℕ) → octet_of (as_octet (octet_of n)) ≡ octet_of n
 octet_again None = refl
 octet_again (Some n) = refl
 
-time_again : (n : Option ℕ) → time_of (time_told (time_of n)) ≡ time_of n
+time_again : (n : Option ℕ) → time_of (as_time (time_of n)) ≡ time_of n
 time_again None = refl
 time_again (Some n) = refl
 
-table_pairs : (t : Option (Bor (List ℕ))) → pairs_in t ≡ table_told (table_in t)
+table_pairs : (t : Option (Bor (List ℕ))) → pairs_in t ≡ as_table (table_in t)
 table_pairs None = refl
 table_pairs (Some t) = refl
 
 abbrev pub made : Parts → Properties
-made parts = properties_told (parts_in parts)
+made parts = properties_from (parts_in parts)
 
 pub made_again : (parts : Parts) → properties_of (made parts) ≡ parts_in parts
-unfolding properties_told
+unfolding properties_from
 made_again parts =
     rw (
       text_again parts.front.content_type,
@@ -52,7 +52,7 @@ made_again parts =
     ) refl
 
 made_headers : (parts : Parts) → pairs_in parts.front.headers ≡ (made parts).headers
-unfolding properties_told
+unfolding properties_from
 made_headers parts = table_pairs parts.front.headers
 
 -- what was read, and the bytes that spell it
@@ -106,7 +106,7 @@ parts_read bytes flags_bytes values f is front back number =
 
 -- parts that are these properties
 pub same_made : (parts : Parts) (p : Properties) → parts_in parts ≡ properties_of p → made parts ≡ p
-same_made parts p e = ap properties_told e ∙ told_same p
+same_made parts p e = ap properties_from e ∙ told_same p
 
 pairs_mapped : (t : Option (Bor (List ℕ))) → option_map (λ (h : Bor (List ℕ)). h.now) t ≡ pairs_in t
 pairs_mapped None = refl

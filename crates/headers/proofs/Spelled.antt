@@ -1,6 +1,6 @@
 -- The bytes that spell properties tell them.
 use Rattle.headers.proofs.Names.{◌≡◌, ℕ, suc, ◌+◌, ◌%◌, ◌^◌, ◌<◌, Bool, eqb, List, [], ◌∷◌, ◌++◌, length, take, drop, Option, Some, None, refl, sym, ap, subst, ◌∙◌, arith, if◌then◌else◌, is_some, flat_map, take_at, drop_at, from_be_bytes-to_be_bytes_2, from_be_bytes-to_be_bytes_4, from_be_bytes-to_be_bytes_8, mod-eq_of_lt, Text, Argument, Long_long, Short_text, Field_table, argument, text_of, octet_of, time_of, table_of, properties_of, flags, value_of, IsValue, AreProperties, properties_bytes, First, first_text, first_octet, first_time, first_table, sorts, is_flagged, IsSpelling}
-use Rattle.model.specs.Properties.{values_told, properties_told, spelled_by}
+use Rattle.model.specs.Properties.{values_in, properties_from, spelled_by}
 use Rattle.model.specs.declared.contents.Fields.{Fields as Properties}
 use Rattle.headers.proofs.Flags.{flags-below, bit_is, first_flag}
 use Rattle.headers.proofs.Kept.{told_same}
@@ -47,16 +47,16 @@ same_len (first ∷ others) (o ∷ os) h = ap (λ (i : ℕ). suc i) (same_len ot
 
 -- one value, where it is known whether it is flagged
 abbrev one : Bool → ℕ → First → List First → List ℕ → List (Option Argument)
-one is f first others bytes = if is then (Some (first bytes) ∷ values_told f others (drop (length (argument (first bytes))) bytes)) else (None ∷ values_told f others bytes)
+one is f first others bytes = if is then (Some (first bytes) ∷ values_in f others (drop (length (argument (first bytes))) bytes)) else (None ∷ values_in f others bytes)
 
-one_told : (o : Option Argument) (f : ℕ) (first : First) (others : List First) (more : List ℕ) → Tells first o → one (is_some o) f first others (value_of o ++ more) ≡ o ∷ values_told f others more
+one_told : (o : Option Argument) (f : ℕ) (first : First) (others : List First) (more : List ℕ) → Tells first o → one (is_some o) f first others (value_of o ++ more) ≡ o ∷ values_in f others more
 one_told None f first others more tells = refl
 one_told (Some a) f first others more tells =
-    ap (λ (b : Argument). Some b ∷ values_told f others (drop (length (argument b)) (argument a ++ more))) (tells more)
-    ∙ ap (λ (z : List ℕ). Some a ∷ values_told f others z) (drop_at (argument a) more (length (argument a)) refl)
+    ap (λ (b : Argument). Some b ∷ values_in f others (drop (length (argument b)) (argument a ++ more))) (tells more)
+    ∙ ap (λ (z : List ℕ). Some a ∷ values_in f others z) (drop_at (argument a) more (length (argument a)) refl)
 
-values_again : (f : ℕ) (firsts : List First) (os : List (Option Argument)) → AllTell firsts os → f % 2 ^ (length firsts + 2) ≡ flags os → values_told f firsts (flat_map value_of os) ≡ os
-unfolding values_told
+values_again : (f : ℕ) (firsts : List First) (os : List (Option Argument)) → AllTell firsts os → f % 2 ^ (length firsts + 2) ≡ flags os → values_in f firsts (flat_map value_of os) ≡ os
+unfolding values_in
 values_again f [] [] tell e = refl
 values_again f [] (o ∷ os) tell e = absurd tell
 values_again f (first ∷ others) [] tell e = absurd tell
@@ -108,8 +108,8 @@ told_again p fits =
     let os : List (Option Argument) = properties_of p in
     let below = flags-below os in
     let small : flags os < 2 ^ 16 = omega (arith, below) in
-    ap (λ (f : ℕ). properties_told (values_told f sorts (flat_map value_of os))) (from_be_bytes-to_be_bytes_2 (flags os) small)
-    ∙ ap properties_told (values_again (flags os) sorts os (all_tell p fits) (mod-eq_of_lt small))
+    ap (λ (f : ℕ). properties_from (values_in f sorts (flat_map value_of os))) (from_be_bytes-to_be_bytes_2 (flags os) small)
+    ∙ ap properties_from (values_again (flags os) sorts os (all_tell p fits) (mod-eq_of_lt small))
     ∙ told_same p
 
 pub told : (p : Properties) (bytes : List ℕ) → AreProperties p → bytes ≡ properties_bytes p → spelled_by bytes ≡ p

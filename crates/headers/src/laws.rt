@@ -2,13 +2,13 @@
 
 ghost use Rattle.headers.specs.Laws.{OneHeader, SyntaxErrors};
 
-/// Proves that a payload means at most one thing: one header or one reply code. Does nothing when called.
-pub fn one_header()
+/// Proves that a payload means at most one thing: one header or one reply code. Does nothing at run time.
+pub fn ghost_one_header()
     ensures { OneHeader }
 {}
 
 /// Proves what is a syntax error (502): a set bit 1 or 0 of the flags, properties that end early or leave bytes over, headers that are no table.
-/// Does nothing when called.
-pub fn syntax_errors()
+/// Does nothing at run time.
+pub fn ghost_syntax_errors()
     ensures { SyntaxErrors }
 {}

@@ -17,7 +17,7 @@ mod telling;
 mod writing;
 
 pub use contents::{BadHeader, Header, UnwrittenHeader};
-pub use laws::{one_header, syntax_errors};
+pub use laws::{ghost_one_header, ghost_syntax_errors};
 pub use model::{Content, Properties};
 pub use reading::{read_header, read_size};
 pub use telling::{fields_of, headers_of};

@@ -1,5 +1,5 @@
 -- Whatever arrives, the world keeps what every world keeps.
-use Rattle.laws.proofs.Names.{◌≡◌, ℕ, List, [], refl, sym, subst, Config, State, Happening, AreCounted, Occurrence, events_of, AreCarried, Stream, World, new_world, Same, Turns, Waits, Pumps, Takes_off, Opens, Loses, Reloads, with_heard, IsConsistent, IsSound, AreKept}
+use Rattle.laws.proofs.Names.{◌≡◌, ℕ, List, [], refl, sym, subst, Config, State, Happening, AreCounted, Occurrence, events_of, AreCarried, Stream, World, new_world, Same, Turns, Waits, Pumps, TakesOutput, Opens, Loses, Reloads, with_heard, IsConsistent, IsSound, AreKept}
 use Rattle.std.proofs.Common.{◌+◌}
 use Rattle.model.specs.declared.events.Event.TheVariants as event
 use Rattle.laws.specs.Consistency.{WorldsStayConsistent, PlaysStayConsistent}
@@ -63,7 +63,7 @@ waits_consistent old new c k v = kept_consistent old new [] k (told_waits c old 
 pub hears_consistent : (w : World) (c : ℕ) (bytes : List ℕ) → IsConsistent w → IsConsistent (with_heard w c bytes)
 hears_consistent w c bytes k = kept_consistent w (with_heard w c bytes) [] k (record { run = refl; in_force = refl; each = tt }) (hears_linked w c bytes (linked w k))
 
-pub takes_consistent : (old new : World) (c n : ℕ) (hs : List Happening) → IsConsistent old → Takes_off old c n hs new → IsConsistent new
+pub takes_consistent : (old new : World) (c n : ℕ) (hs : List Happening) → IsConsistent old → TakesOutput old c n hs new → IsConsistent new
 takes_consistent old new c n hs k t = kept_consistent old new hs k (told_taken c n old new hs t) (takes_linked old new c n hs (linked old k) t)
 
 pub opens_consistent : (old new : World) (k : ℕ) (s : Stream) (hs : List Happening) → IsConsistent old → Opens old (event.Running (old.given + 1) 255 k) s hs new → IsConsistent new

@@ -1,5 +1,5 @@
 -- The worked examples of dead letters.
-use Rattle.laws.proofs.Names.{◌≡◌, ◌⊎◌, ◌≤◌, ℕ, Bool, true, false, List, [], ◌∷◌, ◌++◌, refl, sym, ap, subst, ◌∙◌, arith, lit≤, append-nil, inl, inr, length, None, codes, Contains, bytes_eq, false≢true, same_Some, bytes_eq-Decides, Text, Matches, word, any_none, any_more, no_pairs, Topology, IsIn, Reading, of_key, Edge, bound, alternate, default, Leads, here, on, RoutesBy, Routes, Comes, routed, dead, Picks, pass, key_after, reading_after, Message, TellsOfDeath, AreMarked, alone, added, marked_before, first_death, without_given, AreRejected, body_bytes, Said, with_sizes, is_entry_into, note_at, DiesInto, Rejection, AreRejections, next, rejection_notes, Entry, Rejected, Note, Entered, Refused, Left, Dead, DeclaredQueue, Any}
+use Rattle.laws.proofs.Names.{◌≡◌, ◌⊎◌, ◌≤◌, ℕ, Bool, true, false, List, [], ◌∷◌, ◌++◌, refl, sym, ap, subst, ◌∙◌, arith, lit≤, append-nil, inl, inr, length, None, codes, Contains, bytes_eq, false≢true, same_Some, bytes_eq-Decides, Text, Matches, word, any_none, any_more, no_pairs, Topology, IsIn, Reading, of_key, Edge, bound, alternate, default, Leads, here, on, RoutesBy, Routes, Comes, routed, dead, Picks, pass, key_after, reading_after, Message, DescribesDeath, AreMarked, alone, added, marked_before, first_death, without_given, AreRejected, body_bytes, Said, with_sizes, is_entry_into, note_at, DiesInto, Rejection, AreRejections, next, rejection_notes, Entry, Rejected, Note, Entered, Refused, Left, Dead, DeclaredQueue, Any}
 use Rattle.std.proofs.Common.{map, drop, Option, Some}
 use Rattle.model.specs.Words.{none as matches_none}
 use Rattle.model.specs.Routing.{none, take}
@@ -8,8 +8,8 @@ use Rattle.model.specs.Letters.{none as no_rejection}
 use Rattle.model.specs.declared.topologies.Binding.{Binding}
 use Rattle.model.specs.declared.topologies.Exchange.{Exchange}
 use Rattle.model.specs.declared.topologies.ExchangeKind.TheVariants.{Fanout}
-use Rattle.model.specs.declared.topologies.Place.{Place}
-use Rattle.model.specs.declared.topologies.Place.TheVariants as place
+use Rattle.model.specs.declared.topologies.Destination.{Destination}
+use Rattle.model.specs.declared.topologies.Destination.TheVariants as destination
 use Rattle.laws.specs.Deaths.{deaths, circle, full_topology, queue_with, EndsIn, first_publish, got_from, while_held, while_in_q1, DiesTo, in_q1, in_q, WorkedDeaths, DeathsRefuse}
 use Rattle.laws.proofs.Counts.{in_from_contains}
 use Rattle.laws.proofs.Marking.{added_tells}
@@ -21,7 +21,7 @@ differ a b distinct e = false≢true (sym distinct ∙ (bytes_eq-Decides a b).1 
 -- ---- the edges of a topology without alternate exchanges
 
 -- a binding of the exchange of this name leads there
-record Leading (t : Topology) (name : Text) (to : Place) : Type 0 where
+record Leading (t : Topology) (name : Text) (to : Destination) : Type 0 where
   binding : Binding
   there : IsIn binding t.bindings
   source : binding.source ≡ name
@@ -33,19 +33,19 @@ HaveNoAlternate t = (x : Exchange) → IsIn x t.exchanges → x.alternate ≡ No
 inside : {A : Type 0} (x : A) (xs : List A) → Contains xs x → IsIn x xs
 inside x xs c = in_from_contains xs x c.0 c.1 c.2
 
-edge_leads : (t : Topology) (r : Reading) (name : Text) (to : Place) → HaveNoAlternate t → Edge t r name to → Leading t name to ⊎ (name ≡ [])
+edge_leads : (t : Topology) (r : Reading) (name : Text) (to : Destination) → HaveNoAlternate t → Edge t r name to → Leading t name to ⊎ (name ≡ [])
 edge_leads t r name to plain (bound x b in_xs named is opens) = inl (record { binding = b; there = inside b t.bindings is.is_binding; source = is.source ∙ named; leads = is.leads })
 edge_leads t r name to plain (alternate x in_xs named other shuts) = absurd (false≢true (ap Rattle.std.specs.Prelude.is_some (sym (plain x (inside x t.exchanges in_xs)) ∙ other)))
 edge_leads t r name to plain (default q in_qs named names) = inr refl
 
 -- the queue of a place
-abbrev is_queue : Place → Bool
-is_queue (place.Queue q) = true
-is_queue (place.Exchange x) = false
+abbrev is_queue : Destination → Bool
+is_queue (destination.Queue q) = true
+is_queue (destination.Exchange x) = false
 
-abbrev queue_in : Place → Text
-queue_in (place.Queue q) = q
-queue_in (place.Exchange x) = []
+abbrev queue_in : Destination → Text
+queue_in (destination.Queue q) = q
+queue_in (destination.Exchange x) = []
 
 -- ---- deaths
 
@@ -56,12 +56,12 @@ deaths_plain x (inr (inr (inl e))) = ap (λ (z : Exchange). z.alternate) e
 deaths_plain x (inr (inr (inr none_left))) = absurd none_left
 
 -- from where an edge leads, and to which queue
-data DeathsEdge (name : Text) (to : Place) : Type 0 where
-  to_q1 : name ≡ codes "Y" → to ≡ place.Queue (codes "q1") → DeathsEdge name to
-  to_billing : name ≡ codes "D" → to ≡ place.Queue (codes "billing") → DeathsEdge name to
-  to_q3 : name ≡ codes "E" → to ≡ place.Queue (codes "q3") → DeathsEdge name to
+data DeathsEdge (name : Text) (to : Destination) : Type 0 where
+  to_q1 : name ≡ codes "Y" → to ≡ destination.Queue (codes "q1") → DeathsEdge name to
+  to_billing : name ≡ codes "D" → to ≡ destination.Queue (codes "billing") → DeathsEdge name to
+  to_q3 : name ≡ codes "E" → to ≡ destination.Queue (codes "q3") → DeathsEdge name to
 
-deaths_edge : (name : Text) (to : Place) → Leading deaths name to → DeathsEdge name to
+deaths_edge : (name : Text) (to : Destination) → Leading deaths name to → DeathsEdge name to
 deaths_edge name to l = by l.there
   where
     by : IsIn l.binding deaths.bindings → DeathsEdge name to
@@ -70,7 +70,7 @@ deaths_edge name to l = by l.there
     by (inr (inr (inl e))) = to_q3 (sym l.source ∙ ap (λ (b : Binding). b.source) e) (sym l.leads ∙ ap (λ (b : Binding). b.to) e)
     by (inr (inr (inr none_left))) = absurd none_left
 
-to_a_queue : (name : Text) (to : Place) → DeathsEdge name to → is_queue to ≡ true
+to_a_queue : (name : Text) (to : Destination) → DeathsEdge name to → is_queue to ≡ true
 to_a_queue name to (to_q1 n e) = ap is_queue e
 to_a_queue name to (to_billing n e) = ap is_queue e
 to_a_queue name to (to_q3 n e) = ap is_queue e
@@ -78,27 +78,27 @@ to_a_queue name to (to_q3 n e) = ap is_queue e
 -- no edge leads to an exchange
 deaths_here : (r : Reading) (x y : Text) → (x ≡ [] → ⊥) → Leads deaths r x y → y ≡ x
 deaths_here r x y named here = refl
-deaths_here r x y named (on {y = z} e more) = elim (edge_leads deaths r x (place.Exchange z) deaths_plain e) [
-  | inl l ↦ absurd (false≢true (to_a_queue x (place.Exchange z) (deaths_edge x (place.Exchange z) l)))
+deaths_here r x y named (on {y = z} e more) = elim (edge_leads deaths r x (destination.Exchange z) deaths_plain e) [
+  | inl l ↦ absurd (false≢true (to_a_queue x (destination.Exchange z) (deaths_edge x (destination.Exchange z) l)))
   | inr is ↦ absurd (named is)
 ]
 
-deaths_route : (r : Reading) (x q : Text) → (x ≡ [] → ⊥) → RoutesBy deaths r x q → DeathsEdge x (place.Queue q)
+deaths_route : (r : Reading) (x q : Text) → (x ≡ [] → ⊥) → RoutesBy deaths r x q → DeathsEdge x (destination.Queue q)
 deaths_route r x q named (y, leads, edge) =
     let is = deaths_here r x y named leads in
-    elim (edge_leads deaths r y (place.Queue q) deaths_plain edge) [
-      | inl l ↦ subst (λ (z : Text). DeathsEdge z (place.Queue q)) is (deaths_edge y (place.Queue q) l)
+    elim (edge_leads deaths r y (destination.Queue q) deaths_plain edge) [
+      | inl l ↦ subst (λ (z : Text). DeathsEdge z (destination.Queue q)) is (deaths_edge y (destination.Queue q) l)
       | inr empty ↦ absurd (named (sym is ∙ empty))
     ]
 
 -- the queue where an edge of D ends
-from_d : (q : Text) → DeathsEdge (codes "D") (place.Queue q) → q ≡ codes "billing"
+from_d : (q : Text) → DeathsEdge (codes "D") (destination.Queue q) → q ≡ codes "billing"
 from_d q (to_q1 n e) = absurd (differ (codes "D") (codes "Y") refl n)
 from_d q (to_billing n e) = ap queue_in e
 from_d q (to_q3 n e) = absurd (differ (codes "D") (codes "E") refl n)
 
 -- and of E
-from_e : (q : Text) → DeathsEdge (codes "E") (place.Queue q) → q ≡ codes "q3"
+from_e : (q : Text) → DeathsEdge (codes "E") (destination.Queue q) → q ≡ codes "q3"
 from_e q (to_q1 n e) = absurd (differ (codes "E") (codes "Y") refl n)
 from_e q (to_billing n e) = absurd (differ (codes "E") (codes "D") refl n)
 from_e q (to_q3 n e) = ap queue_in e
@@ -123,7 +123,7 @@ e_picks : Picks (Routes deaths (codes "E") (codes "pay")) (codes "q1" ∷ codes 
 e_picks = pass (λ ro. differ (codes "q1") (codes "q3") refl (e_alone (codes "pay") (codes "q1") ro)) (pass (λ ro. differ (codes "billing") (codes "q3") refl (e_alone (codes "pay") (codes "billing") ro)) (take (e_leads (of_key (codes "pay")) (λ k. tt)) none))
 
 -- headers of a first death tell of it
-tells : (queue exchange : Text) → length queue ≤ 255 → length exchange ≤ 254 → TellsOfDeath (first_death queue exchange)
+tells : (queue exchange : Text) → length queue ≤ 255 → length exchange ≤ 254 → DescribesDeath (first_death queue exchange)
 tells queue exchange q x = added_tells no_pairs queue exchange q (omega (arith, x)) (record { size = omega arith; fits = tt }) (omega arith)
 
 -- the queues after a message that was held there alone entered one
@@ -168,23 +168,23 @@ circle_plain : HaveNoAlternate circle
 circle_plain x (inl e) = ap (λ (z : Exchange). z.alternate) e
 circle_plain x (inr none_left) = absurd none_left
 
-circle_edge : (name : Text) (to : Place) → Leading circle name to → to ≡ place.Queue (codes "q")
+circle_edge : (name : Text) (to : Destination) → Leading circle name to → to ≡ destination.Queue (codes "q")
 circle_edge name to l = by l.there
   where
-    by : IsIn l.binding circle.bindings → to ≡ place.Queue (codes "q")
+    by : IsIn l.binding circle.bindings → to ≡ destination.Queue (codes "q")
     by (inl e) = sym l.leads ∙ ap (λ (b : Binding). b.to) e
     by (inr none_left) = absurd none_left
 
 circle_here : (r : Reading) (x y : Text) → (x ≡ [] → ⊥) → Leads circle r x y → y ≡ x
 circle_here r x y named here = refl
-circle_here r x y named (on {y = z} e more) = elim (edge_leads circle r x (place.Exchange z) circle_plain e) [
-  | inl l ↦ absurd (false≢true (ap is_queue (circle_edge x (place.Exchange z) l)))
+circle_here r x y named (on {y = z} e more) = elim (edge_leads circle r x (destination.Exchange z) circle_plain e) [
+  | inl l ↦ absurd (false≢true (ap is_queue (circle_edge x (destination.Exchange z) l)))
   | inr is ↦ absurd (named is)
 ]
 
 circle_route : (r : Reading) (q : Text) → RoutesBy circle r (codes "X") q → q ≡ codes "q"
-circle_route r q (y, leads, edge) = elim (edge_leads circle r y (place.Queue q) circle_plain edge) [
-  | inl l ↦ ap queue_in (circle_edge y (place.Queue q) l)
+circle_route r q (y, leads, edge) = elim (edge_leads circle r y (destination.Queue q) circle_plain edge) [
+  | inl l ↦ ap queue_in (circle_edge y (destination.Queue q) l)
   | inr is ↦ absurd (differ (codes "X") [] refl (sym (circle_here r (codes "X") y (differ (codes "X") [] refl) leads) ∙ is))
 ]
 
@@ -214,24 +214,24 @@ crowded_plain : HaveNoAlternate full_topology
 crowded_plain x (inl e) = ap (λ (z : Exchange). z.alternate) e
 crowded_plain x (inr none_left) = absurd none_left
 
-crowded_edge : (name : Text) (to : Place) → Leading full_topology name to → (to ≡ place.Queue (codes "billing")) ⊎ (to ≡ place.Queue (codes "full"))
+crowded_edge : (name : Text) (to : Destination) → Leading full_topology name to → (to ≡ destination.Queue (codes "billing")) ⊎ (to ≡ destination.Queue (codes "full"))
 crowded_edge name to l = by l.there
   where
-    by : IsIn l.binding full_topology.bindings → (to ≡ place.Queue (codes "billing")) ⊎ (to ≡ place.Queue (codes "full"))
+    by : IsIn l.binding full_topology.bindings → (to ≡ destination.Queue (codes "billing")) ⊎ (to ≡ destination.Queue (codes "full"))
     by (inl e) = inl (sym l.leads ∙ ap (λ (b : Binding). b.to) e)
     by (inr (inl e)) = inr (sym l.leads ∙ ap (λ (b : Binding). b.to) e)
     by (inr (inr none_left)) = absurd none_left
 
 crowded_here : (r : Reading) (x y : Text) → (x ≡ [] → ⊥) → Leads full_topology r x y → y ≡ x
 crowded_here r x y named here = refl
-crowded_here r x y named (on {y = z} e more) = elim (edge_leads full_topology r x (place.Exchange z) crowded_plain e) [
-  | inl l ↦ elim (crowded_edge x (place.Exchange z) l) [ inl is ↦ absurd (false≢true (ap is_queue is)) | inr is ↦ absurd (false≢true (ap is_queue is)) ]
+crowded_here r x y named (on {y = z} e more) = elim (edge_leads full_topology r x (destination.Exchange z) crowded_plain e) [
+  | inl l ↦ elim (crowded_edge x (destination.Exchange z) l) [ inl is ↦ absurd (false≢true (ap is_queue is)) | inr is ↦ absurd (false≢true (ap is_queue is)) ]
   | inr is ↦ absurd (named is)
 ]
 
 not_to_q1 : (key : Text) → Routes full_topology (codes "D") key (codes "q1") → ⊥
-not_to_q1 key (y, leads, edge) = elim (edge_leads full_topology (of_key key) y (place.Queue (codes "q1")) crowded_plain edge) [
-  | inl l ↦ elim (crowded_edge y (place.Queue (codes "q1")) l) [ inl is ↦ differ (codes "q1") (codes "billing") refl (ap queue_in is) | inr is ↦ differ (codes "q1") (codes "full") refl (ap queue_in is) ]
+not_to_q1 key (y, leads, edge) = elim (edge_leads full_topology (of_key key) y (destination.Queue (codes "q1")) crowded_plain edge) [
+  | inl l ↦ elim (crowded_edge y (destination.Queue (codes "q1")) l) [ inl is ↦ differ (codes "q1") (codes "billing") refl (ap queue_in is) | inr is ↦ differ (codes "q1") (codes "full") refl (ap queue_in is) ]
   | inr is ↦ differ (codes "D") [] refl (sym (crowded_here (of_key key) (codes "D") y (differ (codes "D") [] refl) leads) ∙ is)
 ]
 
@@ -380,9 +380,9 @@ then_leaves note other more a = go (first_of (subst (AreRejections deaths while_
     go (inr f) = ap (λ (ns : List Note). is_gone (first_note ns)) f.is
 
 -- where headers tell of a death they stay
-marked_once : (queue exchange headers : Text) (old new : Option Text) → old ≡ Some headers → TellsOfDeath headers → AreMarked queue exchange old new → new ≡ Some headers
+marked_once : (queue exchange headers : Text) (old new : Option Text) → old ≡ Some headers → DescribesDeath headers → AreMarked queue exchange old new → new ≡ Some headers
 marked_once queue exchange headers None new e tells alone = absurd (false≢true (ap Rattle.std.specs.Prelude.is_some e))
-marked_once queue exchange headers (Some old) new e tells (added unmarked) = absurd (unmarked (subst TellsOfDeath (sym (same_Some old headers e)) tells))
+marked_once queue exchange headers (Some old) new e tells (added unmarked) = absurd (unmarked (subst DescribesDeath (sym (same_Some old headers e)) tells))
 marked_once queue exchange headers (Some old) new e tells (marked_before told) = e
 
 not_twice : AreMarked (codes "billing") (codes "D") in_q1 (Some (first_death (codes "q1") (codes "Y") ++ first_death (codes "billing") (codes "D"))) → ⊥
@@ -426,7 +426,7 @@ deaths_refuse = record {
   refused_by_none = λ a. false≢true (billing_first _ _ a);
   entered_another = λ a. false≢true (billing_first _ _ a);
   lost = no_loss;
-  told_twice = not_twice;
+  two_deaths = not_twice;
   forgets = λ holds. holds (codes "a") (lit≤ tt) (record { pattern = any_key _; kept_in = λ e i m. i }) to_billing_by_death;
   forgets_second = λ holds. holds (codes "a") (lit≤ tt) (record { pattern = any_key _; kept_in = λ e i m. i }) to_q3_by_deaths;
   forgets_route = λ holds. holds (codes "a") (lit≤ tt) (record { pattern = any_key _; kept_in = λ e i m. i }) (routed circle_leads);

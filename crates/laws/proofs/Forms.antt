@@ -2,7 +2,7 @@
 use Rattle.laws.proofs.Names.{◌≡◌, ℕ, zero, suc, ◌≤◌, List, [], ◌∷◌, ◌++◌, Bool, true, false, cond, length, refl, sym, ap, ◌∙◌, arith, slice_get, take-append-drop, length-take, length-take-le, length-drop, Text, Message, pieces_of, Entry, ConnectionClose, ConnectionCloseOk}
 use Rattle.std.proofs.Common.{◌+◌, ◌<◌, take, drop, map, filter, Some}
 use Rattle.model.specs.declared.events.Send.TheVariants.{Greeting, Command}
-use Rattle.laws.specs.Forms.{takes_there, MessagesCome, ArePieces, BodiesAreCut, FirstTells}
+use Rattle.laws.specs.Forms.{takes_there, MessagesCome, ArePieces, BodiesAreCut, FirstDecides}
 
 -- ---- what comes to a queue
 
@@ -62,9 +62,9 @@ bodies_are_cut size bytes le = pieces_are size (length bytes) bytes le (omega ar
 
 -- ---- the phase after what was sent
 
-pub first_tells : FirstTells
-first_tells [] = refl
-first_tells (Greeting c ∷ sends) = first_tells sends
-first_tells (Command c h (ConnectionClose m) content ∷ sends) = refl
-first_tells (Command c h ConnectionCloseOk content ∷ sends) = refl
-first_tells (Command c h m content ∷ sends) = first_tells sends
+pub first_decides : FirstDecides
+first_decides [] = refl
+first_decides (Greeting c ∷ sends) = first_decides sends
+first_decides (Command c h (ConnectionClose m) content ∷ sends) = refl
+first_decides (Command c h ConnectionCloseOk content ∷ sends) = refl
+first_decides (Command c h m content ∷ sends) = first_decides sends

@@ -1,5 +1,5 @@
 -- Whatever arrives, the broker has the connections that run, knows which of them are paused, and has the channel-max of each.
-use Rattle.laws.proofs.Names.{◌≡◌, ◌≢◌, ℕ, List, [], ◌∷◌, Bool, true, false, cond, refl, sym, ap, subst, ◌∙◌, inl, inr, ◌&&◌, ◌==◌, ne_eqb, eqb-true, eqb-false, false≢true, with_one, Config, State, Happening, Occurrence, Stream, IsSaid, World, Wire, new_world, is_over, is_paused, is_past_bound, is_gone, can_open, Same, Turns, Waits, Works, none_more, one_more, WorksOff, Puts, Delivers, Pumps, delivers, idles, Takes_off, Opens, Loses, Reloads, Answers, Plays, with_heard, Arrival, Event}
+use Rattle.laws.proofs.Names.{◌≡◌, ◌≢◌, ℕ, List, [], ◌∷◌, Bool, true, false, cond, refl, sym, ap, subst, ◌∙◌, inl, inr, ◌&&◌, ◌==◌, ne_eqb, eqb-true, eqb-false, false≢true, with_one, Config, State, Happening, Occurrence, Stream, IsSaid, World, Wire, new_world, is_over, is_paused, is_past_bound, is_gone, can_open, Same, Turns, Waits, Works, none_more, one_more, WorksOff, Puts, Delivers, Pumps, delivers, idles, TakesOutput, Opens, Loses, Reloads, Answers, Plays, with_heard, Arrival, Event}
 use Rattle.std.proofs.Common.{◌+◌}
 use Rattle.std.specs.Prelude.{not}
 use Rattle.model.specs.declared.events.Arrival.TheVariants as arrival
@@ -53,7 +53,7 @@ pub hears_linked : (w : World) (c : ℕ) (bytes : List ℕ) → IsLinked w → I
 hears_linked w c bytes k = linked_same w (with_heard w c bytes) k refl
     (others_and_own w (with_heard w c bytes) c (λ d ne. ap (λ (x : Wire). x.output) (wire_changed w.wire c d _ ne)) (ap (λ (x : Wire). x.output) (with_here w.wire c _)))
 
-pub takes_linked : (old new : World) (c n : ℕ) (hs : List Happening) → IsLinked old → Takes_off old c n hs new → IsLinked new
+pub takes_linked : (old new : World) (c n : ℕ) (hs : List Happening) → IsLinked old → TakesOutput old c n hs new → IsLinked new
 takes_linked old new c n hs k t =
     settled_agrees old.config old.state new.state c (is_paused old c) (is_paused new c) hs (is_paused old) (is_paused new) t.pauses k refl refl
     (λ d ne. ap (λ (w : Wire). is_past_bound w.output) (t.wires d ∙ wire_changed old.wire c d _ ne))

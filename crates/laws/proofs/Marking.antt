@@ -1,5 +1,5 @@
 -- The header of a dead letter: it has a spelling, and is longer by little, and only once.
-use Rattle.laws.proofs.Names.{◌≡◌, ◌≤◌, ℕ, List, ◌∷◌, ◌++◌, length, refl, sym, ap, subst, ◌∙◌, arith, append_assoc, length-append, None, inl, inr, codes, common_steps, Text, Pairs, no_pairs, pair, Long_string, letter, content, pairs_bytes, ArePairs, HavePairsSpelling, IsTable, table_of, value_of, IsValue, AreProperties, header_bytes, IsWithin, death_queue, death_reason, death_exchange, first_death, IsFieldOf, TellsOfDeath, IsUnmarked, AreMarked, alone, added, marked_before, with_headers, IsStored, Content}
+use Rattle.laws.proofs.Names.{◌≡◌, ◌≤◌, ℕ, List, ◌∷◌, ◌++◌, length, refl, sym, ap, subst, ◌∙◌, arith, append_assoc, length-append, None, inl, inr, codes, common_steps, Text, Pairs, no_pairs, pair, Long_string, letter, content, pairs_bytes, ArePairs, HavePairsSpelling, IsTable, table_of, value_of, IsValue, AreProperties, header_bytes, IsWithin, death_queue, death_reason, death_exchange, first_death, IsFieldOf, DescribesDeath, IsUnmarked, AreMarked, alone, added, marked_before, with_headers, IsStored, Content}
 use Rattle.std.proofs.Common.{◌<◌, ◌+◌, Option, Some}
 use Rattle.model.specs.declared.contents.Fields.{Fields as Properties}
 
@@ -35,7 +35,7 @@ death_fits : (queue exchange : Text) → length queue ≤ 255 → length exchang
 death_fits queue exchange q x = (omega arith, omega (arith, q), (omega arith, omega arith, (omega arith, omega (arith, x), tt)))
 
 -- behind these headers, or alone, they tell of a death
-pub added_tells : (ps : Pairs) (queue exchange : Text) → length queue ≤ 255 → length exchange < 256 → HavePairsSpelling ps → length (pairs_bytes ps) ≤ 4000 → TellsOfDeath (pairs_bytes ps ++ first_death queue exchange)
+pub added_tells : (ps : Pairs) (queue exchange : Text) → length queue ≤ 255 → length exchange < 256 → HavePairsSpelling ps → length (pairs_bytes ps) ≤ 4000 → DescribesDeath (pairs_bytes ps ++ first_death queue exchange)
 added_tells ps queue exchange q x fits small = record {
   pairs = joined ps (death_pairs queue exchange);
   fits = record {
@@ -76,7 +76,7 @@ long_with content headers =
 
 module _ (queue exchange : Text) (q : length queue ≤ 255) (x : length exchange < 256) (content : Content) (is : IsStored content) where
   -- headers that are marked now, on a content that had grown by nothing
-  grown : (headers : Text) → IsTable headers → TellsOfDeath headers → long (with_headers content (Some headers)) ≤ 4001 → IsStored (with_headers content (Some headers))
+  grown : (headers : Text) → IsTable headers → DescribesDeath headers → long (with_headers content (Some headers)) ≤ 4001 → IsStored (with_headers content (Some headers))
   grown headers table tells small = record {
     properties = other_headers content.properties (Some headers) table is.properties;
     body = is.body;
@@ -84,8 +84,8 @@ module _ (queue exchange : Text) (q : length queue ≤ 255) (x : length exchange
     unmarked = λ none. absurd (none tells);
   }
 
-  table_told : (headers : Text) → TellsOfDeath headers → IsTable headers
-  table_told headers t = record { pairs = t.pairs; fits = t.fits; spelled = t.spelled }
+  described_table : (headers : Text) → DescribesDeath headers → IsTable headers
+  described_table headers t = record { pairs = t.pairs; fits = t.fits; spelled = t.spelled }
 
   more : (headers : Text) → content.properties.headers ≡ Some headers → IsUnmarked content.properties.headers → IsTable headers → IsStored (with_headers content (Some (headers ++ first_death queue exchange)))
   more headers e none table =
@@ -96,9 +96,9 @@ module _ (queue exchange : Text) (q : length queue ≤ 255) (x : length exchange
       let here : length (value_of (table_of content.properties.headers)) ≡ 4 + length headers = ap (λ (o : Option Text). length (value_of (table_of o))) e ∙ spelled_length headers in
       let there = spelled_length (headers ++ first_death queue exchange) in
       let with_them = long_with content (Some (headers ++ first_death queue exchange)) in
-      let tells : TellsOfDeath (headers ++ first_death queue exchange) = subst (λ (z : Text). TellsOfDeath (z ++ first_death queue exchange)) (sym table.spelled)
+      let tells : DescribesDeath (headers ++ first_death queue exchange) = subst (λ (z : Text). DescribesDeath (z ++ first_death queue exchange)) (sym table.spelled)
       (added_tells table.pairs queue exchange q x table.fits (let same = ap length table.spelled in omega (arith, same, here, splits, limit))) in
-      grown (headers ++ first_death queue exchange) (table_told (headers ++ first_death queue exchange) tells) tells (omega (arith, limit, death, all, here, there, with_them, q, x))
+      grown (headers ++ first_death queue exchange) (described_table (headers ++ first_death queue exchange) tells) tells (omega (arith, limit, death, all, here, there, with_them, q, x))
     where
       spelled_length : (t : Text) → length (value_of (table_of (Some t))) ≡ 4 + length t
       spelled_length t = grind (arith, common_steps, length-append)
@@ -110,8 +110,8 @@ module _ (queue exchange : Text) (q : length queue ≤ 255) (x : length exchange
       let here : length (value_of (table_of content.properties.headers)) ≡ 0 = ap (λ (o : Option Text). length (value_of (table_of o))) e in
       let there : length (value_of (table_of (Some (first_death queue exchange)))) ≡ 4 + length (first_death queue exchange) = grind (arith, common_steps, length-append) in
       let with_them = long_with content (Some (first_death queue exchange)) in
-      let tells : TellsOfDeath (first_death queue exchange) = added_tells no_pairs queue exchange q x (record { size = omega arith; fits = tt }) (omega arith) in
-      grown (first_death queue exchange) (table_told (first_death queue exchange) tells) tells (omega (arith, limit, death, here, there, with_them, q, x))
+      let tells : DescribesDeath (first_death queue exchange) = added_tells no_pairs queue exchange q x (record { size = omega arith; fits = tt }) (omega arith) in
+      grown (first_death queue exchange) (described_table (first_death queue exchange) tells) tells (omega (arith, limit, death, here, there, with_them, q, x))
 
   -- What is stored may be stored with its marked headers.
   pub stored_marked : (old headers : Option Text) → content.properties.headers ≡ old → AreMarked queue exchange old headers → IsStored (with_headers content headers)

@@ -1,5 +1,5 @@
 -- The consumers of each channel stay named, whatever the broker does, and what is delivered to them can be addressed.
-use Rattle.laws.proofs.Names.{◌≡◌, ℕ, zero, suc, ◌≤◌, List, [], ◌∷◌, Bool, true, false, cond, refl, sym, ap, subst, ◌∙◌, length, length-append, get_or, arith, None, inl, inr, is_some, nat_le, codes, decimal, ◌==◌, ◌&&◌, ◌||◌, AllByRecursion, AllPairs, list_any, bytes_eq, leb-true, leb-false, ne_eqb, false≢true, same_Some, length-decimal-le, AllPairs-filter, all_pairs_push, Text, Topology, IsIn, Consumer, Outstanding, Channel, Broker, new_channel, queue_named, is_ready, with_pair, with_row, is_refused, outstanding_after, is_tagged, is_in_use, server_tag, next_free, tag_for, is_tag_taken, is_tag_wanting, consumer_of, with_consumer, without_consumer, tag_of, greatest, Refusal, Of_channel, channel_or_new, or_else, refusal_in, refusal_of_asking, refusal_of_tag, refusal_of_many, refusal_of_consume, event_connection, IsSaid, IsGivenBelow, AreNamedOn, AreNamed, IsCarried, IsAddressed, Entry, Taker, Send, Event, Consume, Get, Note, ConsumersStayNamed, DeliveriesAreAddressed}
+use Rattle.laws.proofs.Names.{◌≡◌, ℕ, zero, suc, ◌≤◌, List, [], ◌∷◌, Bool, true, false, cond, refl, sym, ap, subst, ◌∙◌, length, length-append, get_or, arith, None, inl, inr, is_some, nat_le, codes, decimal, ◌==◌, ◌&&◌, ◌||◌, AllByRecursion, AllPairs, list_any, bytes_eq, leb-true, leb-false, ne_eqb, false≢true, same_Some, length-decimal-le, AllPairs-filter, all_pairs_push, Text, Topology, IsIn, Consumer, Outstanding, Channel, Broker, new_channel, queue_named, is_ready, with_pair, with_row, is_refused, outstanding_after, is_tagged, is_in_use, server_tag, next_free, tag_for, is_tag_taken, has_no_tag_left, consumer_of, with_consumer, without_consumer, tag_of, greatest, Refusal, Of_channel, channel_or_new, or_else, refusal_in, refusal_of_asking, refusal_of_tag, refusal_of_many, refusal_of_consume, event_connection, IsSaid, IsGivenBelow, AreNamedOn, AreNamed, IsCarried, IsAddressed, Entry, Taker, Send, Event, Consume, Get, Note, ConsumersStayNamed, DeliveriesAreAddressed}
 use Rattle.std.proofs.Common.{◌+◌, ◌<◌, filter, not, Option, Some}
 use Rattle.std.specs.Prelude.{if◌then◌else◌}
 use Rattle.model.specs.Settling.{kept, takes}
@@ -34,7 +34,7 @@ record Accepted (t : Topology) (ch : Channel) (m : Consume) : Type 0 where
   queue : is_some (queue_named t.queues m.queue) ≡ true
   free : is_tag_taken ch m.consumer_tag ≡ false
   few : nat_le 256 (length ch.consumers) ≡ false
-  left : is_tag_wanting ch m.consumer_tag ≡ false
+  left : has_no_tag_left ch m.consumer_tag ≡ false
 
 accepted : (t : Topology) (ch : Channel) (m : Consume) → refusal_of_consume t ch m ≡ None → Accepted t ch m
 accepted t ch m e =
@@ -46,7 +46,7 @@ accepted t ch m e =
       queue = found (is_some (queue_named t.queues m.queue)) queue.0;
       free = is_not _ _ tag.0;
       few = is_not _ _ many.0;
-      left = second (ch.next_number == greatest) (is_tag_wanting ch m.consumer_tag) (is_not _ _ many.1);
+      left = second (ch.next_number == greatest) (has_no_tag_left ch m.consumer_tag) (is_not _ _ many.1);
     }
   where
     found : (v : Bool) → (if v then None else Some (Of_channel 404)) ≡ None → v ≡ true
@@ -62,7 +62,7 @@ record GoodTag (ch : Channel) (tag : Text) : Type 0 where
   free : is_in_use tag ch.consumers ≡ false
   short : length tag < 256
 
-good_tag : (ch : Channel) (given : Text) → length given < 256 → is_tag_taken ch given ≡ false → is_tag_wanting ch given ≡ false → GoodTag ch (tag_for ch given)
+good_tag : (ch : Channel) (given : Text) → length given < 256 → is_tag_taken ch given ≡ false → has_no_tag_left ch given ≡ false → GoodTag ch (tag_for ch given)
 good_tag ch [] short free left = let lt = leb-false 18446744073709551615 (next_free ch) left in record { free = next_is_free ch lt; short = server_short (next_free ch) lt }
 good_tag ch (b ∷ bs) short free left = record { free = free; short = short }
 

@@ -14,14 +14,14 @@ pub use Rattle.model.specs.Acks.{EnteredOnce, HasAcksOf, IsReading, ack_for, ack
 pub use Rattle.model.specs.Agreement.{IsAgreed, IsHeld, IsOutstanding}
 pub use Rattle.model.specs.Allowed.{AreAllowed, AreAllowedIn, IsAllowed, IsNoted, WasSentTo}
 pub use Rattle.model.specs.Alone.{ArePresent, ChangesOwnAlone, event_connection}
-pub use Rattle.model.specs.Arrivals.{Answers, Delivers, Happens, IsSaid, Loses, Opens, Pauses, Plays, Pumps, Puts, Reads, Reloads, Same, SameToCome, Seen, Shown, Shows, TakesAndWorks, Takes_off, Turns, Waits, Wire, Works, WorksOff, World, again, can_open, delivers, event_of, fault, fresh, idles, is_ended, is_gone, is_over, is_past_bound, is_paused, new_wire, new_world, none_more, one_more, shown, still, under_session, waits, wire_after, with_heard}
+pub use Rattle.model.specs.Arrivals.{Answers, Delivers, Happens, IsSaid, Loses, Opens, Pauses, Plays, Pumps, Puts, Reads, Reloads, Same, SameToCome, Seen, Shown, Shows, TakesAndWorks, TakesOutput, Turns, Waits, Wire, Works, WorksOff, World, again, can_open, delivers, event_of, fault, fresh, idles, is_ended, is_gone, is_over, is_past_bound, is_paused, new_wire, new_world, none_more, one_more, shown, still, under_session, waits, wire_after, with_heard}
 pub use Rattle.model.specs.Broker.{Broker, Channel, Connection, Consumer, Outstanding, body_bytes, is_full, is_ready, new_channel, queue_named, ready_bytes, refuses, with_one, with_pair, with_row}
 pub use Rattle.model.specs.Causes.{DiesAt, HasCause, HasOrigin, HaveCauses, HaveOrigins, IsCauseAt, IsCauseIn, IsPublishedAt, WasGiven}
 pub use Rattle.model.specs.Commands.{Commands, Drops, Ends, GoesOn, Goes_on, HasWithin, IsWithin, Nothing, Pending, Stream, Taken, Takes, TakesFirst, TakesOn, TakesPayload, TakesSized, Wants_body, Wants_header, Yields, awaited, begun_body, beyond, broken, early, faulty, first, goes, heard, is_on_wrong_channel, is_too_large, keeping, later, no_publish, now, opened_stream, running_stream, short, stays, taken_body, taken_dropped, taken_header, taken_heartbeat, taken_method, taken_piece, with_max}
 pub use Rattle.model.specs.Consistent.{IsConsistent}
-pub use Rattle.model.specs.Consuming.{consumer_of, is_in_use, is_tag_taken, is_tag_wanting, is_tagged, next_free, server_tag, tag_for, with_consumer, without_consumer}
+pub use Rattle.model.specs.Consuming.{consumer_of, has_no_tag_left, is_in_use, is_tag_taken, is_tagged, next_free, server_tag, tag_for, with_consumer, without_consumer}
 pub use Rattle.model.specs.Contents.{AreSourced, HasSource, HaveSources, IsContentOf, IsOfPublish, WasPublished, after_death, as_published, content_in, given_out, sent_back}
-pub use Rattle.model.specs.Deaths.{AreMarked, DiesBy, DiesIn, IsDeath, IsFieldOf, IsUnmarked, MayDie, TellsOfDeath, added, alone, dead_letter, death_exchange, death_queue, death_reason, first_death, marked_before, with_headers}
+pub use Rattle.model.specs.Deaths.{AreMarked, DescribesDeath, DiesBy, DiesIn, IsDeath, IsFieldOf, IsUnmarked, MayDie, added, alone, dead_letter, death_exchange, death_queue, death_reason, first_death, marked_before, with_headers}
 pub use Rattle.model.specs.Deliveries.{AreLeft, AreRejected, AreReturned, AreSettled, Leaves, Rejects, Returns, Settlement, after_delivery, after_giving, after_purge, channel_after, delivery_notes, first_ready, given_in, holder_of, left_note, of_rejected, outstanding_after, purge_notes, ready_in, with_queue, with_returned, without_given}
 pub use Rattle.model.specs.Entries.{by_channel, by_connection, change_first, freed, freed_now, held_as, is_held_as, is_under, number_of, without_first}
 pub use Rattle.model.specs.Frames.{Begins, Frame, IsBroken, IsFrame, frame_bytes}
@@ -53,7 +53,7 @@ pub use Rattle.model.specs.Step.{Acts, Does, Gets, Ignored, Is, IsDelivery, IsPu
 pub use Rattle.model.specs.Tables.{ArePairs, HavePairsSpelling, IsTable, Long_string, Pairs, content, letter, no_pairs, pair, pairs_bytes}
 pub use Rattle.model.specs.Topology.{AreDistinct, IsIn, IsThere, IsWellFormed, Topology, queue_names}
 pub use Rattle.model.specs.Tracing.{AreKept, AreSafe, AreSentAlike, AreTraced, HasCome, HasComeTo, MayBeIn, NoneSurvived, by_death, by_publish}
-pub use Rattle.model.specs.Unrefused.{GetsAreAnswered, GivesOrTells, IsUnrefused, PurgesLeaveNone}
+pub use Rattle.model.specs.Unrefused.{GetsAreAnswered, GivesOrIsEmpty, IsUnrefused, PurgesLeaveNone}
 pub use Rattle.model.specs.Words.{Matches, Text, any_more, any_none, one, onto_first, pieces, word, words}
 pub use Rattle.model.specs.declared.contents.Content.{Content}
 pub use Rattle.model.specs.declared.events.Arrival.{Arrival}

@@ -4,7 +4,7 @@ use Rattle.std.proofs.Common.{◌+◌, ◌<◌, Option, Some}
 use Rattle.std.specs.Prelude.{if◌then◌else◌}
 use Rattle.model.specs.Step.{entry_notes}
 use Rattle.model.specs.Acks.{Acked}
-use Rattle.model.specs.declared.topologies.Place.TheVariants as place
+use Rattle.model.specs.declared.topologies.Destination.TheVariants as destination
 use Rattle.model.specs.declared.notes.Way.TheVariants as way
 use Rattle.laws.proofs.Counts.{count-append, count-cons, count-cons_no, count_none, all-append, all_each, in_from_contains, in-map}
 use Rattle.laws.proofs.Targets.{same_as, count_target}
@@ -116,7 +116,7 @@ acked_by_answer p = told_by_answer p (is_ack_of (number p)) others
 pub routed_is_there : (t : Topology) (x key q : Text) → IsWellFormed t → Routes t x key q → IsIn q (queue_names t.queues)
 routed_is_there t x key q wf (y, leads, edge) = go y q edge
   where
-    go : (y q : Text) → Edge t (of_key key) y (place.Queue q) → IsIn q (queue_names t.queues)
+    go : (y q : Text) → Edge t (of_key key) y (destination.Queue q) → IsIn q (queue_names t.queues)
     go y q (bound ex b c e o p) = subst (IsThere t) o.leads (wf.ends b o.is_binding)
     go y q (default queue c e k) = subst (λ z. IsIn z (queue_names t.queues)) e (in-map (λ (z : DeclaredQueue). z.name) queue t.queues (in_from_contains t.queues queue c.0 c.1 c.2))
 

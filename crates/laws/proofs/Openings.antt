@@ -1,5 +1,5 @@
 -- Whatever arrives, a connection is in Header exactly while its first eight bytes are not performed.
-use Rattle.laws.proofs.Names.{◌≡◌, ◌≢◌, ℕ, List, [], ◌∷◌, Bool, true, false, cond, refl, sym, ap, subst, ◌∙◌, inl, inr, None, ◌==◌, eqb-true, eqb-false, false≢true, with_one, Stream, Yields, GoesOn, stays, Ends, heard, opened_stream, running_stream, new_session, Session, running_session, no_session, Config, State, Step, Happening, Occurrence, World, Wire, new_world, new_wire, wire_after, under_session, is_ended, is_over, is_gone, can_open, event_of, Reads, again, fresh, fault, SameToCome, still, waits, Turns, Waits, Works, none_more, one_more, WorksOff, Takes_off, Delivers, Pumps, delivers, idles, Reloads, Answers, Plays, with_heard, Head, Plain, Full, Send, Event, Arrival, Note, event_connection, is_head, is_header, is_first, AreToCome, ReadsByPhase, OpeningsReadByPhase}
+use Rattle.laws.proofs.Names.{◌≡◌, ◌≢◌, ℕ, List, [], ◌∷◌, Bool, true, false, cond, refl, sym, ap, subst, ◌∙◌, inl, inr, None, ◌==◌, eqb-true, eqb-false, false≢true, with_one, Stream, Yields, GoesOn, stays, Ends, heard, opened_stream, running_stream, new_session, Session, running_session, no_session, Config, State, Step, Happening, Occurrence, World, Wire, new_world, new_wire, wire_after, under_session, is_ended, is_over, is_gone, can_open, event_of, Reads, again, fresh, fault, SameToCome, still, waits, Turns, Waits, Works, none_more, one_more, WorksOff, TakesOutput, Delivers, Pumps, delivers, idles, Reloads, Answers, Plays, with_heard, Head, Plain, Full, Send, Event, Arrival, Note, event_connection, is_head, is_header, is_first, AreToCome, ReadsByPhase, OpeningsReadByPhase}
 use Rattle.std.proofs.Common.{◌+◌, Option, Some}
 use Rattle.std.specs.Prelude.{if◌then◌else◌}
 use Rattle.model.specs.Commands.{goes as read_on}
@@ -148,7 +148,7 @@ heard_all w c bytes a d = by (d == c) refl
         (heard_wire (is_header (w.state.session d).phase) (w.wire d).kept (w.wire d).stream (heard (w.wire d).stream bytes) refl (a d))
     by false e = a d
 
-takes_all : (c n : ℕ) (old new : World) (hs : List Happening) → Takes_off old c n hs new → All old → All new
+takes_all : (c n : ℕ) (old new : World) (hs : List Happening) → TakesOutput old c n hs new → All old → All new
 takes_all c n old new hs t a d =
     wire_as _ _ _ (new.wire d) (session_as (old.state.session d) (new.state.session d) (settled_sessions old.config old.state new.state c _ _ hs t.pauses d)) (t.wires d) (by (d == c) refl)
   where

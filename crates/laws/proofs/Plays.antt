@@ -1,5 +1,5 @@
 -- Whatever is done, what happens is a run, under what is in force, of commands that were said and sends that were put out.
-use Rattle.laws.proofs.Names.{◌≡◌, ◌≤◌, ℕ, List, [], ◌∷◌, ◌++◌, Bool, true, false, refl, sym, subst, ◌⊎◌, inl, inr, AllByRecursion, Config, State, Step, Happening, Run, IsSpelled, Stream, World, Turns, Works, none_more, one_more, Waits, WorksOff, Same, with_heard, Opens, Loses, Pumps, delivers, idles, Takes_off, TakesAndWorks, Puts, Pauses, Happens, IsSaid, Send, Event, IsSound, AreSaid, AreSound, InForce, config_after}
+use Rattle.laws.proofs.Names.{◌≡◌, ◌≤◌, ℕ, List, [], ◌∷◌, ◌++◌, Bool, true, false, refl, sym, subst, ◌⊎◌, inl, inr, AllByRecursion, Config, State, Step, Happening, Run, IsSpelled, Stream, World, Turns, Works, none_more, one_more, Waits, WorksOff, Same, with_heard, Opens, Loses, Pumps, delivers, idles, TakesOutput, TakesAndWorks, Puts, Pauses, Happens, IsSaid, Send, Event, IsSound, AreSaid, AreSound, InForce, config_after}
 use Rattle.model.specs.declared.events.Event.TheVariants as event
 use Rattle.laws.proofs.Counts.{all-append}
 
@@ -141,7 +141,7 @@ told_works_off c a b hs w = told_waits c a w.mid b hs (told_works c a w.mid hs w
 pub told_heard : (a b : World) (c : ℕ) (bytes : List ℕ) (hs : List Happening) → Told (with_heard a c bytes) hs b → Told a hs b
 told_heard a b c bytes hs t = record { run = t.run; in_force = t.in_force; each = t.each }
 
-pub told_taken : (c n : ℕ) (a b : World) (hs : List Happening) → Takes_off a c n hs b → Told a hs b
+pub told_taken : (c n : ℕ) (a b : World) (hs : List Happening) → TakesOutput a c n hs b → Told a hs b
 told_taken c n a b hs t =
     let s = settled_is a.config a.state b.state c _ _ hs t.pauses in
     record { run = s.run; in_force = stays_in_force a.config b.config hs t.config s.in_force; each = s.each }

@@ -1,5 +1,5 @@
 -- Whatever arrives, what a connection was sent so far is as its phase says: commands, or the protocol header alone.
-use Rattle.laws.proofs.Names.{◌≡◌, ◌≢◌, ℕ, List, [], ◌∷◌, ◌++◌, Bool, true, false, cond, refl, sym, ap, subst, ◌∙◌, ◌⊎◌, inl, inr, append-nil, append_assoc, arith, ◌==◌, ◌&&◌, is_some, AllByRecursion, flat_map-append, filter-append, eq-eqb, eqb-true, eqb-false, ne_eqb, false≢true, with_one, Stream, new_session, Session, running_session, no_session, is_running, after_method, after_sends, to_phase, Config, State, Step, Happening, sends_of, Occurrence, Of_event, events_of, receiver, sends_to, World, new_world, is_ended, is_over, is_paused, is_gone, can_open, event_of, Reads, again, fresh, fault, Pauses, Puts, Turns, Waits, Works, none_more, one_more, WorksOff, Same, Takes_off, Opens, Loses, Reloads, Answers, Plays, with_heard, Delivers, Pumps, delivers, idles, Method, ConnectionClose, ConnectionCloseOk, Head, Plain, Full, Send, Phase, Event, Arrival, Note, event_connection, is_header}
+use Rattle.laws.proofs.Names.{◌≡◌, ◌≢◌, ℕ, List, [], ◌∷◌, ◌++◌, Bool, true, false, cond, refl, sym, ap, subst, ◌∙◌, ◌⊎◌, inl, inr, append-nil, append_assoc, arith, ◌==◌, ◌&&◌, is_some, AllByRecursion, flat_map-append, filter-append, eq-eqb, eqb-true, eqb-false, ne_eqb, false≢true, with_one, Stream, new_session, Session, running_session, no_session, is_running, after_method, after_sends, to_phase, Config, State, Step, Happening, sends_of, Occurrence, Of_event, events_of, receiver, sends_to, World, new_world, is_ended, is_over, is_paused, is_gone, can_open, event_of, Reads, again, fresh, fault, Pauses, Puts, Turns, Waits, Works, none_more, one_more, WorksOff, Same, TakesOutput, Opens, Loses, Reloads, Answers, Plays, with_heard, Delivers, Pumps, delivers, idles, Method, ConnectionClose, ConnectionCloseOk, Head, Plain, Full, Send, Phase, Event, Arrival, Note, event_connection, is_header}
 use Rattle.std.proofs.Common.{◌<◌, ◌+◌, map, Option}
 use Rattle.std.specs.Prelude.{filter, not}
 use Rattle.model.specs.declared.events.Command.{Command}
@@ -256,7 +256,7 @@ loses_speaks old new c hs o d sent s = by (d == c) refl
         let session : new.state.session d ≡ old.state.session d = o.happens.stepped.session d ∙ ap (λ (b : Bool). cond b no_session (old.state.session d)) e in
         speaks_nothing old new hs d sent o.given session none s
 
-pub takes_speaks : (c n : ℕ) (old new : World) (hs : List Happening) → Takes_off old c n hs new → Speaks old hs new
+pub takes_speaks : (c n : ℕ) (old new : World) (hs : List Happening) → TakesOutput old c n hs new → Speaks old hs new
 takes_speaks c n old new hs t d sent s =
     speaks_nothing old new hs d sent t.given (settled_sessions old.config old.state new.state c _ _ hs t.pauses d) (ap (sends_to d) (settled_silent old.config old.state new.state c _ _ hs t.pauses)) s
 

@@ -1,5 +1,5 @@
 -- What is done for a command against which nothing stands.
-use Rattle.laws.proofs.Names.{◌≡◌, ℕ, List, [], ◌∷◌, Bool, true, false, refl, sym, ap, subst, ◌∙◌, None, inl, inr, find, false≢true, is_ready, first_ready, is_running, Refusal, Acts, Gets, Performs, OnConnection, channel_or_new, refusal, Step, Happening, event_connection, to_get, IsUnrefused, GivesOrTells, GetsAreAnswered, PurgesLeaveNone, Entry, Method, BasicGet, QueuePurge, Event}
+use Rattle.laws.proofs.Names.{◌≡◌, ℕ, List, [], ◌∷◌, Bool, true, false, refl, sym, ap, subst, ◌∙◌, None, inl, inr, find, false≢true, is_ready, first_ready, is_running, Refusal, Acts, Gets, Performs, OnConnection, channel_or_new, refusal, Step, Happening, event_connection, to_get, IsUnrefused, GivesOrIsEmpty, GetsAreAnswered, PurgesLeaveNone, Entry, Method, BasicGet, QueuePurge, Event}
 use Rattle.std.proofs.Common.{filter, not, Option, Some}
 use Rattle.std.specs.Prelude.{if◌then◌else◌}
 use Rattle.model.specs.Step.{Decides}
@@ -24,7 +24,7 @@ is_performed h s c k m u = elim (goes h.config h.before h.after h.sends h.notes 
 pub step_answers : (h : Happening) → Step h.config h.before h.event h.sends h.notes h.after → GetsAreAnswered h
 step_answers h s c k m u = go (first_ready (h.before.broker.queue m.queue)) refl (is_performed h s c k (BasicGet m) u)
   where
-    go : (o : Option Entry) → first_ready (h.before.broker.queue m.queue) ≡ o → Gets h.before.broker c k (channel_or_new (h.before.broker.channel c k)) m o h.sends h.notes h.after.broker → GivesOrTells h c k m o
+    go : (o : Option Entry) → first_ready (h.before.broker.queue m.queue) ≡ o → Gets h.before.broker c k (channel_or_new (h.before.broker.channel c k)) m o h.sends h.notes h.after.broker → GivesOrIsEmpty h c k m o
     go None is p = p.sent
     go (Some e) is p = to_get (channel_or_new (h.before.broker.channel c k)) u.event (is_open h.config.topology h.before.broker u.connection k m (h.before.broker.channel c k) u.accepted) is p
 

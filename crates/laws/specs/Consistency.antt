@@ -5,7 +5,7 @@ use Rattle.model.specs.State.{Config}
 use Rattle.model.specs.Run.{Happening}
 use Rattle.model.specs.History.{Occurrence}
 use Rattle.model.specs.Commands.{Stream}
-use Rattle.model.specs.Arrivals.{World, new_world, Turns, Waits, Takes_off, Opens, Loses, Pumps, Reloads, Plays, with_heard}
+use Rattle.model.specs.Arrivals.{World, new_world, Turns, Waits, TakesOutput, Opens, Loses, Pumps, Reloads, Plays, with_heard}
 use Rattle.model.specs.Consistent.{IsConsistent}
 use Rattle.model.specs.declared.events.Arrival.{Arrival}
 use Rattle.model.specs.declared.events.Event.TheVariants as event
@@ -18,7 +18,7 @@ pub record WorldsStayConsistent : Type 0 where
   pub turns : (old new : World) (c : ℕ) (hs : List Happening) → IsConsistent old → Turns old c hs new → IsConsistent new
   pub waits : (old new : World) (c : ℕ) → IsConsistent old → Waits old c new → IsConsistent new
   pub hears : (w : World) (c : ℕ) (bytes : List ℕ) → IsConsistent w → IsConsistent (with_heard w c bytes)
-  pub takes : (old new : World) (c n : ℕ) (hs : List Happening) → IsConsistent old → Takes_off old c n hs new → IsConsistent new
+  pub takes : (old new : World) (c n : ℕ) (hs : List Happening) → IsConsistent old → TakesOutput old c n hs new → IsConsistent new
   pub opens : (old new : World) (k : ℕ) (s : Stream) (hs : List Happening) → IsConsistent old
       → Opens old (event.Running (old.given + 1) 255 k) s hs new → IsConsistent new
   pub awaits : (old new : World) (s : Stream) (hs : List Happening) → IsConsistent old → Opens old (event.Open (old.given + 1)) s hs new → IsConsistent new

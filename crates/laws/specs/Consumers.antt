@@ -10,7 +10,7 @@ use Rattle.model.specs.State.{Config}
 use Rattle.model.specs.Commands.{Stream}
 use Rattle.model.specs.Run.{Happening, empty_broker}
 use Rattle.model.specs.History.{Occurrence}
-use Rattle.model.specs.Arrivals.{IsSaid, World, new_world, Turns, Waits, Takes_off, Opens, Loses, Pumps, Reloads, Plays, with_heard}
+use Rattle.model.specs.Arrivals.{IsSaid, World, new_world, Turns, Waits, TakesOutput, Opens, Loses, Pumps, Reloads, Plays, with_heard}
 use Rattle.model.specs.Naming.{AreNamedOn, AreNamed}
 use Rattle.model.specs.Sending.{AreCarried, IsAddressed}
 use Rattle.model.specs.declared.events.Send.{Send}
@@ -42,7 +42,7 @@ pub record WorldsStayNamed : Type 0 where
   pub turns : (old new : World) (c : ℕ) (hs : List Happening) → IsWorldNamed old → Turns old c hs new → IsWorldNamed new
   pub waits : (old new : World) (c : ℕ) → IsWorldNamed old → Waits old c new → IsWorldNamed new
   pub hears : (w : World) (c : ℕ) (bytes : List ℕ) → IsWorldNamed w → IsWorldNamed (with_heard w c bytes)
-  pub takes : (old new : World) (c n : ℕ) (hs : List Happening) → IsWorldNamed old → Takes_off old c n hs new → IsWorldNamed new
+  pub takes : (old new : World) (c n : ℕ) (hs : List Happening) → IsWorldNamed old → TakesOutput old c n hs new → IsWorldNamed new
   pub opens : (old new : World) (e : Event) (s : Stream) (hs : List Happening) → IsSaid e → IsWorldNamed old → Opens old e s hs new → IsWorldNamed new
   pub loses : (old new : World) (c : ℕ) (hs : List Happening) → IsWorldNamed old → Loses old c hs new → IsWorldNamed new
   pub pumps : (old new : World) (hs : List Happening) → IsWorldNamed old → Pumps old hs new → IsWorldNamed new

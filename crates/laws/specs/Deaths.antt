@@ -24,7 +24,7 @@ use Rattle.model.specs.declared.topologies.Exchange.{Exchange}
 use Rattle.model.specs.declared.topologies.ExchangeKind.{ExchangeKind}
 use Rattle.model.specs.declared.topologies.ExchangeKind.TheVariants.{Direct, Fanout, Topic}
 use Rattle.model.specs.declared.topologies.Mode.TheVariants.{Never}
-use Rattle.model.specs.declared.topologies.Place.TheVariants as place
+use Rattle.model.specs.declared.topologies.Destination.TheVariants as destination
 use Rattle.laws.specs.Rows.{one_queue}
 
 -- ---- topologies
@@ -39,7 +39,7 @@ queue_with name exchange key = record { name = name; limit = None; byte_limit = 
 
 -- A binding from the exchange `source` to the queue `queue` under `key`.
 abbrev pub binding_to_queue : Text → Text → Text → Binding
-binding_to_queue source key queue = record { source = source; to = place.Queue queue; key = key }
+binding_to_queue source key queue = record { source = source; to = destination.Queue queue; key = key }
 
 -- `Y` leads to `q1`, which dead-letters to `D` under the key `pay`. From there `D` leads to
 -- `billing`, which dead-letters to `E` under the message's own key, and `E` leads to `q3`.
@@ -150,7 +150,7 @@ while_in_q1 = while_held (codes "q1") (first_publish (codes "Y") (codes "Y") (co
 
 -- What the definitions refuse: a dead letter that is lost, a second death in the headers, and guarantees that forget deaths.
 pub record DeathsRefuse : Type 0 where
-  -- Notes of a rejection tell of its dead letter, and of each queue once.
+  -- Notes of a rejection name its dead letter, and each queue once.
   pub letter_not_noted : AreRejections deaths while_in_q1 [] (Left 1 (codes "q1") Rejected ∷ []) → ⊥
   pub letter_noted_twice : AreRejections deaths while_in_q1 []
       (Left 1 (codes "q1") Rejected ∷ Entered 1 (codes "billing") Dead ∷ Entered 1 (codes "billing") Dead ∷ []) → ⊥
@@ -160,8 +160,8 @@ pub record DeathsRefuse : Type 0 where
   -- A dead letter is not lost if a queue takes it.
   pub lost : (after : Text → List Entry) → AreRejected deaths 1 1 (got_from (codes "q1") ∷ [])
       (while_held (codes "q1") (first_publish (codes "Y") (codes "Y") (codes "a") None)) (Left 1 (codes "q1") Rejected ∷ []) after → ⊥
-  -- Headers do not tell of a second death.
-  pub told_twice : AreMarked (codes "billing") (codes "D") in_q1 (Some (first_death (codes "q1") (codes "Y") ++ first_death (codes "billing") (codes "D"))) → ⊥
+  -- The headers describe no second death.
+  pub two_deaths : AreMarked (codes "billing") (codes "D") in_q1 (Some (first_death (codes "q1") (codes "Y") ++ first_death (codes "billing") (codes "D"))) → ⊥
   -- A guarantee that forgets where dead letters go does not hold.
   pub forgets : Holds deaths (never_to (codes "Y") (codes "billing")) → ⊥
   pub forgets_second : Holds deaths (never_to (codes "Y") (codes "q3")) → ⊥

@@ -44,22 +44,22 @@ BodiesAreCut = (size : ℕ) (bytes : List ℕ) → 1 ≤ size → ArePieces size
 -- ---- the phase after what was sent
 
 -- Whether sending the method changes the phase: connection.close and close-ok do.
-abbrev pub is_telling : Method → Bool
-is_telling (ConnectionClose m) = true
-is_telling ConnectionCloseOk = true
-is_telling m = false
+abbrev pub method_changes_phase : Method → Bool
+method_changes_phase (ConnectionClose m) = true
+method_changes_phase ConnectionCloseOk = true
+method_changes_phase m = false
 
 -- Whether the send carries a method that changes the phase.
-abbrev pub tells_phase : Send → Bool
-tells_phase (Greeting c) = false
-tells_phase (Command c h m content) = is_telling m
+abbrev pub changes_phase : Send → Bool
+changes_phase (Greeting c) = false
+changes_phase (Command c h m content) = method_changes_phase m
 
 -- The phase after the first send that changes it; Running if there is no such send.
-abbrev pub phase_told : Option Send → Phase
-phase_told (Some (Command c h m content)) = after_method m phase.Running
-phase_told (Some (Greeting c)) = phase.Running
-phase_told None = phase.Running
+abbrev pub phase_after : Option Send → Phase
+phase_after (Some (Command c h m content)) = after_method m phase.Running
+phase_after (Some (Greeting c)) = phase.Running
+phase_after None = phase.Running
 
 -- The first connection.close or close-ok among the sends decides the phase; without one it is Running.
-abbrev pub FirstTells : Type 0
-FirstTells = (sends : List Send) → after_sends sends ≡ phase_told (find tells_phase sends)
+abbrev pub FirstDecides : Type 0
+FirstDecides = (sends : List Send) → after_sends sends ≡ phase_after (find changes_phase sends)

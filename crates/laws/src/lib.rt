@@ -16,7 +16,7 @@ ghost use Rattle.laws.specs.Consistency.{PlaysStayConsistent, WorldsStayConsiste
 ghost use Rattle.laws.specs.Deaths.{DeathsRefuse, WorkedDeaths};
 ghost use Rattle.laws.specs.Delivery.{OneReading, HeadlineHolds, PumpsKeep, TurnsConfirm, TurnsKeep};
 ghost use Rattle.laws.specs.OneStep.{EveryRunBalances, EveryRunCounts, EveryRunStays};
-ghost use Rattle.laws.specs.Forms.{BodiesAreCut, FirstTells, MessagesCome};
+ghost use Rattle.laws.specs.Forms.{BodiesAreCut, FirstDecides, MessagesCome};
 ghost use Rattle.laws.specs.Openings.{OpeningsReadByPhase};
 ghost use Rattle.laws.specs.Order.{EnteringIsFresh, GivenAfterThoseAhead, GivenInOrder, HeldAreGiven, MarksAreGiven};
 ghost use Rattle.laws.specs.Promises.{AckedEnterOnce, AcksAreAcked, CausesAreShown, ForbiddenAreNotEntered, ForbiddenAreNotEnteredAtEvents};
@@ -33,7 +33,7 @@ ghost use Rattle.model.specs.Topology.{Topology};
 ghost use Rattle.model.specs.Words.{Text, words};
 
 /// No two keys have the same words.
-pub fn words_tell_keys_apart()
+pub fn keys_differ_by_words()
     ensures { (a b : Text) → words a ≡ words b → a ≡ b }
 {}
 
@@ -254,7 +254,7 @@ pub fn messages_are_given_in_order()
 {}
 
 /// What enters a queue is at its end, in the order of the notes, and not marked as redelivered. Only a message given out of its queue gets that mark.
-pub fn marks_tell_of_deliveries()
+pub fn marks_mean_deliveries()
     ensures fresh { EnteringIsFresh }
     ensures marked { MarksAreGiven }
 {}
@@ -270,8 +270,8 @@ pub fn bodies_are_cut()
 {}
 
 /// The first connection.close or close-ok that was sent decides the phase of its connection; without one the connection runs.
-pub fn first_close_tells()
-    ensures { FirstTells }
+pub fn first_close_decides()
+    ensures { FirstDecides }
 {}
 
 /// A client can read an output in one way only.

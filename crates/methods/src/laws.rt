@@ -2,7 +2,7 @@
 
 ghost use Rattle.methods.specs.Laws.{OneMethod};
 
-/// Proves that a payload means at most one thing: one method or one reply code. Does nothing when called.
-pub fn one_method()
+/// Proves that a payload means at most one thing: one method or one reply code. Does nothing at run time.
+pub fn ghost_one_method()
     ensures { OneMethod }
 {}

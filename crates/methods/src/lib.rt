@@ -17,7 +17,7 @@ mod reading;
 mod refusals;
 mod writing;
 
-pub use laws::one_method;
+pub use laws::ghost_one_method;
 pub use model::Method;
 pub use reading::read_method;
 pub use refusals::{BadMethod, UnwrittenMethod};

@@ -109,9 +109,9 @@ abbrev pub is_gone : World → ℕ → Bool
 is_gone w c = is_over w c && not (has_output w c)
 
 -- How many of the connections 1 to `n` are not gone.
-abbrev pub standing : World → ℕ → ℕ
-standing w zero = 0
-standing w (suc n) = if is_gone w (suc n) then standing w n else standing w n + 1
+abbrev pub count_open : World → ℕ → ℕ
+count_open w zero = 0
+count_open w (suc n) = if is_gone w (suc n) then count_open w n else count_open w n + 1
 
 -- ---- what is read
 
@@ -236,15 +236,15 @@ abbrev pub with_heard : World → ℕ → List ℕ → World
 with_heard w c bytes = record w { wire = with_one w.wire c (record (w.wire c) { stream = heard (w.wire c).stream bytes }) }
 
 -- The first `n` bytes of the output of connection `c` are taken, or all if there are fewer. This may resume the connection.
-pub record Takes_off (old : World) (c n : ℕ) (hs : List Happening) (new : World) : Type 0 where
+pub record TakesOutput (old : World) (c n : ℕ) (hs : List Happening) (new : World) : Type 0 where
   pub config : new.config ≡ old.config
   pub given : new.given ≡ old.given
   pub wires : (d : ℕ) → new.wire d ≡ with_one old.wire c (record (old.wire c) { output = drop n (old.wire c).output }) d
   pub pauses : Pauses old.config old.state c (is_paused old c) (is_paused new c) hs new.state
 
--- Whether another connection can be opened: fewer than 1,024 are `standing`, and a number that was never given is left.
+-- Whether another connection can be opened: fewer than 1,024 are `count_open`, and a number that was never given is left.
 abbrev pub can_open : World → Bool
-can_open w = nat_lt (standing w w.given) 1024 && nat_lt w.given 18446744073709551615
+can_open w = nat_lt (count_open w w.given) 1024 && nat_lt w.given 18446744073709551615
 
 -- The event `e` opens a connection under the next number, with the stream `s`; nothing is sent.
 pub record Opens (old : World) (e : Event) (s : Stream) (hs : List Happening) (new : World) : Type 0 where
@@ -272,12 +272,12 @@ pub record TakesAndWorks (old : World) (c n : ℕ) (hs : List Happening) (new : 
   pub rest : List Happening
   pub all : hs ≡ first ++ rest
   pub mid : World
-  pub takes : Takes_off old c n first mid
+  pub takes : TakesOutput old c n first mid
   pub works : WorksOff mid c rest new
 
 -- There is no event, and the world is as before.
-abbrev pub Nothing_happens : World → List Happening → World → Type 0
-Nothing_happens old hs new = (hs ≡ []) × Same old new
+abbrev pub NothingHappens : World → List Happening → World → Type 0
+NothingHappens old hs new = (hs ≡ []) × Same old new
 
 -- A message is delivered to a consumer of connection `c` and put out, which may pause the connection.
 pub record Delivers (old : World) (c : ℕ) (hs : List Happening) (new : World) : Type 0 where
@@ -292,7 +292,7 @@ NoneCanDeliver w = (c : ℕ) → CanDeliver w.state.broker c → ⊥
 -- One delivery is made if any can be, and otherwise nothing happens.
 pub data Pumps : World → List Happening → World → Type 0 where
   delivers : {old new : World} {c : ℕ} {hs : List Happening} → Delivers old c hs new → Pumps old hs new
-  idles : {old new : World} {hs : List Happening} → NoneCanDeliver old → Nothing_happens old hs new → Pumps old hs new
+  idles : {old new : World} {hs : List Happening} → NoneCanDeliver old → NothingHappens old hs new → Pumps old hs new
 
 -- The configuration `offered` is put in force, or refused for the first obstacle. Connections keep their unread bytes and their output.
 pub record Reloads (old : World) (offered : Config) (os : List Occurrence) (new : World) : Type 0 where
@@ -315,14 +315,14 @@ ByEvents os Holds = (hs : List Happening) × (os ≡ map Of_event hs) × Holds h
 -- losing it, or an opening if no connection can be opened. A reload offers a configuration.
 abbrev pub Answers : World → Arrival Config → List Occurrence → World → Type 0
 Answers old arrival.Open os new =
-    ByEvents os (λ hs. MatchBool (can_open old) (Opens old (event.Open (old.given + 1)) opened_stream hs new) (Nothing_happens old hs new))
+    ByEvents os (λ hs. MatchBool (can_open old) (Opens old (event.Open (old.given + 1)) opened_stream hs new) (NothingHappens old hs new))
 Answers old (arrival.Ready k) os new = ByEvents os
-    (λ hs. MatchBool (can_open old) (Opens old (event.Running (old.given + 1) 255 k) running_stream hs new) (Nothing_happens old hs new))
+    (λ hs. MatchBool (can_open old) (Opens old (event.Running (old.given + 1) 255 k) running_stream hs new) (NothingHappens old hs new))
 Answers old (arrival.In c bytes) os new = ByEvents os
-    (λ hs. MatchBool (is_over old c) (Nothing_happens old hs new) (WorksOff (with_heard old c bytes) c hs new))
-Answers old (arrival.Sent c n) os new = ByEvents os (λ hs. MatchBool (is_gone old c) (Nothing_happens old hs new) (TakesAndWorks old c n hs new))
+    (λ hs. MatchBool (is_over old c) (NothingHappens old hs new) (WorksOff (with_heard old c bytes) c hs new))
+Answers old (arrival.Sent c n) os new = ByEvents os (λ hs. MatchBool (is_gone old c) (NothingHappens old hs new) (TakesAndWorks old c n hs new))
 Answers old arrival.Pump os new = ByEvents os (λ hs. Pumps old hs new)
-Answers old (arrival.Lose c) os new = ByEvents os (λ hs. MatchBool (is_gone old c) (Nothing_happens old hs new) (Loses old c hs new))
+Answers old (arrival.Lose c) os new = ByEvents os (λ hs. MatchBool (is_gone old c) (NothingHappens old hs new) (Loses old c hs new))
 Answers old (arrival.Reload offered) os new = Reloads old offered os new
 
 -- What a list of arrivals does, one after another.

@@ -74,9 +74,9 @@ is_tag_taken ch [] = false
 is_tag_taken ch (b ∷ bs) = is_in_use (b ∷ bs) ch.consumers
 
 -- Whether the client gives no tag, and the server has none left.
-abbrev pub is_tag_wanting : Channel → Text → Bool
-is_tag_wanting ch [] = nat_le 18446744073709551615 (next_free ch)
-is_tag_wanting ch (b ∷ bs) = false
+abbrev pub has_no_tag_left : Channel → Text → Bool
+has_no_tag_left ch [] = nat_le 18446744073709551615 (next_free ch)
+has_no_tag_left ch (b ∷ bs) = false
 
 -- ---- consumers made and cancelled
 

@@ -42,7 +42,7 @@ IsFieldOf no_pairs name = ⊥
 IsFieldOf (pair other v ps) name = (other ≡ name) ⊎ IsFieldOf ps name
 
 -- The headers tell of a first death: they are the pairs of a table, one of which is the field that names the queue of that death.
-pub record TellsOfDeath (headers : Text) : Type 0 where
+pub record DescribesDeath (headers : Text) : Type 0 where
   pub pairs : Pairs
   pub fits : HavePairsSpelling pairs
   pub spelled : headers ≡ pairs_bytes pairs
@@ -51,14 +51,14 @@ pub record TellsOfDeath (headers : Text) : Type 0 where
 -- There are no headers, or they tell of no first death.
 abbrev pub IsUnmarked : Option Text → Type 0
 IsUnmarked None = Unit {0}
-IsUnmarked (Some headers) = TellsOfDeath headers → ⊥
+IsUnmarked (Some headers) = DescribesDeath headers → ⊥
 
 -- The second headers are those of a message that dies in `queue`, last sent to `exchange`, if it had the first:
 -- the three fields of this death are appended, or, if the headers tell of an earlier death, nothing changes.
 pub data AreMarked (queue exchange : Text) : Option Text → Option Text → Type 0 where
   alone : AreMarked queue exchange None (Some (first_death queue exchange))
   added : {headers : Text} → IsUnmarked (Some headers) → AreMarked queue exchange (Some headers) (Some (headers ++ first_death queue exchange))
-  marked_before : {headers : Text} → TellsOfDeath headers → AreMarked queue exchange (Some headers) (Some headers)
+  marked_before : {headers : Text} → DescribesDeath headers → AreMarked queue exchange (Some headers) (Some headers)
 
 -- ---- the dead letter
 

@@ -66,55 +66,55 @@ abbrev pub is_flagged : ℕ → ℕ → Bool
 is_flagged flags bit = flags / 2 ^ bit % 2 == 1
 
 -- The value of each property, read from `bytes` in order, or `None` if its flag is not set: the first property has the highest bit, the last has bit 2.
-unfoldable pub values_told : ℕ → List First → List ℕ → List (Option Argument)
-values_told flags [] bytes = []
-values_told flags (first ∷ others) bytes =
-    if is_flagged flags (length others + 2) then (Some (first bytes) ∷ values_told flags others (drop (length (argument (first bytes))) bytes))
-    else (None ∷ values_told flags others bytes)
+unfoldable pub values_in : ℕ → List First → List ℕ → List (Option Argument)
+values_in flags [] bytes = []
+values_in flags (first ∷ others) bytes =
+    if is_flagged flags (length others + 2) then (Some (first bytes) ∷ values_in flags others (drop (length (argument (first bytes))) bytes))
+    else (None ∷ values_in flags others bytes)
 
 -- The text, if the value is one.
-abbrev pub text_told : Option Argument → Option Text
-text_told (Some (Short_text t)) = Some t
-text_told _ = None
+abbrev pub as_text : Option Argument → Option Text
+as_text (Some (Short_text t)) = Some t
+as_text _ = None
 
 -- The byte, if the value is one.
-abbrev pub octet_told : Option Argument → Option ℕ
-octet_told (Some (Octet n)) = Some n
-octet_told _ = None
+abbrev pub as_octet : Option Argument → Option ℕ
+as_octet (Some (Octet n)) = Some n
+as_octet _ = None
 
 -- The time, if the value is one.
-abbrev pub time_told : Option Argument → Option ℕ
-time_told (Some (Long_long n)) = Some n
-time_told _ = None
+abbrev pub as_time : Option Argument → Option ℕ
+as_time (Some (Long_long n)) = Some n
+as_time _ = None
 
 -- The pairs, if the value is a table.
-abbrev pub table_told : Option Argument → Option (List ℕ)
-table_told (Some (Field_table t)) = Some t
-table_told _ = None
+abbrev pub as_table : Option Argument → Option (List ℕ)
+as_table (Some (Field_table t)) = Some t
+as_table _ = None
 
 -- The properties with these fourteen values, in the order of their flags.
-unfoldable pub properties_told : List (Option Argument) → Properties
-properties_told (a ∷ b ∷ c ∷ d ∷ e ∷ f ∷ g ∷ h ∷ i ∷ j ∷ k ∷ l ∷ m ∷ n ∷ []) = record {
-  content_type = text_told a;
-  content_encoding = text_told b;
-  headers = table_told c;
-  delivery_mode = octet_told d;
-  priority = octet_told e;
-  correlation_id = text_told f;
-  reply_to = text_told g;
-  expiration = text_told h;
-  message_id = text_told i;
-  timestamp = time_told j;
-  kind = text_told k;
-  user_id = text_told l;
-  app_id = text_told m;
-  reserved = text_told n;
+unfoldable pub properties_from : List (Option Argument) → Properties
+properties_from (a ∷ b ∷ c ∷ d ∷ e ∷ f ∷ g ∷ h ∷ i ∷ j ∷ k ∷ l ∷ m ∷ n ∷ []) = record {
+  content_type = as_text a;
+  content_encoding = as_text b;
+  headers = as_table c;
+  delivery_mode = as_octet d;
+  priority = as_octet e;
+  correlation_id = as_text f;
+  reply_to = as_text g;
+  expiration = as_text h;
+  message_id = as_text i;
+  timestamp = as_time j;
+  kind = as_text k;
+  user_id = as_text l;
+  app_id = as_text m;
+  reserved = as_text n;
 }
-properties_told _ = no_properties
+properties_from _ = no_properties
 
 -- The properties that the bytes spell, if they spell any.
 unfoldable pub spelled_by : List ℕ → Properties
-spelled_by bytes = properties_told (values_told (from_be_bytes w16 (take 2 bytes)) sorts (drop 2 bytes))
+spelled_by bytes = properties_from (values_in (from_be_bytes w16 (take 2 bytes)) sorts (drop 2 bytes))
 
 -- The bytes are flags and values of properties that have a spelling.
 pub record IsSpelling (bytes : List ℕ) : Type 0 where

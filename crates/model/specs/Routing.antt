@@ -5,8 +5,8 @@ use Rattle.model.specs.Topology.{Topology}
 use Rattle.model.specs.declared.topologies.Exchange.{Exchange}
 use Rattle.model.specs.declared.topologies.DeclaredQueue.{DeclaredQueue}
 use Rattle.model.specs.declared.topologies.Binding.{Binding}
-use Rattle.model.specs.declared.topologies.Place.{Place}
-use Rattle.model.specs.declared.topologies.Place.TheVariants as place
+use Rattle.model.specs.declared.topologies.Destination.{Destination}
+use Rattle.model.specs.declared.topologies.Destination.TheVariants as destination
 use Rattle.model.specs.declared.topologies.ExchangeKind.{ExchangeKind}
 use Rattle.model.specs.declared.topologies.ExchangeKind.TheVariants.{Direct, Fanout, Topic}
 
@@ -31,31 +31,31 @@ of_key key = record {
 }
 
 -- `b` is a binding of the topology from the exchange `x` to `to`.
-pub record Binds (t : Topology) (x : Exchange) (to : Place) (b : Binding) : Type 0 where
+pub record Binds (t : Topology) (x : Exchange) (to : Destination) (b : Binding) : Type 0 where
   pub is_binding : Contains t.bindings b
   pub source : b.source ≡ x.name
   pub leads : b.to ≡ to
 
 -- `Edge t r name to`: one step of a route, from the exchange called `name` to `to`, an exchange or a queue.
-pub data Edge (t : Topology) (r : Reading) : Text → Place → Type 0 where
+pub data Edge (t : Topology) (r : Reading) : Text → Destination → Type 0 where
   -- By a binding that lets the key pass.
-  bound : {name : Text} {to : Place} (x : Exchange) (b : Binding) → Contains t.exchanges x → x.name ≡ name → Binds t x to b → r.opens x.kind b.key
+  bound : {name : Text} {to : Destination} (x : Exchange) (b : Binding) → Contains t.exchanges x → x.name ≡ name → Binds t x to b → r.opens x.kind b.key
       → Edge t r name to
   -- To the alternate exchange, if no binding of the exchange lets the key pass (RabbitMQ,
   -- "Alternate Exchanges"; that it is so at every point of a route is own).
   alternate : {name other : Text} (x : Exchange) → Contains t.exchanges x → x.name ≡ name → x.alternate ≡ Some other
-      → ((to : Place) (b : Binding) → Binds t x to b → r.shuts x.kind b.key) → Edge t r name (place.Exchange other)
+      → ((to : Destination) (b : Binding) → Binds t x to b → r.shuts x.kind b.key) → Edge t r name (destination.Exchange other)
   -- From the default exchange to the queue that the key names (AMQP 0-9-1, section 3.1.3.1).
-  default : {queue : Text} (q : DeclaredQueue) → Contains t.queues q → q.name ≡ queue → r.names queue → Edge t r [] (place.Queue queue)
+  default : {queue : Text} (q : DeclaredQueue) → Contains t.queues q → q.name ≡ queue → r.names queue → Edge t r [] (destination.Queue queue)
 
 -- `Leads t r x y`: a chain of steps, none or more, leads from the exchange `x` to the exchange `y` (RabbitMQ, "Exchange to Exchange Bindings").
 pub data Leads (t : Topology) (r : Reading) : Text → Text → Type 0 where
   here : {x : Text} → Leads t r x x
-  on : {x y z : Text} → Edge t r x (place.Exchange y) → Leads t r y z → Leads t r x z
+  on : {x y z : Text} → Edge t r x (destination.Exchange y) → Leads t r y z → Leads t r x z
 
 -- Under the reading `r`, a chain of steps leads from the exchange `x` to the queue `q`.
 abbrev pub RoutesBy : Topology → Reading → Text → Text → Type 0
-RoutesBy t r x q = (y : Text) × Leads t r x y × Edge t r y (place.Queue q)
+RoutesBy t r x q = (y : Text) × Leads t r x y × Edge t r y (destination.Queue q)
 
 -- A message that is sent to the exchange `x` under `key` is routed to the queue `q`.
 abbrev pub Routes : Topology → Text → Text → Text → Type 0

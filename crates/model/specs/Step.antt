@@ -53,7 +53,7 @@ use Rattle.model.specs.Deliveries.{
   purge_notes,
 }
 use Rattle.model.specs.Declaring.{HasConsumers}
-use Rattle.model.specs.Consuming.{tag_for, is_tag_taken, is_tag_wanting, with_consumer, without_consumer, CanDeliver}
+use Rattle.model.specs.Consuming.{tag_for, is_tag_taken, has_no_tag_left, with_consumer, without_consumer, CanDeliver}
 use Rattle.model.specs.Grammar.{Ids, ids, ids_of}
 use Rattle.model.specs.Headers.{no_properties}
 use Rattle.model.specs.Codes.{code_text}
@@ -209,7 +209,7 @@ refusal_of_many ch = if nat_le 256 (length ch.consumers) then Some (Of_connectio
 
 -- Refuses a consumer if the channel has no consumer number left, or if the client gives no tag and the server has none left, 541.
 abbrev pub refusal_of_numbers : Channel → Text → Option Refusal
-refusal_of_numbers ch tag = if (ch.next_number == greatest) || is_tag_wanting ch tag then Some (Of_connection 541) else None
+refusal_of_numbers ch tag = if (ch.next_number == greatest) || has_no_tag_left ch tag then Some (Of_connection 541) else None
 
 -- Refuses one more consumer on the channel: first for its tag, then for how many there are, then for the counters.
 abbrev pub refusal_of_consumer : Channel → Consume → Option Refusal

@@ -4,8 +4,8 @@ use Rattle.model.specs.Words.{Text}
 use Rattle.model.specs.declared.topologies.Exchange.{Exchange}
 use Rattle.model.specs.declared.topologies.DeclaredQueue.{DeclaredQueue}
 use Rattle.model.specs.declared.topologies.Binding.{Binding}
-use Rattle.model.specs.declared.topologies.Place.{Place}
-use Rattle.model.specs.declared.topologies.Place.TheVariants as place
+use Rattle.model.specs.declared.topologies.Destination.{Destination}
+use Rattle.model.specs.declared.topologies.Destination.TheVariants as destination
 
 -- Exchanges, queues and bindings, each in the order of the file.
 pub record Topology : Type 0 where
@@ -34,9 +34,9 @@ AreDistinct [] = Unit {0}
 AreDistinct (x ∷ xs) = (IsIn x xs → ⊥) × AreDistinct xs
 
 -- The exchange or queue is one of the topology.
-abbrev pub IsThere : Topology → Place → Type 0
-IsThere t (place.Exchange name) = IsIn name (exchange_names t.exchanges)
-IsThere t (place.Queue name) = IsIn name (queue_names t.queues)
+abbrev pub IsThere : Topology → Destination → Type 0
+IsThere t (destination.Exchange name) = IsIn name (exchange_names t.exchanges)
+IsThere t (destination.Queue name) = IsIn name (queue_names t.queues)
 
 -- The topology is well-formed: the names of its queues are distinct; those of its exchanges are, too, and none is `""`, the default exchange's;
 -- each exchange and queue that it refers to exists; and queue names, dead-letter exchanges and dead-letter keys have at most 255 bytes.

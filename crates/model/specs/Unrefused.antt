@@ -24,13 +24,13 @@ pub record IsUnrefused (h : Happening) (c k : ℕ) (m : Method) : Type 0 where
   pub accepted : refusal h.config.topology h.before.broker connection k m (h.before.broker.channel c k) ≡ None
 
 -- A get is answered by the first ready message of its queue, or by get-empty if there is none.
-abbrev pub GivesOrTells : Happening → ℕ → ℕ → Get → Option Entry → Type 0
-GivesOrTells h c k m (Some e) = GivesOut h m.queue e
-GivesOrTells h c k m None = h.sends ≡ reply c k (BasicGetEmpty []) ∷ []
+abbrev pub GivesOrIsEmpty : Happening → ℕ → ℕ → Get → Option Entry → Type 0
+GivesOrIsEmpty h c k m (Some e) = GivesOut h m.queue e
+GivesOrIsEmpty h c k m None = h.sends ≡ reply c k (BasicGetEmpty []) ∷ []
 
 -- Each get that is not refused is answered by the first ready message of its queue, or by get-empty if there is none.
 abbrev pub GetsAreAnswered : Happening → Type 0
-GetsAreAnswered h = (c k : ℕ) (m : Get) → IsUnrefused h c k (BasicGet m) → GivesOrTells h c k m (first_ready (h.before.broker.queue m.queue))
+GetsAreAnswered h = (c k : ℕ) (m : Get) → IsUnrefused h c k (BasicGet m) → GivesOrIsEmpty h c k m (first_ready (h.before.broker.queue m.queue))
 
 -- A purge that is not refused leaves no ready message in its queue.
 abbrev pub PurgesLeaveNone : Happening → Type 0

@@ -36,4 +36,4 @@ pub use obstacles::Obstacle;
 pub use parts::first_part;
 pub use tables::Table;
 pub use texts::{Text, Token};
-pub use topologies::{Binding, DeclaredQueue, Exchange, ExchangeKind, Mode, Place};
+pub use topologies::{Binding, DeclaredQueue, Destination, Exchange, ExchangeKind, Mode};

@@ -15,7 +15,7 @@ pub enum ExchangeKind {
 
 /// Where a binding leads.
 #[derive(Drop)]
-pub enum Place {
+pub enum Destination {
     Exchange(Text),
     Queue(Text),
 }
@@ -49,7 +49,7 @@ pub struct DeclaredQueue {
 #[derive(Drop)]
 pub struct Binding {
     pub source: Text,
-    pub to: Place,
+    pub to: Destination,
     pub key: Text,
 }
 

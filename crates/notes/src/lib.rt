@@ -3,6 +3,6 @@
 
 mod notes;
 mod tokens;
-mod untold;
+mod unkept;
 
 pub use notes::Notes;

@@ -5,7 +5,7 @@ ghost use Rattle.std.specs.Prelude.{true, false, is_some, Some, OnOk, OnErr, IfS
 ghost use Rattle.notes.specs.Numbered.{numbered};
 ghost use Rattle.notes.specs.Kept.{are_kept};
 
-use crate::untold::Untold;
+use crate::unkept::Unkept;
 use model::Note;
 use std::alloc::{AllocError, Global};
 use std::marker::Model;
@@ -14,7 +14,7 @@ use std::marker::Model;
 #[derive(Drop)]
 pub enum Held {
     Kept(Vec<Note>),
-    Told(Vec<Untold>),
+    Unkept(Vec<Unkept>),
 }
 
 /// The notes of a step, in their order. Contracts see the vector of the notes even if nobody keeps them, and whether they are kept.
@@ -26,11 +26,11 @@ pub struct Notes {
 impl Model for Notes {
     ghost use Rattle.std.specs.Prelude.{true, false};
     ghost use Rattle.notes.specs.Kept.{Noted, noted};
-    ghost use Rattle.notes.specs.declared.notes.Held.TheVariants.{Kept, Told};
+    ghost use Rattle.notes.specs.declared.notes.Held.TheVariants.{Kept, Unkept};
 
     ghost Value = { Noted };
 
-    ghost view = { λ n. elim n.held [ Kept v ↦ noted v true | Told v ↦ noted v false ] };
+    ghost view = { λ n. elim n.held [ Kept v ↦ noted v true | Unkept v ↦ noted v false ] };
 }
 
 /// Sets the message number of `note` if it is [`Note::Left`]. Any other note stays as it is.
@@ -54,12 +54,12 @@ impl Notes {
     }
 
     /// Returns an empty list that drops each note appended to it. Never allocates.
-    pub fn untold(alloc: Global) -> Notes
+    pub fn unkept(alloc: Global) -> Notes
         ensures items { result.items ≡ [] }
         ensures kept { are_kept result ≡ false }
     {
         Notes {
-            held: Held::Told(Vec::new(alloc)),
+            held: Held::Unkept(Vec::new(alloc)),
         }
     }
 
@@ -77,7 +77,7 @@ impl Notes {
     {
         match &mut self.held {
             Held::Kept(notes) => notes.reserve_exact(additional),
-            Held::Told(notes) => notes.reserve_exact(additional),
+            Held::Unkept(notes) => notes.reserve_exact(additional),
         }
     }
 
@@ -95,7 +95,7 @@ impl Notes {
     {
         match &mut self.held {
             Held::Kept(notes) => notes.reserve(additional),
-            Held::Told(notes) => notes.reserve(additional),
+            Held::Unkept(notes) => notes.reserve(additional),
         }
     }
 
@@ -109,7 +109,7 @@ impl Notes {
     {
         match &mut self.held {
             Held::Kept(notes) => notes.push_reserved(note),
-            Held::Told(notes) => notes.push_reserved(Untold::of(&note)),
+            Held::Unkept(notes) => notes.push_reserved(Unkept::of(&note)),
         }
     }
 
@@ -119,7 +119,7 @@ impl Notes {
     {
         match &self.held {
             Held::Kept(notes) => notes.len(),
-            Held::Told(notes) => notes.len(),
+            Held::Unkept(notes) => notes.len(),
         }
     }
 
@@ -137,7 +137,7 @@ impl Notes {
     {
         match &mut self.held {
             Held::Kept(notes) => notes.truncate(len),
-            Held::Told(notes) => notes.truncate(len),
+            Held::Unkept(notes) => notes.truncate(len),
         }
     }
 
@@ -151,7 +151,7 @@ impl Notes {
         set_number(note, number);
         match &mut self.held {
             Held::Kept(notes) => set_number(&mut notes[index], number),
-            Held::Told(notes) => notes[index] = Untold::of(note),
+            Held::Unkept(notes) => notes[index] = Unkept::of(note),
         }
     }
 
@@ -163,7 +163,7 @@ impl Notes {
         let Notes { held } = self;
         match held {
             Held::Kept(notes) => Some(notes),
-            Held::Told(_) => None,
+            Held::Unkept(_) => None,
         }
     }
 }

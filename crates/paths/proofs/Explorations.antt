@@ -1,21 +1,21 @@
 -- What a message comes to as long as it keeps its key.
-use Rattle.paths.proofs.Names.{◌≡◌, ℕ, zero, suc, ◌+◌, ◌<◌, ◌≤◌, ◌-◌, List, [], ◌∷◌, Bool, true, refl, sym, ap, ◌∙◌, subst, length, inl, inr, Option, Some, None, arith, length-append, is_some, slice_get, slice_index_or, false≢true, slice_get_within, Text, Topology, IsIn, exchange_names, Reading, RoutesBy, Leads, here, of_key, reading_after, fixed_after, key_after, Comes, routed, dead, Dies, DeclaredQueue, Place, comes_fixed, in_append, Spot, Visit, IsSpotThere, fixed_keys, fixed_of, spot_place, IsRefixed, Next, Refixes, left_all, AddsVisit, AreVisits, IsAdded, IsVisitedAt, width, AreExplored, Exploring, GoesOn, IsLeft, KeptOrFixed, Onto, there, comes, after, ExpandsVisit}
+use Rattle.paths.proofs.Names.{◌≡◌, ℕ, zero, suc, ◌+◌, ◌<◌, ◌≤◌, ◌-◌, List, [], ◌∷◌, Bool, true, refl, sym, ap, ◌∙◌, subst, length, inl, inr, Option, Some, None, arith, length-append, is_some, slice_get, slice_index_or, false≢true, slice_get_within, Text, Topology, IsIn, exchange_names, Reading, RoutesBy, Leads, here, of_key, reading_after, fixed_after, key_after, Comes, routed, dead, Dies, DeclaredQueue, Destination, comes_fixed, in_append, Spot, Visit, IsSpotThere, fixed_keys, fixed_of, spot_place, IsRefixed, Next, Refixes, left_all, AddsVisit, AreVisits, IsAdded, IsVisitedAt, width, AreExplored, Exploring, GoesOn, IsLeft, KeptOrFixed, Onto, there, comes, after, ExpandsVisit}
 use Rattle.std.proofs.Common.{false}
 use Rattle.model.specs.Routing.{on}
-use Rattle.model.specs.declared.topologies.Place.TheVariants as place
+use Rattle.model.specs.declared.topologies.Destination.TheVariants as destination
 use Rattle.certificate_laws.proofs.Refutations.{comes_on}
 use Rattle.paths.specs.Onward.{edge, dies}
 use Rattle.paths.proofs.Traced.{below_or, comes_nowhere, get_after, get_is_in, get_left, in_at, met_then, now_visited, searching_first, some_same, traced_then}
 
 -- ---- from where a message is
 
-onto_comes : {t : Topology} {key q : Text} {fixed : Option Text} {to : Place} (x : Text) → Onto t key q fixed to → to ≡ place.Exchange x → Comes t (of_key key) fixed x q
-onto_comes {q = q} x there e = absurd (let h : place.Queue q ≡ place.Exchange x = e in cc)
-onto_comes {t} {key} {q} {fixed} x (comes {x = y} c) e = let h : place.Exchange y ≡ place.Exchange x = e in let same : y ≡ x = cc in subst (λ (z : Text). Comes t (of_key key) fixed z q) same c
-onto_comes x (after {p = p} last d c) e = absurd (let h : place.Queue p ≡ place.Exchange x = e in cc)
+onto_comes : {t : Topology} {key q : Text} {fixed : Option Text} {to : Destination} (x : Text) → Onto t key q fixed to → to ≡ destination.Exchange x → Comes t (of_key key) fixed x q
+onto_comes {q = q} x there e = absurd (let h : destination.Queue q ≡ destination.Exchange x = e in cc)
+onto_comes {t} {key} {q} {fixed} x (comes {x = y} c) e = let h : destination.Exchange y ≡ destination.Exchange x = e in let same : y ≡ x = cc in subst (λ (z : Text). Comes t (of_key key) fixed z q) same c
+onto_comes x (after {p = p} last d c) e = absurd (let h : destination.Queue p ≡ destination.Exchange x = e in cc)
 
 -- one step back
-onto_back : {t : Topology} {key q : Text} {fixed fixed' : Option Text} {from to : Place} → Next t key fixed from fixed' to → Onto t key q fixed' to → Onto t key q fixed from
+onto_back : {t : Topology} {key q : Text} {fixed fixed' : Option Text} {from to : Destination} → Next t key fixed from fixed' to → Onto t key q fixed' to → Onto t key q fixed from
 onto_back (edge {x = x} to e) there = comes (routed (x, here, e))
 onto_back {t} {key} {q} (edge {fixed = fixed} {x = x} to e) (comes {x = z} c) = comes (comes_on t (of_key key) fixed x z q e c)
 onto_back (edge {x = x} to e) (after last d c) = comes (dead last (x, here, e) d c)
@@ -61,7 +61,7 @@ pub not_some : (o : Option ℕ) → is_some o ≡ false → o ≡ None
 not_some None e = refl
 not_some (Some n) e = absurd (false≢true (sym e))
 
-pub exploring_first : (t : Topology) (x key : Text) (spot : Spot) (rows rows' : List (List Bool)) (new : List Visit) → IsSpotThere t spot → spot_place t spot ≡ place.Exchange x
+pub exploring_first : (t : Topology) (x key : Text) (spot : Spot) (rows rows' : List (List Bool)) (new : List Visit) → IsSpotThere t spot → spot_place t spot ≡ destination.Exchange x
     → AddsVisit t (record { spot = spot; fixed = None }) 0 rows [] rows' new → Exploring t x key rows' new 0
 exploring_first t x key spot rows rows' new h p a =
     let s = searching_first t key x [] spot rows rows' new h p a in
@@ -184,7 +184,7 @@ trail_comes t {q = q} (goes {key = key} {exchange = exchange} last ro d w) =
 
 -- a way to the queue leads out of what was explored where the key is fixed, or ends in it
 module _ (t : Topology) (x key q : Text) (visits : List Visit) (e : AreExplored t x key visits) (G : Type 0) (limit : ℕ)
-    (hit : (v : Visit) → IsIn v visits → v.location.fixed ≡ None → spot_place t v.location.spot ≡ place.Queue q → G)
+    (hit : (v : Visit) → IsIn v visits → v.location.fixed ≡ None → spot_place t v.location.spot ≡ destination.Queue q → G)
     (out : (m : ℕ) (v : Visit) → m < limit → IsIn v visits → (r : IsRefixed t v.location) → Trail t q m r.key r.exchange → G) where
   kept_key : (v : Visit) → IsIn v visits → fixed_of t v.location.fixed ≡ None → v.location.fixed ≡ None
   kept_key v i n = elim (e.heads v i) [
@@ -192,35 +192,35 @@ module _ (t : Topology) (x key q : Text) (visits : List Visit) (e : AreExplored 
     | inr r ↦ absurd (let h : Some r.key ≡ None = sym (refixed_key t r.queue r.exchange r.key r.fixes) ∙ ap (fixed_of t) (sym r.fixed) ∙ n in cc)
   ]
 
-  next_met : {fixed' : Option Text} {from to : Place} → IsVisitedAt t visits None from → Next t key None from fixed' to → IsVisitedAt t visits fixed' to
+  next_met : {fixed' : Option Text} {from to : Destination} → IsVisitedAt t visits None from → Next t key None from fixed' to → IsVisitedAt t visits fixed' to
   next_met {fixed'} {from} {to} m n =
-      e.left m.visit m.is_in (kept_key m.visit m.is_in m.fixed) fixed' to (subst (λ (z : Option Text). Next t key z (spot_place t m.visit.location.spot) fixed' to) (sym m.fixed) (subst (λ (z : Place). Next t key None z fixed' to) (sym m.place) n))
+      e.left m.visit m.is_in (kept_key m.visit m.is_in m.fixed) fixed' to (subst (λ (z : Option Text). Next t key z (spot_place t m.visit.location.spot) fixed' to) (sym m.fixed) (subst (λ (z : Destination). Next t key None z fixed' to) (sym m.place) n))
 
-  leads_met : {y z : Text} → Leads t (of_key key) y z → IsVisitedAt t visits None (place.Exchange y) → IsVisitedAt t visits None (place.Exchange z)
+  leads_met : {y z : Text} → Leads t (of_key key) y z → IsVisitedAt t visits None (destination.Exchange y) → IsVisitedAt t visits None (destination.Exchange z)
   leads_met here m = m
-  leads_met (on {y = y} f l) m = leads_met l (next_met m (edge (place.Exchange y) f))
+  leads_met (on {y = y} f l) m = leads_met l (next_met m (edge (destination.Exchange y) f))
 
-  queue_met : {y p : Text} → RoutesBy t (of_key key) y p → IsVisitedAt t visits None (place.Exchange y) → IsVisitedAt t visits None (place.Queue p)
-  queue_met {p = p} ro m = next_met (leads_met ro.1 m) (edge (place.Queue p) ro.2)
+  queue_met : {y p : Text} → RoutesBy t (of_key key) y p → IsVisitedAt t visits None (destination.Exchange y) → IsVisitedAt t visits None (destination.Queue p)
+  queue_met {p = p} ro m = next_met (leads_met ro.1 m) (edge (destination.Queue p) ro.2)
 
-  pub walk : {n : ℕ} {k y : Text} → Trail t q n k y → k ≡ key → n ≤ limit → IsVisitedAt t visits None (place.Exchange y) → G
+  pub walk : {n : ℕ} {k y : Text} → Trail t q n k y → k ≡ key → n ≤ limit → IsVisitedAt t visits None (destination.Exchange y) → G
   walk {y = y} (ends ro) s h m =
       let a = queue_met (subst (λ (z : Text). RoutesBy t (of_key z) y q) s ro) m in
       hit a.visit a.is_in (kept_key a.visit a.is_in a.fixed) a.place
   walk {y = y} (goes {n = n} {key = k} {p = p} {exchange = exchange} last ro d w) s h m =
       let a = queue_met (subst (λ (z : Text). RoutesBy t (of_key z) y p) s ro) m in
-      let b : IsVisitedAt t visits (fixed_after last.dead_letter_key None) (place.Exchange exchange) = next_met a (dies last d) in
+      let b : IsVisitedAt t visits (fixed_after last.dead_letter_key None) (destination.Exchange exchange) = next_met a (dies last d) in
       at last.dead_letter_key b w (λ f g. walk w (f ∙ s) (omega (arith, h)) g)
     where
-      at : (o : Option Text) → IsVisitedAt t visits (fixed_after o None) (place.Exchange exchange) → Trail t q n (key_after o k) exchange
-          → (key_after o k ≡ k → IsVisitedAt t visits None (place.Exchange exchange) → G) → G
+      at : (o : Option Text) → IsVisitedAt t visits (fixed_after o None) (destination.Exchange exchange) → Trail t q n (key_after o k) exchange
+          → (key_after o k ≡ k → IsVisitedAt t visits None (destination.Exchange exchange) → G) → G
       at None b w f = f refl b
       at (Some j) b w f = elim (e.heads b.visit b.is_in) [
         | inl z ↦ absurd (let g : None ≡ Some j = sym (ap (fixed_of t) z) ∙ b.fixed in cc)
         | inr r ↦ (
             let g : Some r.key ≡ Some j = sym (refixed_key t r.queue r.exchange r.key r.fixes) ∙ ap (fixed_of t) (sym r.fixed) ∙ b.fixed in
             let same : j ≡ r.key = cc in
-            let p : place.Exchange exchange ≡ place.Exchange r.exchange = sym b.place ∙ r.place in
+            let p : destination.Exchange exchange ≡ destination.Exchange r.exchange = sym b.place ∙ r.place in
             let to : exchange ≡ r.exchange = cc in
             out n b.visit (omega (arith, h)) b.is_in r (subst (λ (z : Text). Trail t q n z r.exchange) same (subst (λ (z : Text). Trail t q n j z) to w)))
       ]

@@ -1,7 +1,7 @@
 -- A search along explorations goes on only where a message goes on.
-use Rattle.paths.proofs.Names.{AreDeaths, IsDeathOf, ◌≡◌, ℕ, zero, suc, ◌+◌, ◌<◌, List, [], ◌∷◌, ◌++◌, refl, sym, ap, ◌∙◌, subst, length, inl, inr, Option, Some, None, arith, length-append, slice_get, slice_index_or, slice_get_within, get_or, Text, Topology, IsIn, Reading, Edge, of_key, reading_after, fixed_after, key_after, Place, in_append, Location, Visit, IsFixedThere, IsLocationThere, fixed_of, spot_place, Follows, IsRefixed, Next, Refixes, AreVisits, AreExplored}
+use Rattle.paths.proofs.Names.{AreDeaths, IsDeathOf, ◌≡◌, ℕ, zero, suc, ◌+◌, ◌<◌, List, [], ◌∷◌, ◌++◌, refl, sym, ap, ◌∙◌, subst, length, inl, inr, Option, Some, None, arith, length-append, slice_get, slice_index_or, slice_get_within, get_or, Text, Topology, IsIn, Reading, Edge, of_key, reading_after, fixed_after, key_after, Destination, in_append, Location, Visit, IsFixedThere, IsLocationThere, fixed_of, spot_place, Follows, IsRefixed, Next, Refixes, AreVisits, AreExplored}
 use Rattle.std.specs.Prelude.{◌⊎◌, IfSome}
-use Rattle.model.specs.declared.topologies.Place.TheVariants as place
+use Rattle.model.specs.declared.topologies.Destination.TheVariants as destination
 use Rattle.paths.specs.Along.{AreAlong, IsAlong, IsMetAs, MayAddMet, explored_at, visits_or_none}
 use Rattle.paths.specs.Onward.{edge, dies}
 use Rattle.paths.proofs.Explorations.{as_read, refixed_key, refixed_once}
@@ -46,12 +46,12 @@ visits_of t x key row i v e g = elim e.steps [
 
 -- ---- one step, under the key that a queue set
 
-carried : (t : Topology) (key own : Text) (g h : Option Text) {a b : Place} {f : Option Text} → own ≡ key_after g key → h ≡ None → Next t own h a f b → Next t key g a (fixed_after f g) b
+carried : (t : Topology) (key own : Text) (g h : Option Text) {a b : Destination} {f : Option Text} → own ≡ key_after g key → h ≡ None → Next t own h a f b → Next t key g a (fixed_after f g) b
 carried t key own g h e n (edge {x = x} to d) =
-    subst (λ (z : Option Text). Next t key g (place.Exchange x) (fixed_after z g) to) (sym n)
+    subst (λ (z : Option Text). Next t key g (destination.Exchange x) (fixed_after z g) to) (sym n)
     (edge to (subst (λ (r : Reading). Edge t r x to) (ap (λ (z : Option Text). reading_after z (of_key own)) n ∙ ap of_key e ∙ sym (as_read g key)) d))
 carried t key own g h e n (dies {p = p} {exchange = exchange} last d) =
-    subst (λ (z : Option Text). Next t key g (place.Queue p) z (place.Exchange exchange)) (again last.dead_letter_key) (dies last d)
+    subst (λ (z : Option Text). Next t key g (destination.Queue p) z (destination.Exchange exchange)) (again last.dead_letter_key) (dies last d)
   where
     again : (o : Option Text) → fixed_after o g ≡ fixed_after (fixed_after o h) g
     again None = sym (ap (λ (z : Option Text). fixed_after z g) n)
@@ -130,7 +130,7 @@ module _ (t : Topology) (key x : Text) (sent : List Visit) (fronts : List (Optio
       let one : Visit = record { location = s; from = 0 } in
       record {
         traced = record {
-          first = (one, refl, subst (λ (z : Visit). spot_place t z.location.spot ≡ place.Exchange x) same r.first.2, refl);
+          first = (one, refl, subst (λ (z : Visit). spot_place t z.location.spot ≡ destination.Exchange x) same r.first.2, refl);
           there = λ w i. (elim i [
             | inl q ↦ subst (λ (z : Visit). IsLocationThere t z.location) (sym q) (record { spot = (r.there v (get_is_in sent 0 v g)).spot; fixed = tt })
             | inr z ↦ absurd z
@@ -172,7 +172,7 @@ module _ (t : Topology) (key x : Text) (sent : List Visit) (fronts : List (Optio
         let r = visits_of t o.exchange o.own (explored_at sent fronts u.location.fixed) index next o.explored n in
         let l = r.linked index next b n in
         let k = a.each at u g l.0 (subst (λ (z : ℕ). slice_get (explored_at sent fronts u.location.fixed) z ≡ Some l.0) from l.2) in
-        carried t key o.own (fixed_of t u.location.fixed) (fixed_of t l.0.location.fixed) o.is k.1 (subst (λ (z : Place). Next t o.own (fixed_of t l.0.location.fixed) z (fixed_of t next.location.fixed) (spot_place t next.location.spot)) k.0 l.3)
+        carried t key o.own (fixed_of t u.location.fixed) (fixed_of t l.0.location.fixed) o.is k.1 (subst (λ (z : Destination). Next t o.own (fixed_of t l.0.location.fixed) z (fixed_of t next.location.fixed) (spot_place t next.location.spot)) k.0 l.3)
 
     next_there : IsLocationThere t next.location
     next_there = own.explored.there next (get_is_in (explored_at sent fronts u.location.fixed) index next n)
@@ -207,7 +207,7 @@ module _ (t : Topology) (key x : Text) (sent : List Visit) (fronts : List (Optio
             let w = visits_of t o.exchange o.own (explored_at sent fronts next.location.fixed) 0 seen o.explored m in
             let same : w.first.0 ≡ seen = some_same (slice_get (explored_at sent fronts next.location.fixed) 0) w.first.0 seen w.first.1 m in
             let one = refixed_once t r.queue o.exchange o.own r.exchange r.key (o.fixes r.queue r.fixed) r.fixes in (
-              subst (λ (z : Visit). spot_place t z.location.spot ≡ place.Exchange o.exchange) same w.first.2 ∙ ap (λ (z : Text). place.Exchange z) one.0 ∙ sym r.place,
+              subst (λ (z : Visit). spot_place t z.location.spot ≡ destination.Exchange o.exchange) same w.first.2 ∙ ap (λ (z : Text). destination.Exchange z) one.0 ∙ sym r.place,
               subst (λ (z : Visit). fixed_of t z.location.fixed ≡ None) same w.first.3,
             )
 

@@ -1,7 +1,7 @@
 -- What leads to a queue is what chains of links lead to from it.
-use Rattle.paths.proofs.Names.{◌≡◌, ℕ, zero, suc, ◌+◌, ◌<◌, ◌≤◌, List, [], ◌∷◌, ◌++◌, Bool, true, refl, sym, ap, ◌∙◌, subst, length, take, get_or, inl, inr, Option, Some, None, arith, Decides, slice_get, false≢true, take_all, take_more, Text, Topology, IsIn, of_key, Comes, Place, comes_fixed, IsSet, Hop, Location, Visit, AreReached, Chain, LinksAreWithin, still, along, fixed_of, spot_place, IsRefixed, Refixes, AreExplored, Onto, there, comes, AddsFront, AddsLink, AreLeading, AreLinked, ComesAfter, IsFront, IsLeading, IsSource, LinkHolds, LinksAll, SomeLeads, links_from, in_get}
+use Rattle.paths.proofs.Names.{◌≡◌, ℕ, zero, suc, ◌+◌, ◌<◌, ◌≤◌, List, [], ◌∷◌, ◌++◌, Bool, true, refl, sym, ap, ◌∙◌, subst, length, take, get_or, inl, inr, Option, Some, None, arith, Decides, slice_get, false≢true, take_all, take_more, Text, Topology, IsIn, of_key, Comes, Destination, comes_fixed, IsSet, Hop, Location, Visit, AreReached, Chain, LinksAreWithin, still, along, fixed_of, spot_place, IsRefixed, Refixes, AreExplored, Onto, there, comes, AddsFront, AddsLink, AreLeading, AreLinked, ComesAfter, IsFront, IsLeading, IsSource, LinkHolds, LinksAll, SomeLeads, links_from, in_get}
 use Rattle.std.proofs.Common.{false}
-use Rattle.model.specs.declared.topologies.Place.TheVariants as place
+use Rattle.model.specs.declared.topologies.Destination.TheVariants as destination
 use Rattle.laws.proofs.Counts.{in_front, in_back, in-append}
 use Rattle.paths.specs.Leading.{Leads as Locations}
 use Rattle.paths.proofs.Traced.{below_or, in_at}
@@ -21,7 +21,7 @@ same_source t q s (Some m) n (inr a) (inr b) = ap (λ (z : ℕ). Some z) (a.1 �
 -- from what was explored a message comes to the queue where what it adds leads there
 pub source_comes : (t : Topology) (q x key : Text) (visits : List Visit) (v : Visit) (n : ℕ) → AreExplored t x key visits → IsIn v visits → IsSource t q v.location (Some n) → IsLeading t q n → Comes t (of_key key) None x q
 source_comes t q x key visits v n e i (inr s) l =
-    e.sound q v i (subst (λ (z : Place). Onto t key q (fixed_of t v.location.fixed) z) (sym s.2) there)
+    e.sound q v i (subst (λ (z : Destination). Onto t key q (fixed_of t v.location.fixed) z) (sym s.2) there)
 source_comes t q x key visits v n e i (inl s) l = elim (e.heads v i) [
   | inl k ↦ absurd (let h : None ≡ Some n = sym k ∙ s in cc)
   | inr r ↦ (
@@ -38,8 +38,8 @@ source_comes t q x key visits v n e i (inl s) l = elim (e.heads v i) [
         let one = refixed_once t n a.exchange a.key r.exchange r.key a.fixes f in
         let c : Comes t (of_key key) (Some a.key) a.exchange q = comes_fixed t (Some a.key) key {h = None} a.comes in
         let k : Some a.key ≡ fixed_of t v.location.fixed = ap (λ (z : Text). Some z) one.1 ∙ sym (key_of r) in
-        let p : place.Exchange a.exchange ≡ spot_place t v.location.spot = ap (λ (z : Text). place.Exchange z) one.0 ∙ sym r.place in
-        e.sound q v i (subst (λ (z : Place). Onto t key q (fixed_of t v.location.fixed) z) p (subst (λ (z : Option Text). Onto t key q z (place.Exchange a.exchange)) k (comes c)))
+        let p : destination.Exchange a.exchange ≡ spot_place t v.location.spot = ap (λ (z : Text). destination.Exchange z) one.0 ∙ sym r.place in
+        e.sound q v i (subst (λ (z : Destination). Onto t key q (fixed_of t v.location.fixed) z) p (subst (λ (z : Option Text). Onto t key q z (destination.Exchange a.exchange)) k (comes c)))
       where
         key_of : (r : IsRefixed t v.location) → fixed_of t v.location.fixed ≡ Some r.key
         key_of r = ap (fixed_of t) r.fixed ∙ refixed_key t r.queue r.exchange r.key r.fixes

@@ -2,7 +2,7 @@
 pub use Rattle.exchange_graph.proofs.Marking.{set_only, unset_fewer}
 pub use Rattle.exchange_graph.proofs.Naming.{get_any, get_map, one_at, same_queue}
 pub use Rattle.exchange_graph.specs.Edges.{LeadsOn, LeadsToQueue}
-pub use Rattle.exchange_graph.specs.Fans.{AreSteps, EndsWithin, place_of}
+pub use Rattle.exchange_graph.specs.Fans.{AreSteps, EndsWithin, destination_of}
 pub use Rattle.exchange_graph.specs.Marks.{IsSet, exchange_name, queue_name, unset}
 pub use Rattle.exchange_graph.specs.declared.ends.End.{End}
 pub use Rattle.laws.proofs.Safe.{comes_fixed}
@@ -11,7 +11,7 @@ pub use Rattle.model.specs.Routing.{Comes, Dies, Edge, Leads, Reading, RoutesBy,
 pub use Rattle.model.specs.Topology.{IsIn, IsWellFormed, Topology, exchange_names, queue_names}
 pub use Rattle.model.specs.Words.{Text}
 pub use Rattle.model.specs.declared.topologies.DeclaredQueue.{DeclaredQueue}
-pub use Rattle.model.specs.declared.topologies.Place.{Place}
+pub use Rattle.model.specs.declared.topologies.Destination.{Destination}
 pub use Rattle.paths.specs.Deaths.{AreDeaths, AreFronts, IsDeathOf, IsFrontAt}
 pub use Rattle.paths.specs.Exploring.{AreExplored, Exploring, GoesOn, IsExploration, IsLeft, KeptOrFixed, Onto, after, comes, there}
 pub use Rattle.paths.specs.Found.{ExpandsVisit}

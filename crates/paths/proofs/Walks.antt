@@ -1,14 +1,14 @@
 -- How a message goes along a path of names.
-use Rattle.paths.proofs.Names.{◌≡◌, ℕ, ◌+◌, ◌<◌, List, [], ◌∷◌, Bool, true, refl, sym, ap, ◌∙◌, subst, length, drop, get_or, inl, inr, Option, Some, None, ◌↔◌, Decides, ◌||◌, ◌&&◌, list_any, drop_more, Text, Topology, IsIn, of_key, Edge, reading_after, fixed_after, key_after, Walk, ends, name_of, Place, KeyedPlace, Queue, WalksOn, SomeGoesOn, NextLocation, into, AreOneOn, is_queue}
+use Rattle.paths.proofs.Names.{◌≡◌, ℕ, ◌+◌, ◌<◌, List, [], ◌∷◌, Bool, true, refl, sym, ap, ◌∙◌, subst, length, drop, get_or, inl, inr, Option, Some, None, ◌↔◌, Decides, ◌||◌, ◌&&◌, list_any, drop_more, Text, Topology, IsIn, of_key, Edge, reading_after, fixed_after, key_after, Walk, ends, name_of, Destination, KeyedPlace, Queue, WalksOn, SomeGoesOn, NextLocation, into, AreOneOn, is_queue}
 use Rattle.std.proofs.Common.{false}
 use Rattle.model.specs.Refutations.{edge, dies}
-use Rattle.model.specs.declared.topologies.Place.TheVariants as place
+use Rattle.model.specs.declared.topologies.Destination.TheVariants as destination
 use Rattle.paths.specs.declared.keyed.KeyedPlace.TheVariants.{Exchange}
 use Rattle.paths.specs.Keyed.{on, dies as dead}
 
 -- ---- a walk goes by the key alone
 
-same_reading : (t : Topology) (f f' : Option Text) (k k' x : Text) (to : Place) → key_after f k ≡ key_after f' k' → Edge t (reading_after f (of_key k)) x to → Edge t (reading_after f' (of_key k')) x to
+same_reading : (t : Topology) (f f' : Option Text) (k k' x : Text) (to : Destination) → key_after f k ≡ key_after f' k' → Edge t (reading_after f (of_key k)) x to → Edge t (reading_after f' (of_key k')) x to
 same_reading t None None k k' x to e s = subst (λ (z : Text). Edge t (of_key z) x to) e s
 same_reading t None (Some c) k k' x to e s = subst (λ (z : Text). Edge t (of_key z) x to) e s
 same_reading t (Some c) None k k' x to e s = subst (λ (z : Text). Edge t (of_key z) x to) e s
@@ -18,7 +18,7 @@ same_fixed : (g f f' : Option Text) (k k' : Text) → key_after f k ≡ key_afte
 same_fixed None f f' k k' e = e
 same_fixed (Some c) f f' k k' e = refl
 
-pub by_key : {t : Topology} {q : Text} (k : Text) {f : Option Text} {p : Place} {ns : List Text} (k' : Text) (f' : Option Text) → key_after f k ≡ key_after f' k' → Walk t (of_key k) q f p ns → Walk t (of_key k') q f' p ns
+pub by_key : {t : Topology} {q : Text} (k : Text) {f : Option Text} {p : Destination} {ns : List Text} (k' : Text) (f' : Option Text) → key_after f k ≡ key_after f' k' → Walk t (of_key k) q f p ns → Walk t (of_key k') q f' p ns
 by_key k k' f' e ends = ends
 by_key {t} k k' f' e (edge {fixed = f} {x = x} to s w name n) = edge to (same_reading t f f' k k' x to e s) (by_key k k' f' e w) name n
 by_key k k' f' e (dies {fixed = f} last d w) = dies last d (by_key k k' (fixed_after last.dead_letter_key f') (same_fixed last.dead_letter_key f f' k k' e) w)
@@ -30,8 +30,8 @@ same_key (Some c) k = refl
 -- ---- one step
 
 pub step_on : (t : Topology) (q name next : Text) (rest : List Text) (s s' : KeyedPlace) → NextLocation t name next s s' → WalksOn t q next rest s' → WalksOn t q name (next ∷ rest) s
-step_on t q name next rest s s' (on l) w = edge (place.Exchange next) l w next refl
-step_on t q name next rest s s' (into l) w = edge (place.Queue next) l w next refl
+step_on t q name next rest s s' (on l) w = edge (destination.Exchange next) l w next refl
+step_on t q name next rest s s' (into l) w = edge (destination.Queue next) l w next refl
 step_on t q name next rest s s' (dead {key} last d) w = dies last d (by_key (key_after last.dead_letter_key key) key (fixed_after last.dead_letter_key None) (sym (same_key last.dead_letter_key key)) w)
 
 -- what a walk does first
@@ -40,11 +40,11 @@ pub record Goes (t : Topology) (q name next : Text) (rest : List Text) (s : Keye
   pub is_next : NextLocation t name next s to
   pub goes : WalksOn t q next rest to
 
-from_exchange : (t : Topology) (q name next key : Text) (rest : List Text) (to : Place) → next ≡ name_of to → Edge t (of_key key) name to → Walk t (of_key key) q None to rest → Goes t q name next rest (Exchange key)
-from_exchange t q name next key rest (place.Exchange y) n s w =
-    record { to = Exchange key; is_next = on (subst (λ (z : Text). Edge t (of_key key) name (place.Exchange z)) (sym n) s); goes = subst (λ (z : Text). Walk t (of_key key) q None (place.Exchange z) rest) (sym n) w }
-from_exchange t q name next key rest (place.Queue y) n s w =
-    record { to = Queue key; is_next = into (subst (λ (z : Text). Edge t (of_key key) name (place.Queue z)) (sym n) s); goes = subst (λ (z : Text). Walk t (of_key key) q None (place.Queue z) rest) (sym n) w }
+from_exchange : (t : Topology) (q name next key : Text) (rest : List Text) (to : Destination) → next ≡ name_of to → Edge t (of_key key) name to → Walk t (of_key key) q None to rest → Goes t q name next rest (Exchange key)
+from_exchange t q name next key rest (destination.Exchange y) n s w =
+    record { to = Exchange key; is_next = on (subst (λ (z : Text). Edge t (of_key key) name (destination.Exchange z)) (sym n) s); goes = subst (λ (z : Text). Walk t (of_key key) q None (destination.Exchange z) rest) (sym n) w }
+from_exchange t q name next key rest (destination.Queue y) n s w =
+    record { to = Queue key; is_next = into (subst (λ (z : Text). Edge t (of_key key) name (destination.Queue z)) (sym n) s); goes = subst (λ (z : Text). Walk t (of_key key) q None (destination.Queue z) rest) (sym n) w }
 
 pub first_step : (t : Topology) (q name next : Text) (rest : List Text) (s : KeyedPlace) → WalksOn t q name (next ∷ rest) s → Goes t q name next rest s
 first_step t q name next rest (Exchange key) (edge to s w n e) = from_exchange t q name next key rest to e s w
@@ -64,7 +64,7 @@ all_on t q name next rest old new a = (
 
 -- ---- the end of a path
 
-last_place : {t : Topology} {k q : Text} {f : Option Text} {p : Place} {ns : List Text} → Walk t (of_key k) q f p ns → ns ≡ [] → p ≡ place.Queue q
+last_place : {t : Topology} {k q : Text} {f : Option Text} {p : Destination} {ns : List Text} → Walk t (of_key k) q f p ns → ns ≡ [] → p ≡ destination.Queue q
 last_place ends e = refl
 last_place (edge to s w name n) e = absurd (cc)
 last_place (dies last d w) e = absurd (cc)
@@ -76,7 +76,7 @@ ends_here t q name (Queue key) w = let e = last_place w refl in (cc, refl)
 
 pub here_ends : (t : Topology) (q name : Text) (s : KeyedPlace) → name ≡ q → is_queue s ≡ true → WalksOn t q name [] s
 here_ends t q name (Exchange key) e h = absurd (cc)
-here_ends t q name (Queue key) e h = subst (λ (z : Text). Walk t (of_key key) q None (place.Queue z) []) (sym e) ends
+here_ends t q name (Queue key) e h = subst (λ (z : Text). Walk t (of_key key) q None (destination.Queue z) []) (sym e) ends
 
 any_queued : (s : KeyedPlace) (ss : List KeyedPlace) (v w : Bool) → (v || w) ≡ true → (v ≡ true → is_queue s ≡ true) → (w ≡ true → (x : KeyedPlace) × IsIn x ss × (is_queue x ≡ true)) → (x : KeyedPlace) × IsIn x (s ∷ ss) × (is_queue x ≡ true)
 any_queued s ss true w h a b = (s, inl refl, a refl)

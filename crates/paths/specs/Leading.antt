@@ -3,7 +3,7 @@ use Rattle.std.specs.Prelude.{◌≡◌, ◌⊎◌, ◌<◌, ◌+◌, ℕ, List,
 use Rattle.model.specs.Words.{Text}
 use Rattle.model.specs.Topology.{Topology, IsIn}
 use Rattle.model.specs.Routing.{Comes, of_key}
-use Rattle.model.specs.declared.topologies.Place.TheVariants as place
+use Rattle.model.specs.declared.topologies.Destination.TheVariants as destination
 use Rattle.exchange_graph.specs.Marks.{IsSet}
 use Rattle.paths.specs.declared.reach.Hop.{Hop}
 use Rattle.paths.specs.declared.locations.Location.{Location}
@@ -31,8 +31,8 @@ pub record AreLeading (t : Topology) (q : Text) (marks : List Bool) : Type 0 whe
 
 -- the source of a location: the queue that set its key; if none did, the number of all queues for a location in the queue `q`, otherwise `None`
 abbrev pub IsSource : Topology → Text → Location → Option ℕ → Type 0
-IsSource t q s None = (s.fixed ≡ None) × (spot_place t s.spot ≡ place.Queue q → ⊥)
-IsSource t q s (Some n) = (s.fixed ≡ Some n) ⊎ ((s.fixed ≡ None) × (n ≡ length t.queues) × (spot_place t s.spot ≡ place.Queue q))
+IsSource t q s None = (s.fixed ≡ None) × (spot_place t s.spot ≡ destination.Queue q → ⊥)
+IsSource t q s (Some n) = (s.fixed ≡ Some n) ⊎ ((s.fixed ≡ None) × (n ≡ length t.queues) × (spot_place t s.spot ≡ destination.Queue q))
 
 -- the source of a location is marked
 abbrev pub Leads : Topology → Text → Location → List Bool → Type 0

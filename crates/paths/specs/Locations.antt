@@ -3,8 +3,8 @@ use Rattle.std.specs.Prelude.{◌<◌, ℕ, List, [], Option, Some, None, map, l
 use Rattle.model.specs.Words.{Text}
 use Rattle.model.specs.Topology.{Topology}
 use Rattle.model.specs.declared.topologies.DeclaredQueue.{DeclaredQueue}
-use Rattle.model.specs.declared.topologies.Place.{Place}
-use Rattle.model.specs.declared.topologies.Place.TheVariants as place
+use Rattle.model.specs.declared.topologies.Destination.{Destination}
+use Rattle.model.specs.declared.topologies.Destination.TheVariants as destination
 use Rattle.exchange_graph.specs.Marks.{exchange_name, queue_name}
 use Rattle.exchange_graph.specs.declared.ends.End.{End}
 use Rattle.exchange_graph.specs.declared.ends.End.TheVariants.{Onward, Into}
@@ -13,10 +13,10 @@ use Rattle.paths.specs.declared.locations.Spot.TheVariants as spot
 use Rattle.paths.specs.declared.locations.Location.{Location}
 
 -- the exchange or the queue, by its name
-abbrev pub spot_place : Topology → Spot → Place
-spot_place t spot.Default = place.Exchange []
-spot_place t (spot.Exchange i) = place.Exchange (exchange_name t i)
-spot_place t (spot.Queue i) = place.Queue (queue_name t i)
+abbrev pub spot_place : Topology → Spot → Destination
+spot_place t spot.Default = destination.Exchange []
+spot_place t (spot.Exchange i) = destination.Exchange (exchange_name t i)
+spot_place t (spot.Queue i) = destination.Queue (queue_name t i)
 
 -- the dead-letter key of each queue, or `None` if it has none
 abbrev pub fixed_keys : List DeclaredQueue → List (Option Text)

@@ -4,7 +4,7 @@ ghost use Rattle.std.specs.Prelude.{◌≡◌, Decides, IfOk, IfSome, IfNone, []
 ghost use Rattle.model.specs.Topology.{IsIn, exchange_names};
 ghost use Rattle.model.specs.Routing.{key_after};
 ghost use Rattle.model.specs.Refutations.{name_of};
-ghost use Rattle.model.specs.declared.topologies.Place.TheVariants as place;
+ghost use Rattle.model.specs.declared.topologies.Destination.TheVariants as destination;
 ghost use Rattle.paths.specs.Locations.{IsFixedThere, IsSpotThere, end_spot, fixed_of, spot_place};
 
 use exchange_graph::{End, Topology};
@@ -31,7 +31,7 @@ pub struct Location {
 /// Returns the exchange `name`, if there is one.
 pub fn exchange_spot(topology: &Topology, name: &[u8]) -> Option<Spot>
     ensures within { IfSome result (IsSpotThere topology.now) }
-    ensures is { IfSome result (λ spot. spot_place topology.now spot ≡ place.Exchange name.now) }
+    ensures is { IfSome result (λ spot. spot_place topology.now spot ≡ destination.Exchange name.now) }
     ensures absent { IfNone result (IsIn name.now (exchange_names topology.now.exchanges) → ⊥) }
     ensures named { IfNone result (name.now ≡ [] → ⊥) }
 {
@@ -71,7 +71,7 @@ pub fn key_at<'a>(topology: &'a Topology, key: &'a [u8], fixed: Option<usize>) -
 /// Returns whether `spot` is the queue `name`.
 pub fn is_queue(topology: &Topology, spot: Spot, name: &[u8]) -> bool
     requires { IsSpotThere topology.now spot }
-    ensures { Decides result (spot_place topology.now spot ≡ place.Queue name.now) }
+    ensures { Decides result (spot_place topology.now spot ≡ destination.Queue name.now) }
 {
     match spot {
         Spot::Default => false,

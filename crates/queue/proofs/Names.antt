@@ -1,5 +1,5 @@
 -- The names that several files of these proofs use.
-pub use Rattle.marks.specs.Places.{Differs, IsNextMark, bit_of}
+pub use Rattle.marks.specs.Sets.{Differs, IsNextMark, bit_of}
 pub use Rattle.model.specs.Broker.{body_bytes, is_ready, ready_bytes}
 pub use Rattle.model.specs.Entries.{change_first, freed, freed_now, held_as, is_held_as, is_held_by, is_under, number_of, without_first}
 pub use Rattle.model.specs.Message.{Message}

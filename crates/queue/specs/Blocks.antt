@@ -7,7 +7,7 @@ use Rattle.model.specs.Entries.{is_held_as}
 use Rattle.model.specs.Reloading.{survived_now}
 use Rattle.model.specs.declared.messages.Entry.{Entry}
 use Rattle.model.specs.declared.messages.Holder.{Holder}
-use Rattle.marks.specs.Places.{bit_of}
+use Rattle.marks.specs.Sets.{bit_of}
 use Rattle.queue.specs.Slots.{num, tally, SlotBits, HavePlaces}
 
 -- a block: its entries, the number of pushes into it that need no allocation, and its number of slots

@@ -4,7 +4,7 @@ use Rattle.std.specs.Global.{Vec}
 use Rattle.model.specs.Broker.{is_ready}
 use Rattle.model.specs.declared.messages.Entry.{Entry}
 use Rattle.model.specs.declared.messages.Holder.{Holder}
-use Rattle.marks.specs.Places.{bit_of, Differs}
+use Rattle.marks.specs.Sets.{bit_of, Differs}
 use Rattle.model.specs.Entries.{is_held_as}
 use Rattle.queue.specs.declared.slots.Slot.{Slot}
 

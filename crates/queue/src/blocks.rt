@@ -5,7 +5,7 @@ ghost use Rattle.std.specs.Prelude.{option_map, max, IfSome, IfNone, IfOk, OnOk,
 ghost use Rattle.model.specs.Broker.{is_ready, body_bytes};
 ghost use Rattle.model.specs.Entries.{is_under, is_held_as, held_as, change_first, without_first};
 ghost use Rattle.model.specs.declared.messages.Mark.TheVariants.{Ready};
-ghost use Rattle.marks.specs.Places.{bit_of};
+ghost use Rattle.marks.specs.Sets.{bit_of};
 ghost use Rattle.queue.specs.Line.{requeued};
 ghost use Rattle.queue.specs.Slots.{num, tally, BitTurned, HavePlaces};
 ghost use Rattle.queue.specs.Blocks.{parts, part_at, part_changed, without_held, joined, last_room, some_pass, size_of, survived_block, AreBlocksSigned};

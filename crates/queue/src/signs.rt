@@ -2,7 +2,7 @@
 
 ghost use Rattle.std.specs.Prelude.{◌≡◌};
 
-use marks::{Flat, Over, Places};
+use marks::{Flat, IndexSet, Over};
 use std::alloc::{AllocError, Global};
 use std::marker::Model;
 
@@ -30,7 +30,7 @@ impl Model for Signs {
 
 impl Signs {
     ghost use Rattle.std.specs.Prelude.{◌≡◌, ◌<◌, ◌≤◌, ℕ, OnOk, OnErr, IfSome, IfNone};
-    ghost use Rattle.marks.specs.Places.{bit_of, IsNextMark};
+    ghost use Rattle.marks.specs.Sets.{bit_of, IsNextMark};
     ghost use Rattle.queue.specs.Slots.{SameBits, BitTurned};
 
     /// Returns an empty set without any bits. Never allocates.

@@ -5,7 +5,7 @@ ghost use Rattle.std.specs.Prelude.{option_map, IfSome, IfNone, Some, None};
 ghost use Rattle.model.specs.Broker.{is_ready};
 ghost use Rattle.model.specs.Entries.{is_held_as, held_as, freed_now};
 ghost use Rattle.model.specs.Reloading.{survived_now};
-ghost use Rattle.marks.specs.Places.{bit_of};
+ghost use Rattle.marks.specs.Sets.{bit_of};
 ghost use Rattle.queue.specs.Slots.{contents, somes, slot_has, slot_at, slot_changed, changed, num, AreSigned, BitTurned};
 
 use crate::entries::{free, hold, is_free, is_held_under, mark_survived};

@@ -14,7 +14,7 @@ pub use Rattle.model.specs.declared.topologies.DeclaredQueue.{DeclaredQueue}
 pub use Rattle.paths.specs.Leading.{AreLeading}
 pub use Rattle.reloading.specs.First.{IsReportedFirst, ReportsFirst, ReportsNoneBelow}
 pub use Rattle.reloading.specs.Forbidding.{AreForbidding, EndangersBelow, IsExploredFor, IsFixedFor, IsForbidding, NoneForbids, NoneMay, ReturnsLeast}
-pub use Rattle.reloading.specs.Narrowing.{EndsAt, EntriesTell, ReportsMessage, QueuesTell, ReportsBelow, bound_of, joined, obstacle_of}
+pub use Rattle.reloading.specs.Narrowing.{EndsAt, EntriesReport, ReportsMessage, QueuesReport, ReportsBelow, bound_of, joined, obstacle_of}
 pub use Rattle.reloading.specs.Obstacles.{EndangersNone, IsUsed, Judges, ReportsEntries, ReportsEntry, ReportsQueue, ReportsQueues, ReportsUse}
 pub use Rattle.reloading.specs.declared.danger.Danger.{Danger}
 pub use Rattle.reloading.specs.Passed.{kept}

@@ -1,5 +1,5 @@
 -- The first guarantee about which anything is reported, narrowed message by message and queue by queue.
-use Rattle.reloading.proofs.Names.{◌≡◌, ℕ, zero, suc, ◌+◌, ◌<◌, ◌≤◌, List, [], ◌∷◌, ◌++◌, length, length-append, Option, Some, None, ◌⊎◌, inl, inr, refl, sym, subst, ◌∙◌, arith, slice_get, Bool, Text, Topology, IsIn, Guarantee, Message, Entry, Obstacle, Danger, ReportsNoneBelow, ReportsFirst, ReportsEntries, ReportsQueues, AreForbidding, IsForbidding, NoneForbids, NoneMay, EndangersBelow, EndsAt, EntriesTell, ReportsMessage, QueuesTell, ReportsBelow, bound_of, joined, obstacle_of}
+use Rattle.reloading.proofs.Names.{◌≡◌, ℕ, zero, suc, ◌+◌, ◌<◌, ◌≤◌, List, [], ◌∷◌, ◌++◌, length, length-append, Option, Some, None, ◌⊎◌, inl, inr, refl, sym, subst, ◌∙◌, arith, slice_get, Bool, Text, Topology, IsIn, Guarantee, Message, Entry, Obstacle, Danger, ReportsNoneBelow, ReportsFirst, ReportsEntries, ReportsQueues, AreForbidding, IsForbidding, NoneForbids, NoneMay, EndangersBelow, EndsAt, EntriesReport, ReportsMessage, QueuesReport, ReportsBelow, bound_of, joined, obstacle_of}
 use Rattle.std.proofs.lemmas.Option.{slice_get_within}
 use Rattle.std.specs.Borrow.{Bor}
 use Rattle.std.specs.Prelude.{IfSome}
@@ -71,15 +71,15 @@ module _ (t : Topology) (gs : List Guarantee) (bound : ℕ) (entries : ℕ → L
       (λ i g o was reported. entry_told t g (i + 1) q (entries p) e now then' o is was reported.0 reported.1)
       (λ i g o reported. reported) bound found more a b
 
-  pub entries_all : (now : List Entry) (found : Option Danger) → now ≡ [] → ReportsBelow (SoFar now) gs bound found → ReportsBelow (EntriesTell t entries p q) gs bound found
-  entries_all now found is a = retold (SoFar now) (EntriesTell t entries p q) gs bound found (λ i g lt at was. passed_all (IsEndangered t g q) (entries p) now is was) (λ i g o reported. reported) a
+  pub entries_all : (now : List Entry) (found : Option Danger) → now ≡ [] → ReportsBelow (SoFar now) gs bound found → ReportsBelow (EntriesReport t entries p q) gs bound found
+  entries_all now found is a = retold (SoFar now) (EntriesReport t entries p q) gs bound found (λ i g lt at was. passed_all (IsEndangered t g q) (entries p) now is was) (λ i g o reported. reported) a
 
   -- those before it endanger no message of the queue
-  pub entries_end : (least : ℕ) (now : List Entry) (found : Option Danger) → NoneMay t gs least q → EndsAt found least → ReportsBelow (SoFar now) gs bound found → ReportsBelow (EntriesTell t entries p q) gs bound found
+  pub entries_end : (least : ℕ) (now : List Entry) (found : Option Danger) → NoneMay t gs least q → EndsAt found least → ReportsBelow (SoFar now) gs bound found → ReportsBelow (EntriesReport t entries p q) gs bound found
   entries_end least now None may end a = absurd end
-  entries_end least now (Some d) may end a = retold (SoFar now) (EntriesTell t entries p q) gs bound (Some d) (λ i g lt at was j e there. may i g (omega (arith, lt, end)) at e.message) (λ i g o reported. reported) a
+  entries_end least now (Some d) may end a = retold (SoFar now) (EntriesReport t entries p q) gs bound (Some d) (λ i g lt at was j e there. may i g (omega (arith, lt, end)) at e.message) (λ i g o reported. reported) a
 
-  pub entries_none : NoneMay t gs bound q → ReportsBelow (EntriesTell t entries p q) gs bound None
+  pub entries_none : NoneMay t gs bound q → ReportsBelow (EntriesReport t entries p q) gs bound None
   entries_none may i g lt at = λ j e there. may i g lt at e.message
 
   -- ---- messages that were judged
@@ -107,17 +107,17 @@ module _ (t : Topology) (gs : List Guarantee) (names : List Text) (entries : ℕ
   pub queues_begin : ReportsBelow (QueuesSoFar 0) gs (length gs) None
   queues_begin i g lt at = λ j x below there. absurd (omega (arith, below))
 
-  pub queues_more : (p : ℕ) (q : Text) (found more : Option Danger) → slice_get names p ≡ Some q → ReportsBelow (QueuesSoFar p) gs (length gs) found → ReportsBelow (EntriesTell t entries p q) gs (bound_of found (length gs)) more
+  pub queues_more : (p : ℕ) (q : Text) (found more : Option Danger) → slice_get names p ≡ Some q → ReportsBelow (QueuesSoFar p) gs (length gs) found → ReportsBelow (EntriesReport t entries p q) gs (bound_of found (length gs)) more
       → ReportsBelow (QueuesSoFar (p + 1)) gs (length gs) (joined more found)
-  queues_more p q found more there a b = narrow (QueuesSoFar p) (EntriesTell t entries p q) (QueuesSoFar (p + 1)) gs
+  queues_more p q found more there a b = narrow (QueuesSoFar p) (EntriesReport t entries p q) (QueuesSoFar (p + 1)) gs
       (λ i g was not. one_more (ReportsEntries t g (i + 1) entries) names p q there was not)
       (λ i g o was reported. told_at (ReportsEntries t g (i + 1) entries) names p q o there was reported)
       (λ i g o reported. reported) (length gs) found more a b
 
-  pub queues_all : (p : ℕ) (found : Option Danger) → length names ≤ p → ReportsBelow (QueuesSoFar p) gs (length gs) found → ReportsBelow (QueuesTell t names entries) gs (length gs) found
-  queues_all p found le a = retold (QueuesSoFar p) (QueuesTell t names entries) gs (length gs) found (λ i g lt at was. none_of_all (ReportsEntries t g (i + 1) entries) names p le was) (λ i g o reported. reported) a
+  pub queues_all : (p : ℕ) (found : Option Danger) → length names ≤ p → ReportsBelow (QueuesSoFar p) gs (length gs) found → ReportsBelow (QueuesReport t names entries) gs (length gs) found
+  queues_all p found le a = retold (QueuesSoFar p) (QueuesReport t names entries) gs (length gs) found (λ i g lt at was. none_of_all (ReportsEntries t g (i + 1) entries) names p le was) (λ i g o reported. reported) a
 
-  pub all_told : (found : Option Danger) → ReportsBelow (QueuesTell t names entries) gs (length gs) found → ReportsFirst (ReportsQueues t names entries) gs (obstacle_of found)
+  pub all_told : (found : Option Danger) → ReportsBelow (QueuesReport t names entries) gs (length gs) found → ReportsFirst (ReportsQueues t names entries) gs (obstacle_of found)
   all_told None a = λ i g at. a i g (slice_get_within gs i g at) at
   all_told (Some d) a = record { place = d.guarantee; one = a.guarantee; there = a.there; reports = a.reports; none_before = a.none_before }
 

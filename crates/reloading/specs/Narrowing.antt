@@ -51,9 +51,9 @@ ReportsMessage t q m i g (Some o) = Endangers t g q m × (o ≡ Breaks q m.first
 ReportsMessage t q m i g None = Endangers t g q m → ⊥
 
 -- the first message that the guarantee endangers is reported, of the queue at index `p`
-abbrev pub EntriesTell : Topology → (ℕ → List Entry) → ℕ → Text → ℕ → Guarantee → Option Obstacle → Type 0
-EntriesTell t entries p q i g o = ReportsEntries t g (i + 1) entries p q o
+abbrev pub EntriesReport : Topology → (ℕ → List Entry) → ℕ → Text → ℕ → Guarantee → Option Obstacle → Type 0
+EntriesReport t entries p q i g o = ReportsEntries t g (i + 1) entries p q o
 
 -- of the messages in all queues, the first that the guarantee endangers is reported, if there is one
-abbrev pub QueuesTell : Topology → List Text → (ℕ → List Entry) → ℕ → Guarantee → Option Obstacle → Type 0
-QueuesTell t names entries i g o = ReportsQueues t names entries i g o
+abbrev pub QueuesReport : Topology → List Text → (ℕ → List Entry) → ℕ → Guarantee → Option Obstacle → Type 0
+QueuesReport t names entries i g o = ReportsQueues t names entries i g o

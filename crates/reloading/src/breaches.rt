@@ -8,7 +8,7 @@ ghost use Rattle.paths.specs.Deaths.{AreDeaths};
 ghost use Rattle.reloading.specs.First.{ReportsFirst};
 ghost use Rattle.reloading.specs.Forbidding.{AreForbidding, EndangersBelow, IsFixedFor, NoneForbids, NoneMay};
 ghost use Rattle.reloading.specs.Obstacles.{AreAlike, ReportsQueues};
-ghost use Rattle.reloading.specs.Narrowing.{EntriesTell, ReportsMessage, QueuesTell, ReportsBelow};
+ghost use Rattle.reloading.specs.Narrowing.{EntriesReport, ReportsMessage, QueuesReport, ReportsBelow};
 ghost use Rattle.reloading.specs.Wanting.{HasNever};
 
 use crate::danger::Danger;
@@ -110,7 +110,7 @@ fn first_of_entries<S: LiveQueues>(
     requires forbidding { AreForbidding topology.now guarantees.now (length guarantees.now) forbidding.now }
     requires fixed { IfSome fixed (λ explored. IsFixedFor topology.now queue.now explored.now) }
     requires least { NoneMay topology.now guarantees.now least queue.now }
-    ensures { IfOk result (ReportsBelow (EntriesTell topology.now (S.entries live.now) place queue.now) guarantees.now bound) }
+    ensures { IfOk result (ReportsBelow (EntriesReport topology.now (S.entries live.now) place queue.now) guarantees.now bound) }
 {
     let mut passed = none_passed();
     let mut slot = 0;
@@ -148,7 +148,7 @@ fn first_of_dying<S: LiveQueues>(
     requires bound { bound ≤ length guarantees.now }
     requires deaths { AreDeaths topology.now deaths.now }
     requires forbidding { AreForbidding topology.now guarantees.now (length guarantees.now) forbidding.now }
-    ensures { IfOk result (ReportsBelow (EntriesTell topology.now (S.entries live.now) place queue.now) guarantees.now bound) }
+    ensures { IfOk result (ReportsBelow (EntriesReport topology.now (S.entries live.now) place queue.now) guarantees.now bound) }
 {
     let name = queue.as_bytes();
     let fixed = fixed_for(topology, deaths, name);
@@ -176,7 +176,7 @@ fn first_of_queue<S: LiveQueues>(
     requires bound { bound ≤ length guarantees.now }
     requires deaths { AreDeaths topology.now deaths.now }
     requires forbidding { AreForbidding topology.now guarantees.now (length guarantees.now) forbidding.now }
-    ensures { IfOk result (ReportsBelow (EntriesTell topology.now (S.entries live.now) place queue.now) guarantees.now bound) }
+    ensures { IfOk result (ReportsBelow (EntriesReport topology.now (S.entries live.now) place queue.now) guarantees.now bound) }
 {
     match topology.dead_letter(queue.as_bytes(), &[]) {
         Some(_) => first_of_dying(
@@ -198,7 +198,7 @@ fn first_of_queues<S: LiveQueues>(
 ) -> Result<Option<Danger>, AllocError>
     requires deaths { AreDeaths topology.now deaths.now }
     requires forbidding { AreForbidding topology.now guarantees.now (length guarantees.now) forbidding.now }
-    ensures { IfOk result (ReportsBelow (QueuesTell topology.now (queue_names old.now.queues) (S.entries live.now)) guarantees.now (length guarantees.now)) }
+    ensures { IfOk result (ReportsBelow (QueuesReport topology.now (queue_names old.now.queues) (S.entries live.now)) guarantees.now (length guarantees.now)) }
 {
     let mut found = None;
     for place in 0..old.queues().len() {

@@ -65,7 +65,7 @@ pub fn like_at<'a>(passed: &Passed<'a>, slot: usize, message: &Message) -> Optio
 }
 
 /// Returns whether slot `slot` is empty or has a message like `message`.
-fn may_stand(passed: &Passed<'_>, slot: usize, message: &Message) -> bool
+fn may_hold(passed: &Passed<'_>, slot: usize, message: &Message) -> bool
     requires { slot < 2048 }
 {
     match passed[slot] {
@@ -81,7 +81,7 @@ fn found_slot(passed: &Passed<'_>, message: &Message) -> usize
     let first = first_slot(message);
     for more in 0..TRIES {
         let slot = (first + more) % SLOTS;
-        if may_stand(passed, slot, message) {
+        if may_hold(passed, slot, message) {
             return slot;
         }
     }
@@ -94,7 +94,7 @@ pub fn slot_of(passed: &Passed<'_>, before: usize, message: &Message) -> usize
     requires { before < 2048 }
     ensures { result < 2048 }
 {
-    if may_stand(passed, before, message) {
+    if may_hold(passed, before, message) {
         before
     } else {
         found_slot(passed, message)

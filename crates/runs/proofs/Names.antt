@@ -1,6 +1,6 @@
 -- The names that several files of these proofs use.
 pub use Rattle.laws.proofs.Consistency.{awaits_consistent, consistent_same, loses_consistent, new_is_consistent, opens_consistent, pumps_consistent, reloads_consistent, takes_consistent, turns_consistent}
-pub use Rattle.model.specs.Arrivals.{Delivers, Happens, Loses, Opens, Pauses, Plays, Puts, Reloads, Same, SameToCome, Seen, Shown, Shows, Takes_off, Turns, Waits, Wire, Works, World, can_open, delivers, idles, is_ended, is_gone, is_over, is_paused, new_world, none_more, one_more, still, with_setup, waits, with_heard}
+pub use Rattle.model.specs.Arrivals.{Delivers, Happens, Loses, Opens, Pauses, Plays, Puts, Reloads, Same, SameToCome, Seen, Shown, Shows, TakesOutput, Turns, Waits, Wire, Works, World, can_open, delivers, idles, is_ended, is_gone, is_over, is_paused, new_world, none_more, one_more, still, with_setup, waits, with_heard}
 pub use Rattle.model.specs.Broker.{with_one}
 pub use Rattle.model.specs.Commands.{Stream, stays}
 pub use Rattle.model.specs.Headline.{IsSound}

@@ -1,5 +1,5 @@
 -- Turns, arrivals and lists of them, one after another.
-use Rattle.runs.proofs.Names.{◌≡◌, ℕ, List, [], ◌∷◌, ◌++◌, Bool, true, false, map, take, refl, sym, ap, subst, ◌∙◌, append_assoc, append-nil, MatchBool, Result, Ok, Err, OnOk, map-append, running_session, Happening, Config, IsSound, IsObstacle, Occurrence, Of_event, Of_reload, World, Seen, Turns, Works, none_more, one_more, Same, with_heard, is_over, is_gone, can_open, Loses, Takes_off, delivers, idles, Plays, Note, Reloaded, ReloadRefused, Obstacle, Arrival, opens_consistent, awaits_consistent, RecordsEvents, gathered, with_opened, OpensNew, OpensReady, Hears, Did, DidNothing, Idles, Pumped, TakesAway, IsLost, IsPutInForce, WorksAndRecords, AnswersAndRecords, PlaysAndRecords}
+use Rattle.runs.proofs.Names.{◌≡◌, ℕ, List, [], ◌∷◌, ◌++◌, Bool, true, false, map, take, refl, sym, ap, subst, ◌∙◌, append_assoc, append-nil, MatchBool, Result, Ok, Err, OnOk, map-append, running_session, Happening, Config, IsSound, IsObstacle, Occurrence, Of_event, Of_reload, World, Seen, Turns, Works, none_more, one_more, Same, with_heard, is_over, is_gone, can_open, Loses, TakesOutput, delivers, idles, Plays, Note, Reloaded, ReloadRefused, Obstacle, Arrival, opens_consistent, awaits_consistent, RecordsEvents, gathered, with_opened, OpensNew, OpensReady, Hears, Did, DidNothing, Idles, Pumped, TakesAway, IsLost, IsPutInForce, WorksAndRecords, AnswersAndRecords, PlaysAndRecords}
 use Rattle.std.specs.Prelude.{Some, None}
 use Rattle.model.specs.Opening.{new_session}
 use Rattle.model.specs.declared.events.Arrival.TheVariants as arrival
@@ -84,7 +84,7 @@ hears a m b c bytes s t e heard w =
 pub takes : (a m b : World) (c n : ℕ) (s t u : Seen) → is_gone a c ≡ false → t ≡ record s { connections = gathered s.connections c (take n (a.wire c).output) } → TakesAway a c n m → WorksAndRecords m c t b u
     → AnswersAndRecords a (arrival.Sent c n) s b u
 takes a m b c n s t u e gathers took w =
-    let off : (hs : List Happening) × Takes_off a c n hs m = of_false (is_gone a c) (Same a m) _ e took in (
+    let off : (hs : List Happening) × TakesOutput a c n hs m = of_false (is_gone a c) (Same a m) _ e took in (
       map Of_event (off.0 ++ w.0),
       tt,
       (off.0 ++ w.0, refl, match_false (is_gone a c) _ _ e (record { first = off.0; rest = w.0; all = refl; mid = m; takes = off.1; works = w.1 })),

@@ -1,5 +1,5 @@
 -- What each happening adds to what is written down.
-use Rattle.runs.proofs.Names.{◌≡◌, ◌≢◌, ℕ, ◌+◌, ◌-◌, ◌≤◌, List, [], ◌∷◌, ◌++◌, Bool, true, false, cond, not, eqb, length, map, take, drop, refl, sym, ap, subst, ◌∙◌, arith, append-nil, append_assoc, eq-eqb, ne_eqb, inl, inr, ◌&&◌, is_some, Config, State, Session, no_session, is_running, with_one, Happening, notes_of, put_out, Occurrence, Of_event, events_of, noted_at, notes_over, Stream, World, Wire, Shown, Seen, is_over, is_paused, is_ended, Pauses, Happens, Puts, Turns, Waits, Same, with_heard, Takes_off, Opens, Delivers, delivers, Loses, Reloads, IsSound, consistent_same, turns_consistent, takes_consistent, pumps_consistent, loses_consistent, reloads_consistent, Note, taken_at, gathered, with_opened, AreUnopened, Records, RecordsEvents}
+use Rattle.runs.proofs.Names.{◌≡◌, ◌≢◌, ℕ, ◌+◌, ◌-◌, ◌≤◌, List, [], ◌∷◌, ◌++◌, Bool, true, false, cond, not, eqb, length, map, take, drop, refl, sym, ap, subst, ◌∙◌, arith, append-nil, append_assoc, eq-eqb, ne_eqb, inl, inr, ◌&&◌, is_some, Config, State, Session, no_session, is_running, with_one, Happening, notes_of, put_out, Occurrence, Of_event, events_of, noted_at, notes_over, Stream, World, Wire, Shown, Seen, is_over, is_paused, is_ended, Pauses, Happens, Puts, Turns, Waits, Same, with_heard, TakesOutput, Opens, Delivers, delivers, Loses, Reloads, IsSound, consistent_same, turns_consistent, takes_consistent, pumps_consistent, loses_consistent, reloads_consistent, Note, taken_at, gathered, with_opened, AreUnopened, Records, RecordsEvents}
 use Rattle.std.specs.List.{AllByRecursion}
 use Rattle.std.proofs.lemmas.Bool.{eqb-true, eqb-false, false≢true}
 use Rattle.std.proofs.lemmas.List.Concat.{flat_map-append}
@@ -242,7 +242,7 @@ unopened_still a b c given here over there others none i le = go (eqb (i + 1) c)
         (ap (λ (n : ℕ). (b.wire n).output) e ∙ here (ap (λ (n : ℕ). (a.wire n).output) (sym e) ∙ was.0), ap (is_over b) e ∙ over (ap (is_over a) (sym e) ∙ was.1))
     go false q = let ne : i + 1 ≢ c = eqb-false (i + 1) c q in (there (i + 1) ne ∙ was.0, others (i + 1) ne ∙ was.1)
 
-pub tells_takes : (a b : World) (c n : ℕ) (hs : List Happening) (s : Seen) → Takes_off a c n hs b → RecordsEvents a s (map Of_event hs) b (record s { connections = gathered s.connections c (take n (a.wire c).output) })
+pub tells_takes : (a b : World) (c n : ℕ) (hs : List Happening) (s : Seen) → TakesOutput a c n hs b → RecordsEvents a s (map Of_event hs) b (record s { connections = gathered s.connections c (take n (a.wire c).output) })
 tells_takes a b c n hs s t =
     let out = (a.wire c).output in
     let after = settled a.config a.state b.state c _ _ hs t.pauses in

@@ -3,7 +3,7 @@ use Rattle.std.specs.Prelude.{◌≡◌, ◌+◌, ℕ, List, Bool, true, false, 
 use Rattle.model.specs.Run.{Happening, notes_of}
 use Rattle.model.specs.Phases.{is_running}
 use Rattle.model.specs.Commands.{Stream, opened_stream, running_stream}
-use Rattle.model.specs.Arrivals.{World, Same, Waits, Rests, Turns, Opens, Loses, Takes_off, Delivers, NoneCanDeliver, can_open, is_over, is_gone, with_heard}
+use Rattle.model.specs.Arrivals.{World, Same, Waits, Rests, Turns, Opens, Loses, TakesOutput, Delivers, NoneCanDeliver, can_open, is_over, is_gone, with_heard}
 use Rattle.model.specs.declared.events.Event.{Event}
 use Rattle.model.specs.declared.events.Event.TheVariants as event
 use Rattle.model.specs.declared.notes.Note.{Note}
@@ -57,7 +57,7 @@ PumpMeans old did new = MatchOption did (Idles old new) (λ d. Pumped old d.conn
 
 -- `n` bytes of the output are taken, unless the connection is gone
 abbrev pub TakesAway : World → ℕ → ℕ → World → Type 0
-TakesAway old c n new = MatchBool (is_gone old c) (Same old new) ((hs : List Happening) × Takes_off old c n hs new)
+TakesAway old c n new = MatchBool (is_gone old c) (Same old new) ((hs : List Happening) × TakesOutput old c n hs new)
 
 -- the connection is lost, unless it is gone
 abbrev pub IsLost : World → ℕ → World → Type 0

@@ -17,10 +17,10 @@ pub enum Unmet {
         number: u64,
         expected: u64,
     },
-    /// The bytes called `name` differ from the expected ones, first at index `place`.
+    /// The bytes called `name` differ from the expected ones, first at `index`.
     Bytes {
         name: &'static str,
-        place: usize,
+        index: usize,
     },
 }
 
@@ -34,7 +34,7 @@ impl fmt::Display for Unmet {
                 number,
                 expected,
             } => write!(f, "{name} is {number}, not {expected}"),
-            Unmet::Bytes { name, place } => write!(f, "{name} differs at byte {place}"),
+            Unmet::Bytes { name, index } => write!(f, "{name} differs at byte {index}"),
         }
     }
 }
@@ -76,7 +76,7 @@ pub fn expect_number(name: &'static str, number: u64, expected: u64) -> Result<(
 }
 
 /// Returns the index of the first difference, or the length of the shorter slice if one is a prefix of the other.
-fn place_of_difference(bytes: &[u8], expected: &[u8]) -> usize {
+fn index_of_difference(bytes: &[u8], expected: &[u8]) -> usize {
     bytes
         .iter()
         .zip(expected.iter())
@@ -93,6 +93,6 @@ pub fn expect_bytes(name: &'static str, bytes: &[u8], expected: &[u8]) -> Result
     }
     Err(Unmet::Bytes {
         name,
-        place: place_of_difference(bytes, expected),
+        index: index_of_difference(bytes, expected),
     })
 }

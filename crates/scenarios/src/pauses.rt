@@ -2,7 +2,7 @@
 
 use certificate::Checked;
 use engine::{Setup, run};
-use model::{Arrival, Binding, DeclaredQueue, Exchange, ExchangeKind, Note, Place, Text};
+use model::{Arrival, Binding, DeclaredQueue, Destination, Exchange, ExchangeKind, Note, Text};
 use runs::Transcript;
 use scenario_parts::{Unmet, expect, expect_number, in_force, plain_queue, value_of};
 use std::alloc::{AllocError, Global};
@@ -53,7 +53,7 @@ fn shop(alloc: Global, to: Text) -> Result<Checked, Unmet> {
     };
     let binding = Binding {
         source: Text::short(b"orders"),
-        to: Place::Queue(to),
+        to: Destination::Queue(to),
         key: Text::short(b"new"),
     };
     in_force(

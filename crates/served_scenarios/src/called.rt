@@ -1,7 +1,7 @@
 //! The callers that the pages for embedders quote: each returns what its page says.
 
 use callers::{answer, ask_route, serve_client};
-use model::{Binding, Exchange, ExchangeKind, Place, Text};
+use model::{Binding, Destination, Exchange, ExchangeKind, Text};
 use scenario_parts::{
     Unmet, expect, expect_number, expect_opened_and_acked, new_broker, opening_and_publish,
     plain_queue, value_of,
@@ -27,7 +27,7 @@ pub(crate) fn a_route_is_asked(alloc: Global) -> Result<(), Unmet> {
     let mut bindings = Vec::new(alloc);
     let binding = Binding {
         source: Text::short(b"D"),
-        to: Place::Queue(Text::short(b"b")),
+        to: Destination::Queue(Text::short(b"b")),
         key: Text::short(b"new"),
     };
     value_of("Vec::push", bindings.push(binding))?;

@@ -6,7 +6,7 @@ use Rattle.model.specs.Topology.{Topology}
 use Rattle.model.specs.Guarantee.{Guarantee}
 use Rattle.model.specs.Certificates.{Certificate}
 use Rattle.model.specs.declared.topologies.ExchangeKind.TheVariants.{Direct}
-use Rattle.model.specs.declared.topologies.Place.TheVariants as place
+use Rattle.model.specs.declared.topologies.Destination.TheVariants as destination
 use Rattle.json_file.specs.declared.causes.FileCause.{FileCause}
 use Rattle.json_file.specs.Causes.{cause_number}
 use Rattle.definitions.specs.Reads.{Stated, ReadsDefinitions, IsFirst}
@@ -27,7 +27,7 @@ abbrev pub built_in : Topology
 built_in = record {
   exchanges = record { name = codes "orders"; kind = Direct; internal = false; alternate = None } ∷ [];
   queues = record { name = codes "audit"; limit = None; byte_limit = None; dead_letter_exchange = None; dead_letter_key = None } ∷ [];
-  bindings = record { source = codes "orders"; to = place.Queue (codes "audit"); key = codes "new" } ∷ [];
+  bindings = record { source = codes "orders"; to = destination.Queue (codes "audit"); key = codes "new" } ∷ [];
 }
 
 -- the file has definitions to which no cause of refusal applies, and they state `stated`

@@ -4,7 +4,7 @@ ghost use Rattle.std.specs.Prelude.{◌≡◌, IfOk};
 ghost use Rattle.server.specs.Stated.{built_in};
 
 use exchange_graph::Topology;
-use model::{Binding, DeclaredQueue, Exchange, ExchangeKind, Place, Text};
+use model::{Binding, DeclaredQueue, Destination, Exchange, ExchangeKind, Text};
 use std::alloc::{AllocError, Global};
 use topology_drafts::BadTopology;
 
@@ -44,7 +44,7 @@ fn new_orders(alloc: Global) -> Result<Vec<Binding>, AllocError>
     let mut bindings = Vec::new(alloc);
     bindings.push(Binding {
         source: Text::from_slice(alloc, b"orders")?,
-        to: Place::Queue(Text::from_slice(alloc, b"audit")?),
+        to: Destination::Queue(Text::from_slice(alloc, b"audit")?),
         key: Text::from_slice(alloc, b"new")?,
     })?;
     Ok(bindings)

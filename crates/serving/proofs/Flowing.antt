@@ -1,5 +1,5 @@
 -- What was taken of an output, with what waits there, is what was put out; of one that is gone it is a beginning.
-use Rattle.serving.proofs.Names.{◌≡◌, ◌≢◌, ◌<◌, ℕ, ◌+◌, List, [], ◌∷◌, ◌++◌, Bool, true, false, eqb, length, take, drop, map, refl, sym, ap, subst, ◌∙◌, append_assoc, append-nil, flat_map, ◌⊎◌, inl, inr, Some, arith, eqb-true, eqb-false, false≢true, lt-ltb, length-take-le, flat_map-append, ◌==◌, ◌&&◌, nat_lt, if◌then◌else◌, MatchBool, AllByRecursion, Session, no_session, running_session, with_one, Stream, IsSound, Config, State, Happening, put_out, Occurrence, Of_event, IsDecided, events_of, World, Wire, new_world, is_over, is_gone, is_ended, can_open, Turns, Works, none_more, one_more, Waits, WorksOff, Same, with_heard, Takes_off, TakesAndWorks, Opens, Loses, Puts, Pumps, delivers, idles, Answers, ByEvents, Reloads, IsConsistent, Arrival, Traffic, Attempt, whole, short, FallsShort, Attempts, Served, served, Deed, Enters, Leaves, Stays, Met, Turned_away, Met_no_one, Heard, Heard_partly, Heard_nothing, Heard_end, Gave, Gave_partly, Gave_nothing, Gave_up, Pumped_nothing, Pump_refused, Closed_gone, Paused, Reload_decided, Reload_undecided, calls, IsFront, DoesDeed, Story, written_to, AreBeginnings, Peer, IsOffered, new_is_consistent, events-append, events-mapped, Lacks}
+use Rattle.serving.proofs.Names.{◌≡◌, ◌≢◌, ◌<◌, ℕ, ◌+◌, List, [], ◌∷◌, ◌++◌, Bool, true, false, eqb, length, take, drop, map, refl, sym, ap, subst, ◌∙◌, append_assoc, append-nil, flat_map, ◌⊎◌, inl, inr, Some, arith, eqb-true, eqb-false, false≢true, lt-ltb, length-take-le, flat_map-append, ◌==◌, ◌&&◌, nat_lt, if◌then◌else◌, MatchBool, AllByRecursion, Session, no_session, running_session, with_one, Stream, IsSound, Config, State, Happening, put_out, Occurrence, Of_event, IsDecided, events_of, World, Wire, new_world, is_over, is_gone, is_ended, can_open, Turns, Works, none_more, one_more, Waits, WorksOff, Same, with_heard, TakesOutput, TakesAndWorks, Opens, Loses, Puts, Pumps, delivers, idles, Answers, ByEvents, Reloads, IsConsistent, Arrival, Traffic, Attempt, whole, short, FallsShort, Attempts, Served, served, Deed, Enters, Leaves, Stays, Met, Turned_away, Met_no_one, Heard, Heard_partly, Heard_nothing, Heard_end, Gave, Gave_partly, Gave_nothing, Gave_up, Pumped_nothing, Pump_refused, Closed_gone, Paused, Reload_decided, Reload_undecided, calls, IsFront, DoesDeed, Story, written_to, AreBeginnings, Peer, IsOffered, new_is_consistent, events-append, events-mapped, Lacks}
 use Rattle.std.specs.Prelude.{not}
 use Rattle.model.specs.Opening.{new_session}
 use Rattle.model.specs.Spelling.{sends_to, spelling}
@@ -179,7 +179,7 @@ flows_loses d c a b hs l = go (eqb d c) refl
 
 -- ---- output that is taken
 
-flows_takes : (d c n : ℕ) (a b : World) (hs : List Happening) → Takes_off a c n hs b → Flows d a (if c == d then take n (a.wire c).output else []) hs b
+flows_takes : (d c n : ℕ) (a b : World) (hs : List Happening) → TakesOutput a c n hs b → Flows d a (if c == d then take n (a.wire c).output else []) hs b
 flows_takes d c n a b hs t = go (c == d) refl
   where
     quiet : put_out d hs ≡ []
@@ -255,7 +255,7 @@ flows_opening : (d : ℕ) (a b : World) (P : Type 0) (hs : List Happening) (x : 
 flows_opening d a b P hs true f p = f p
 flows_opening d a b P hs false f p = flows_same d a b hs p
 
-flows_taken : (d c n : ℕ) (a m k b : World) (hs first rest : List Happening) → hs ≡ first ++ rest → Takes_off a c n first m → Works c m rest k → Waits k c b → Flows d a (if c == d then take n (a.wire c).output else []) hs b
+flows_taken : (d c n : ℕ) (a m k b : World) (hs first rest : List Happening) → hs ≡ first ++ rest → TakesOutput a c n first m → Works c m rest k → Waits k c b → Flows d a (if c == d then take n (a.wire c).output else []) hs b
 flows_taken d c n a m k b hs first rest e t w v =
     let taken = if c == d then take n (a.wire c).output else [] in
     flows_at d a b taken hs (first ++ rest) e (subst (λ (z : List ℕ). Flows d a z (first ++ rest) b) (append-nil taken) (flows_then d a m b taken [] first rest (flows_takes d c n a m first t) (flows_worked d c m k b rest w v)))

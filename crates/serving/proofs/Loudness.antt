@@ -2,7 +2,7 @@
 use Rattle.serving.proofs.Names.{◌≡◌, ◌≤◌, ◌<◌, ◌+◌, ◌-◌, ◌*◌, ◌++◌, ℕ, zero, suc, max, List, [], ◌∷◌, Bool, true, false, cond, Option, None, length, replicate, drop, flat_map, append-nil, refl, sym, ap, subst, ◌∙◌, ◌⊎◌, inl, inr, slice_set, slice_index_or, arith, false≢true, cases_eq, cases_lt, drop_all, World, Ask, AreLoud, AreQuiet, IsMarkedAt, IsNextLoud, loud_bit, HasEnded, write_of, Peer}
 use Rattle.std.proofs.Common.{not}
 use Rattle.std.proofs.Math.Nat.{max-eq_left, max-eq_right}
-use Rattle.marks.specs.Places.{Differs, IsNextMark, bit_of}
+use Rattle.marks.specs.Sets.{Differs, IsNextMark, bit_of}
 use Rattle.serving.proofs.Others.{due_at, later_on}
 use Rattle.serving.proofs.Quieting.{marked_ended, marked_silent}
 

@@ -3,7 +3,7 @@ pub use Rattle.laws.proofs.Consistency.{hears_consistent, linked, new_is_consist
 pub use Rattle.laws.proofs.Counts.{all-append, in_back, in_front}
 pub use Rattle.laws.proofs.Histories.{ToldOver, events-append, events-mapped, over-append, over_at, over_plays, over_told}
 pub use Rattle.laws.specs.Reloading.{IsOffered}
-pub use Rattle.model.specs.Arrivals.{Answers, ByEvents, Delivers, Loses, NoneCanDeliver, Opens, Pauses, Plays, Pumps, Puts, Reloads, Same, Shows, TakesAndWorks, Takes_off, Turns, Waits, Wire, Works, WorksOff, World, can_open, delivers, has_output, idles, is_awake, is_ended, is_gone, is_over, is_past_bound, is_paused, new_world, none_more, one_more, shown, standing, with_heard}
+pub use Rattle.model.specs.Arrivals.{Answers, ByEvents, Delivers, Loses, NoneCanDeliver, Opens, Pauses, Plays, Pumps, Puts, Reloads, Same, Shows, TakesAndWorks, TakesOutput, Turns, Waits, Wire, Works, WorksOff, World, can_open, count_open, delivers, has_output, idles, is_awake, is_ended, is_gone, is_over, is_past_bound, is_paused, new_world, none_more, one_more, shown, with_heard}
 pub use Rattle.model.specs.Broker.{with_one}
 pub use Rattle.model.specs.Commands.{Stream, opened_stream}
 pub use Rattle.model.specs.Consistent.{IsConsistent}

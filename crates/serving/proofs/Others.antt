@@ -1,5 +1,5 @@
 -- An arrival of one connection leaves the others as they were, and so what is due of them.
-use Rattle.serving.proofs.Names.{◌≡◌, ◌≢◌, ℕ, ◌+◌, List, [], ◌∷◌, ◌++◌, Bool, true, false, cond, eqb→eq, T, drop, suc, zero, slice_index_or, append_assoc, Option, Some, None, length, refl, sym, ap, subst, ◌∙◌, flat_map, inl, inr, arith, get_or-drop, nat_lt, MatchBool, ◌&&◌, ◌==◌, if◌then◌else◌, with_one, Session, Config, State, Happening, Occurrence, opened_stream, World, Wire, Works, none_more, one_more, Waits, WorksOff, Answers, Takes_off, TakesAndWorks, Loses, Pauses, Same, with_heard, is_over, is_gone, is_past_bound, is_ended, is_awake, has_output, Opens, Delivers, Ask, To_read, To_write, FallsShort, At, OthersStay, IsFit, read_of, write_of, Peer, Lacks}
+use Rattle.serving.proofs.Names.{◌≡◌, ◌≢◌, ℕ, ◌+◌, List, [], ◌∷◌, ◌++◌, Bool, true, false, cond, eqb→eq, T, drop, suc, zero, slice_index_or, append_assoc, Option, Some, None, length, refl, sym, ap, subst, ◌∙◌, flat_map, inl, inr, arith, get_or-drop, nat_lt, MatchBool, ◌&&◌, ◌==◌, if◌then◌else◌, with_one, Session, Config, State, Happening, Occurrence, opened_stream, World, Wire, Works, none_more, one_more, Waits, WorksOff, Answers, TakesOutput, TakesAndWorks, Loses, Pauses, Same, with_heard, is_over, is_gone, is_past_bound, is_ended, is_awake, has_output, Opens, Delivers, Ask, To_read, To_write, FallsShort, At, OthersStay, IsFit, read_of, write_of, Peer, Lacks}
 use Rattle.std.proofs.Common.{not}
 use Rattle.model.specs.declared.events.Arrival.TheVariants as arrival
 use Rattle.model.specs.declared.events.Event.TheVariants as event
@@ -39,7 +39,7 @@ settles_sessions f mid new c true false hs s d = s.2.stepped.session d
 settles_sessions f mid new c true true hs s d = ap (λ (z : State). z.session d) s.1
 settles_sessions f mid new c false false hs s d = ap (λ (z : State). z.session d) s.1
 
-apart_takes : (c n : ℕ) (a b : World) (hs : List Happening) → Takes_off a c n hs b → OthersStay c a b
+apart_takes : (c n : ℕ) (a b : World) (hs : List Happening) → TakesOutput a c n hs b → OthersStay c a b
 apart_takes c n a b hs t = record { wires = λ d ne. t.wires d ∙ other_one a.wire c _ d ne; sessions = λ d ne. settles_sessions a.config a.state b.state c _ _ hs t.pauses d }
 
 -- an arrival does nothing, or this

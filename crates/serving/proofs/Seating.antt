@@ -1,5 +1,5 @@
 -- If a connection can be opened a slot is free: each taken slot has a connection of its own that is not gone.
-use Rattle.serving.proofs.Names.{◌≡◌, ◌≢◌, ◌≤◌, ◌<◌, ◌+◌, ◌-◌, ◌++◌, ℕ, zero, suc, List, [], ◌∷◌, length, Bool, true, false, cond, Option, Some, None, refl, sym, ap, ◌∙◌, ◌⊎◌, inl, inr, drop, flat_map, count_by, slice_index_or, arith, false≢true, cases_eq, leb-true, le-leb, lt-leb, ltb-true, eqb-true, eq-eqb, ne_eqb, is_some, nat_le, nat_lt, ◌==◌, ◌&&◌, if◌then◌else◌, World, standing, is_gone, can_open, Ask, At, IsFit, HasEnded, Peer}
+use Rattle.serving.proofs.Names.{◌≡◌, ◌≢◌, ◌≤◌, ◌<◌, ◌+◌, ◌-◌, ◌++◌, ℕ, zero, suc, List, [], ◌∷◌, length, Bool, true, false, cond, Option, Some, None, refl, sym, ap, ◌∙◌, ◌⊎◌, inl, inr, drop, flat_map, count_by, slice_index_or, arith, false≢true, cases_eq, leb-true, le-leb, lt-leb, ltb-true, eqb-true, eq-eqb, ne_eqb, is_some, nat_le, nat_lt, ◌==◌, ◌&&◌, if◌then◌else◌, World, count_open, is_gone, can_open, Ask, At, IsFit, HasEnded, Peer}
 use Rattle.std.proofs.lemmas.List.Recursion.{is_count_by}
 
 -- ---- how many slots pass a test
@@ -101,23 +101,23 @@ has_once c (Some p ∷ ps) distinct = cond_le (p.connection == c) (tally (has c)
         omega (arith, none)
 
 -- one number more: its connection is gone, and no slot has it, or it stands, and one slot at most has it
-in_slots_more : (w : World) (ps : List (Option Peer)) → IsFit w ps → ((i : ℕ) → HasEnded w ps i) → (n : ℕ) → tally (has_upto n) ps ≤ standing w n → tally (has_upto (suc n)) ps ≤ standing w (suc n)
-in_slots_more w ps fit ended n before = if_le (is_gone w (suc n)) (tally (has_upto (suc n)) ps) (standing w n) gone stands
+in_slots_more : (w : World) (ps : List (Option Peer)) → IsFit w ps → ((i : ℕ) → HasEnded w ps i) → (n : ℕ) → tally (has_upto n) ps ≤ count_open w n → tally (has_upto (suc n)) ps ≤ count_open w (suc n)
+in_slots_more w ps fit ended n before = if_le (is_gone w (suc n)) (tally (has_upto (suc n)) ps) (count_open w n) gone stands
   where
     more : tally (has_upto (suc n)) ps ≤ tally (has_upto n) ps + tally (has (suc n)) ps
     more = tally_either (has_upto (suc n)) (has_upto n) (has (suc n)) ps (has_one_more n)
 
-    gone : is_gone w (suc n) ≡ true → tally (has_upto (suc n)) ps ≤ standing w n
+    gone : is_gone w (suc n) ≡ true → tally (has_upto (suc n)) ps ≤ count_open w n
     gone e =
         let none : tally (has (suc n)) ps ≡ 0 = tally_none (has (suc n)) ps (λ i. has_not (suc n) (slice_index_or ps i None) (λ p at f.
         false≢true (sym (ended i p at) ∙ ap (is_gone w) f ∙ e))) in
         omega (arith, before, more, none)
 
-    stands : is_gone w (suc n) ≡ false → tally (has_upto (suc n)) ps ≤ standing w n + 1
+    stands : is_gone w (suc n) ≡ false → tally (has_upto (suc n)) ps ≤ count_open w n + 1
     stands e = let one = has_once (suc n) ps fit.distinct in omega (arith, before, more, one)
 
 -- the slots with connections up to n are no more than those connections that stand
-in_slots_upto : (w : World) (ps : List (Option Peer)) → IsFit w ps → ((i : ℕ) → HasEnded w ps i) → (n : ℕ) → tally (has_upto n) ps ≤ standing w n
+in_slots_upto : (w : World) (ps : List (Option Peer)) → IsFit w ps → ((i : ℕ) → HasEnded w ps i) → (n : ℕ) → tally (has_upto n) ps ≤ count_open w n
 in_slots_upto w ps fit ended zero =
     let none : tally (has_upto 0) ps ≡ 0 = tally_none (has_upto 0) ps (λ i. has_none_upto (slice_index_or ps i None) (fit.numbered i)) in
     omega (arith, none)
@@ -132,7 +132,7 @@ pub slot_left : (w : World) (ps : List (Option Peer)) → IsFit w ps → ((i : �
 slot_left w ps fit ended can =
     let all : tally is_some ps ≤ tally (has_upto w.given) ps = tally_le is_some (has_upto w.given) ps (λ i. has_all_upto w.given (slice_index_or ps i None) (fit.given i)) in
     let in_slots = in_slots_upto w ps fit ended w.given in
-    let few : standing w w.given < 1024 = ltb-true (standing w w.given) 1024 (both_first (nat_lt (standing w w.given) 1024) _ can) in
+    let few : count_open w w.given < 1024 = ltb-true (count_open w w.given) 1024 (both_first (nat_lt (count_open w w.given) 1024) _ can) in
     let same = tally_counts is_some ps in
     omega (arith, all, in_slots, few, same)
 

@@ -4,7 +4,7 @@ use Rattle.model.specs.Arrivals.{World, is_awake, is_paused, has_output}
 use Rattle.serving.specs.Story.{At, read_room}
 use Rattle.serving.specs.Rounds.{HasEnded}
 use Rattle.slab.specs.Slab.{Slab}
-use Rattle.marks.specs.Places.{bit_of}
+use Rattle.marks.specs.Sets.{bit_of}
 use Rattle.serving.specs.Fit.{IsFit, most_peers}
 use Rattle.serving.specs.declared.peers.Peer.{Peer}
 

@@ -1,10 +1,10 @@
 //! Marks of slots. The next slot without a mark is found without looking at each.
 
 ghost use Rattle.std.specs.Prelude.{◌≡◌, ◌<◌, ◌≤◌, ◌*◌, ℕ, IfOk, cond, length, replicate, slice_index_or, slice_set, false, true};
-ghost use Rattle.marks.specs.Places.{Differs, bit_of};
+ghost use Rattle.marks.specs.Sets.{Differs, bit_of};
 ghost use Rattle.serving.specs.Quiet.{IsNextLoud};
 
-use marks::{Flat, Over, Places};
+use marks::{Flat, IndexSet, Over};
 use std::alloc::{AllocError, Global};
 use std::marker::Model;
 

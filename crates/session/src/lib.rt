@@ -17,6 +17,6 @@ mod responses;
 mod sends;
 mod sessions;
 
-pub use examples::worked_examples;
+pub use examples::ghost_worked_examples;
 pub use logins::accepts;
 pub use sessions::Session;

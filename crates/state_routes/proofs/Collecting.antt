@@ -1,7 +1,7 @@
 -- The patterns that are collected are those of the exchanges that a message may meet.
-use Rattle.state_routes.proofs.Names.{◌≡◌, ◌⊎◌, ℕ, zero, suc, ◌+◌, ◌<◌, ◌≤◌, Bool, true, false, cond, List, [], ◌∷◌, length, map, ◌++◌, refl, sym, ap, subst, ◌∙◌, inl, inr, Option, Some, arith, Contains, slice_index_or, fold, flat_map, bytes_eq, false≢true, Text, Topology, IsIn, IsWellFormed, exchange_names, Guarantee, Tracked, Met, own, by_bound, by_alternate, by_death, MayEnter, by_binding, by_name, IsTrackedList, Selects, as_topic, same_tracked, once_more, keys_from, keys_by, keys_of, names_in, Mode, Exchange, DeclaredQueue, Binding, Place, ExchangeKind, Direct, Fanout, Topic, IsSet, Hop, Chain, still, along, LinksAreWithin, node, count, end_node, link_of, links_of, alternate_links, any_links, Gate, AreEntered, IsUnfixedEnd, dying, entry, default_entry, links_in, unfixed_end, AreInReach, onto_tracked, keys_onto, keys_by_onto, names_onto, names_if, topics_onto, met_onto, collected, chain_on, in_front, in_back, in-append, in_map, from_map, contained, has_place, first_is}
+use Rattle.state_routes.proofs.Names.{◌≡◌, ◌⊎◌, ℕ, zero, suc, ◌+◌, ◌<◌, ◌≤◌, Bool, true, false, cond, List, [], ◌∷◌, length, map, ◌++◌, refl, sym, ap, subst, ◌∙◌, inl, inr, Option, Some, arith, Contains, slice_index_or, fold, flat_map, bytes_eq, false≢true, Text, Topology, IsIn, IsWellFormed, exchange_names, Guarantee, Tracked, Met, own, by_bound, by_alternate, by_death, MayEnter, by_binding, by_name, IsTrackedList, Selects, as_topic, same_tracked, appended_if_new, keys_from, keys_by, keys_of, names_in, Mode, Exchange, DeclaredQueue, Binding, Destination, ExchangeKind, Direct, Fanout, Topic, IsSet, Hop, Chain, still, along, LinksAreWithin, node, count, end_node, link_of, links_of, alternate_links, any_links, Gate, AreEntered, IsUnfixedEnd, dying, entry, default_entry, links_in, unfixed_end, AreInReach, onto_tracked, keys_onto, keys_by_onto, names_onto, names_if, topics_onto, met_onto, collected, chain_on, in_front, in_back, in-append, in_map, from_map, contained, has_place, first_is}
 use Rattle.std.proofs.lemmas.List.Sums.{fold-append}
-use Rattle.model.specs.declared.topologies.Place.TheVariants as place
+use Rattle.model.specs.declared.topologies.Destination.TheVariants as destination
 use Rattle.state_routes.proofs.Numbers.{node_same, node_default, node_above, node_within}
 use Rattle.state_routes.proofs.Known.{alternate_in, from_alternates}
 use Rattle.state_routes.proofs.DeadLetters.{FromDeath, ToDeath, from_entered, to_entered, dying_tells, dying_has, unfixed_tells, link_of_gate, gate_of_link}
@@ -16,9 +16,9 @@ from_links xs q l [] i = absurd i
 from_links xs q l (b ∷ bs) (inl e) = (b, inl refl, e)
 from_links xs q l (b ∷ bs) (inr i) = let r = from_links xs q l bs i in (r.0, inr r.1, r.2)
 
-pub end_within : (xs : List Exchange) (q : Text) (to : Place) → end_node xs q to < length xs + 4
-end_within xs q (place.Exchange name) = node_within xs name
-end_within xs q (place.Queue name) = go (bytes_eq name q)
+pub end_within : (xs : List Exchange) (q : Text) (to : Destination) → end_node xs q to < length xs + 4
+end_within xs q (destination.Exchange name) = node_within xs name
+end_within xs q (destination.Queue name) = go (bytes_eq name q)
   where
     go : (b : Bool) → cond b 0 1 < length xs + 4
     go true = omega arith
@@ -69,7 +69,7 @@ module _ (t : Topology) (g : Guarantee) (q : Text) (deaths : List Gate) (entered
   -- from where a queue may be entered that leaves the key as it is
   entered_link : (x p : Text) (last : DeclaredQueue) (w : ToDeath t [] (IsUnfixedEnd t) last deaths) (n : ℕ) → w.end ≡ Some n → last.name ≡ p → MayEnter t x p → Linked (node t.exchanges x) n
   entered_link x p last w n e same (by_binding ex b c nm bs) =
-      let r = death_link (entry t.exchanges [] n b) (w.bound n e b (contained t.bindings b bs.is_binding) (bs.leads ∙ ap (λ (z : Text). place.Queue z) (sym same))) in
+      let r = death_link (entry t.exchanges [] n b) (w.bound n e b (contained t.bindings b bs.is_binding) (bs.leads ∙ ap (λ (z : Text). destination.Queue z) (sym same))) in
       (r.0, r.1, r.2 ∙ ap (node t.exchanges) (bs.source ∙ nm), r.3)
   entered_link x p last w n e same (by_name d c nm) = death_link (default_entry [] last.name n) (w.default n e)
 
@@ -138,9 +138,9 @@ module _ (t : Topology) (g : Guarantee) (q : Text) (deaths : List Gate) (entered
       low true r = omega (arith, r)
       low false r = omega (arith, r)
 
-      to_place : (c : Binding) (w : IsIn c t.bindings) (to : Place) → c.to ≡ to → b ≡ end_node t.exchanges q c.to → ((z : Exchange) × IsIn z t.exchanges × (c.source ≡ z.name)) → c.source ≡ x → ((z : Text) → b ≡ node t.exchanges z → Met t g z → Met t g y) → Met t g y
-      to_place c w (place.Exchange z) d h o same next = next z (h ∙ ap (end_node t.exchanges q) d) (by_bound o.0 c m (has_place t.exchanges o.0 o.1) (sym o.2 ∙ same) (record { is_binding = has_place t.bindings c w; source = o.2; leads = d }))
-      to_place c w (place.Queue z) d h o same next = absurd (low_end rest (low (bytes_eq z q) (h ∙ ap (end_node t.exchanges q) d)) y k)
+      to_place : (c : Binding) (w : IsIn c t.bindings) (to : Destination) → c.to ≡ to → b ≡ end_node t.exchanges q c.to → ((z : Exchange) × IsIn z t.exchanges × (c.source ≡ z.name)) → c.source ≡ x → ((z : Text) → b ≡ node t.exchanges z → Met t g z → Met t g y) → Met t g y
+      to_place c w (destination.Exchange z) d h o same next = next z (h ∙ ap (end_node t.exchanges q) d) (by_bound o.0 c m (has_place t.exchanges o.0 o.1) (sym o.2 ∙ same) (record { is_binding = has_place t.bindings c w; source = o.2; leads = d }))
+      to_place c w (destination.Queue z) d h o same next = absurd (low_end rest (low (bytes_eq z q) (h ∙ ap (end_node t.exchanges q) d)) y k)
 
       by_link : ((c : Binding) × IsIn c t.bindings × (l ≡ link_of t.exchanges q c)) → ((z : Text) → b ≡ node t.exchanges z → Met t g z → Met t g y) → Met t g y
       by_link (c, w, p) next =
@@ -155,23 +155,23 @@ module _ (t : Topology) (g : Guarantee) (q : Text) (deaths : List Gate) (entered
 
 -- ---- the list
 
-keys_fold : (ps : List Tracked) (kind : ExchangeKind) (name : Text) (bs : List Binding) → keys_onto ps kind name bs ≡ fold (once_more same_tracked) ps (keys_from kind name bs)
+keys_fold : (ps : List Tracked) (kind : ExchangeKind) (name : Text) (bs : List Binding) → keys_onto ps kind name bs ≡ fold (appended_if_new same_tracked) ps (keys_from kind name bs)
 keys_fold ps kind name [] = refl
-keys_fold ps kind name (b ∷ bs) = elim (bytes_eq b.source name) as (λ v. keys_onto (cond v (onto_tracked ps kind b.key) ps) kind name bs ≡ fold (once_more same_tracked) ps (cond v (record { kind = kind; text = b.key } ∷ keys_from kind name bs) (keys_from kind name bs))) [
+keys_fold ps kind name (b ∷ bs) = elim (bytes_eq b.source name) as (λ v. keys_onto (cond v (onto_tracked ps kind b.key) ps) kind name bs ≡ fold (appended_if_new same_tracked) ps (cond v (record { kind = kind; text = b.key } ∷ keys_from kind name bs) (keys_from kind name bs))) [
   | true ↦ keys_fold (onto_tracked ps kind b.key) kind name bs
   | false ↦ keys_fold ps kind name bs
 ]
 
-keys_by_fold : (ps : List Tracked) (kind : ExchangeKind) (name : Text) (bs : List Binding) → keys_by_onto ps kind name bs ≡ fold (once_more same_tracked) ps (keys_by kind name bs)
+keys_by_fold : (ps : List Tracked) (kind : ExchangeKind) (name : Text) (bs : List Binding) → keys_by_onto ps kind name bs ≡ fold (appended_if_new same_tracked) ps (keys_by kind name bs)
 keys_by_fold ps Direct name bs = keys_fold ps Direct name bs
 keys_by_fold ps Topic name bs = keys_fold ps Topic name bs
 keys_by_fold ps Fanout name bs = refl
 
-pub names_fold : (ps : List Tracked) (qs : List DeclaredQueue) → names_onto ps qs ≡ fold (once_more same_tracked) ps (map (λ (q : DeclaredQueue). record { kind = Direct; text = q.name }) qs)
+pub names_fold : (ps : List Tracked) (qs : List DeclaredQueue) → names_onto ps qs ≡ fold (appended_if_new same_tracked) ps (map (λ (q : DeclaredQueue). record { kind = Direct; text = q.name }) qs)
 names_fold ps [] = refl
 names_fold ps (q ∷ qs) = names_fold (onto_tracked ps Direct q.name) qs
 
-pub topics_fold : (ps : List Tracked) (es : List Text) → topics_onto ps es ≡ fold (once_more same_tracked) ps (map as_topic es)
+pub topics_fold : (ps : List Tracked) (es : List Text) → topics_onto ps es ≡ fold (appended_if_new same_tracked) ps (map as_topic es)
 topics_fold ps [] = refl
 topics_fold ps (e ∷ es) = topics_fold (onto_tracked ps Topic e) es
 
@@ -180,13 +180,13 @@ abbrev pub chosen : Topology → List Bool → List Exchange → List Exchange
 chosen t marks [] = []
 chosen t marks (x ∷ xs) = cond (slice_index_or marks (node t.exchanges x.name) false) (x ∷ chosen t marks xs) (chosen t marks xs)
 
-pub met_fold : (t : Topology) (marks : List Bool) (ps : List Tracked) (xs : List Exchange) → met_onto t marks ps xs ≡ fold (once_more same_tracked) ps (flat_map (keys_of t) (chosen t marks xs))
+pub met_fold : (t : Topology) (marks : List Bool) (ps : List Tracked) (xs : List Exchange) → met_onto t marks ps xs ≡ fold (appended_if_new same_tracked) ps (flat_map (keys_of t) (chosen t marks xs))
 met_fold t marks ps [] = refl
-met_fold t marks ps (x ∷ xs) = elim (slice_index_or marks (node t.exchanges x.name) false) as (λ v. met_onto t marks (cond v (keys_by_onto ps x.kind x.name t.bindings) ps) xs ≡ fold (once_more same_tracked) ps (flat_map (keys_of t) (cond v (x ∷ chosen t marks xs) (chosen t marks xs)))) [
+met_fold t marks ps (x ∷ xs) = elim (slice_index_or marks (node t.exchanges x.name) false) as (λ v. met_onto t marks (cond v (keys_by_onto ps x.kind x.name t.bindings) ps) xs ≡ fold (appended_if_new same_tracked) ps (flat_map (keys_of t) (cond v (x ∷ chosen t marks xs) (chosen t marks xs)))) [
   | true ↦
       met_fold t marks (keys_by_onto ps x.kind x.name t.bindings) xs
-      ∙ ap (λ (z : List Tracked). fold (once_more same_tracked) z (flat_map (keys_of t) (chosen t marks xs))) (keys_by_fold ps x.kind x.name t.bindings)
-      ∙ sym (fold-append (once_more same_tracked) ps (keys_of t x) (flat_map (keys_of t) (chosen t marks xs)))
+      ∙ ap (λ (z : List Tracked). fold (appended_if_new same_tracked) z (flat_map (keys_of t) (chosen t marks xs))) (keys_by_fold ps x.kind x.name t.bindings)
+      ∙ sym (fold-append (appended_if_new same_tracked) ps (keys_of t x) (flat_map (keys_of t) (chosen t marks xs)))
   | false ↦ met_fold t marks ps xs
 ]
 
@@ -204,7 +204,7 @@ pub tracked_list : (t : Topology) (g : Guarantee) (q : Text) (marks : List Bool)
 tracked_list t g q marks ps formed (deaths, entered, reached) is = go (slice_index_or marks 2 false) refl is
   where
     om : List Tracked → Tracked → List Tracked
-    om = once_more same_tracked
+    om = appended_if_new same_tracked
 
     first : List Tracked
     first = om [] (as_topic g.pattern)

@@ -1,6 +1,6 @@
 -- Dead letters as gates: which they are, and what comes of a key that a queue fixed.
-use Rattle.state_routes.proofs.Names.{◌≡◌, ◌⊎◌, ℕ, zero, suc, ◌+◌, ◌<◌, ◌≤◌, Bool, true, false, cond, List, [], ◌∷◌, ◌++◌, length, refl, sym, ap, subst, ◌∙◌, inl, inr, Option, Some, None, arith, add-one, append-nil, append_assoc, drop, get_or, Decides, false≢true, bytes_eq-Decides, Text, Topology, IsIn, Reading, of_key, RoutesBy, reading_after, fixed_after, Comes, routed, dead, Tracked, Mode, Reaches, Never, Exchange, DeclaredQueue, Binding, Place, Direct, Hop, Gate, Pattern, node, tracked_index, test_by, kind_at, is_into_queue, entry, default_entry, entries, entries_through, AreEntered, none, next, AreMore, dying, unfixed_end, GoOn, links_in, in_front, in_back, in-append}
-use Rattle.model.specs.declared.topologies.Place.TheVariants as place
+use Rattle.state_routes.proofs.Names.{◌≡◌, ◌⊎◌, ℕ, zero, suc, ◌+◌, ◌<◌, ◌≤◌, Bool, true, false, cond, List, [], ◌∷◌, ◌++◌, length, refl, sym, ap, subst, ◌∙◌, inl, inr, Option, Some, None, arith, add-one, append-nil, append_assoc, drop, get_or, Decides, false≢true, bytes_eq-Decides, Text, Topology, IsIn, Reading, of_key, RoutesBy, reading_after, fixed_after, Comes, routed, dead, Tracked, Mode, Reaches, Never, Exchange, DeclaredQueue, Binding, Destination, Direct, Hop, Gate, Pattern, node, tracked_index, test_by, kind_at, is_into_queue, entry, default_entry, entries, entries_through, AreEntered, none, next, AreMore, dying, unfixed_end, GoOn, links_in, in_front, in_back, in-append}
+use Rattle.model.specs.declared.topologies.Destination.TheVariants as destination
 
 -- ---- keys that a queue fixed
 
@@ -56,9 +56,9 @@ fixed_goes t q y k (Some n) g c = ap (λ (z : ℕ). Some z) g.0
 
 -- ---- the ways into a queue
 
-is_queue_tells : (to : Place) (name : Text) → Decides (is_into_queue to name) (to ≡ place.Queue name)
-is_queue_tells (place.Exchange x) name = ((λ e. absurd (false≢true e)), (λ e. absurd (let h : place.Exchange x ≡ place.Queue name = e in cc)))
-is_queue_tells (place.Queue p) name = let d = bytes_eq-Decides p name in ((λ e. ap (λ (z : Text). place.Queue z) (d.0 e)), (λ e. d.1 (let h : place.Queue p ≡ place.Queue name = e in cc)))
+is_queue_tells : (to : Destination) (name : Text) → Decides (is_into_queue to name) (to ≡ destination.Queue name)
+is_queue_tells (destination.Exchange x) name = ((λ e. absurd (false≢true e)), (λ e. absurd (let h : destination.Exchange x ≡ destination.Queue name = e in cc)))
+is_queue_tells (destination.Queue p) name = let d = bytes_eq-Decides p name in ((λ e. ap (λ (z : Text). destination.Queue z) (d.0 e)), (λ e. d.1 (let h : destination.Queue p ≡ destination.Queue name = e in cc)))
 
 module _ (xs : List Exchange) (ps : List Tracked) (name : Text) (to : ℕ) where
   default_in : (bs : List Binding) → IsIn (default_entry ps name to) (entries xs ps name to bs)
@@ -68,18 +68,18 @@ module _ (xs : List Exchange) (ps : List Tracked) (name : Text) (to : ℕ) where
     | false ↦ default_in bs
   ]
 
-  entry_in : (b : Binding) (bs : List Binding) → IsIn b bs → b.to ≡ place.Queue name → IsIn (entry xs ps to b) (entries xs ps name to bs)
+  entry_in : (b : Binding) (bs : List Binding) → IsIn b bs → b.to ≡ destination.Queue name → IsIn (entry xs ps to b) (entries xs ps name to bs)
   entry_in b [] i e = absurd i
   entry_in b (c ∷ cs) i e = go (is_into_queue c.to name) (is_queue_tells c.to name) i (λ j. entry_in b cs j e)
     where
-      go : (v : Bool) → Decides v (c.to ≡ place.Queue name) → (b ≡ c) ⊎ IsIn b cs → (IsIn b cs → IsIn (entry xs ps to b) (entries xs ps name to cs)) → IsIn (entry xs ps to b) (cond v (entry xs ps to c ∷ entries xs ps name to cs) (entries xs ps name to cs))
+      go : (v : Bool) → Decides v (c.to ≡ destination.Queue name) → (b ≡ c) ⊎ IsIn b cs → (IsIn b cs → IsIn (entry xs ps to b) (entries xs ps name to cs)) → IsIn (entry xs ps to b) (cond v (entry xs ps to c ∷ entries xs ps name to cs) (entries xs ps name to cs))
       go true d (inl s) f = inl (ap (entry xs ps to) s)
       go true d (inr j) f = inr (f j)
       go false d (inl s) f = absurd (false≢true (d.1 (ap (λ (z : Binding). z.to) (sym s) ∙ e)))
       go false d (inr j) f = f j
 
   abbrev FromEntry : Gate → List Binding → Type 0
-  FromEntry g bs = ((b : Binding) × IsIn b bs × (b.to ≡ place.Queue name) × (g ≡ entry xs ps to b)) ⊎ (g ≡ default_entry ps name to)
+  FromEntry g bs = ((b : Binding) × IsIn b bs × (b.to ≡ destination.Queue name) × (g ≡ entry xs ps to b)) ⊎ (g ≡ default_entry ps name to)
 
   from_entries : (g : Gate) (bs : List Binding) → IsIn g (entries xs ps name to bs) → FromEntry g bs
   from_entries g [] (inl e) = inr e
@@ -90,7 +90,7 @@ module _ (xs : List Exchange) (ps : List Tracked) (name : Text) (to : ℕ) where
       more (inl h) = inl (h.0, inr h.1, h.2, h.3)
       more (inr e) = inr e
 
-      go : (v : Bool) → Decides v (b.to ≡ place.Queue name) → IsIn g (cond v (entry xs ps to b ∷ entries xs ps name to bs) (entries xs ps name to bs)) → (IsIn g (entries xs ps name to bs) → FromEntry g bs) → FromEntry g (b ∷ bs)
+      go : (v : Bool) → Decides v (b.to ≡ destination.Queue name) → IsIn g (cond v (entry xs ps to b ∷ entries xs ps name to bs) (entries xs ps name to bs)) → (IsIn g (entries xs ps name to bs) → FromEntry g bs) → FromEntry g (b ∷ bs)
       go true d (inl e) f = inl (b, inl refl, d.0 refl, e)
       go true d (inr j) f = more (f j)
       go false d j f = more (f j)
@@ -102,13 +102,13 @@ pub record FromDeath (t : Topology) (ps : List Tracked) (Ends : DeclaredQueue �
   pub last : DeclaredQueue
   pub is_in : IsIn last queues
   pub ends : Ends last (Some g.link.to)
-  pub way : ((b : Binding) × IsIn b t.bindings × (b.to ≡ place.Queue last.name) × (g.link.from ≡ node t.exchanges b.source) × (g.test ≡ test_by ps (kind_at t.exchanges b.source) b.key)) ⊎ ((g.link.from ≡ 2) × (g.test ≡ Pattern (tracked_index ps Direct last.name)))
+  pub way : ((b : Binding) × IsIn b t.bindings × (b.to ≡ destination.Queue last.name) × (g.link.from ≡ node t.exchanges b.source) × (g.test ≡ test_by ps (kind_at t.exchanges b.source) b.key)) ⊎ ((g.link.from ≡ 2) × (g.test ≡ Pattern (tracked_index ps Direct last.name)))
 
 -- where the queue's dead letters lead on, and that its ways end there
 pub record ToDeath (t : Topology) (ps : List Tracked) (Ends : DeclaredQueue → Option ℕ → Type 0) (last : DeclaredQueue) (gates : List Gate) : Type 0 where
   pub end : Option ℕ
   pub ends : Ends last end
-  pub bound : (to : ℕ) → end ≡ Some to → (b : Binding) → IsIn b t.bindings → b.to ≡ place.Queue last.name → IsIn (entry t.exchanges ps to b) gates
+  pub bound : (to : ℕ) → end ≡ Some to → (b : Binding) → IsIn b t.bindings → b.to ≡ destination.Queue last.name → IsIn (entry t.exchanges ps to b) gates
   pub default : (to : ℕ) → end ≡ Some to → IsIn (default_entry ps last.name to) gates
 
 module _ (t : Topology) (ps : List Tracked) (Ends : DeclaredQueue → Option ℕ → Type 0) where

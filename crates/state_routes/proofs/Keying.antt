@@ -1,5 +1,5 @@
 -- The texts of patterns tell which patterns there are.
-use Rattle.state_routes.proofs.Names.{◌≡◌, ◌⊎◌, Bool, true, false, cond, List, [], ◌∷◌, ◌++◌, refl, sym, ap, subst, inl, inr, Decides, ◌||◌, list_any, false≢true, Text, IsIn, Tracked, once_more, same_tracked, ExchangeKind, Direct, Fanout, Topic, same_tracked_tells, ByKind, AreKeysOf, texts_by, with_text, in_front, in_back, in-append}
+use Rattle.state_routes.proofs.Names.{◌≡◌, ◌⊎◌, Bool, true, false, cond, List, [], ◌∷◌, ◌++◌, refl, sym, ap, subst, inl, inr, Decides, ◌||◌, list_any, false≢true, Text, IsIn, Tracked, appended_if_new, same_tracked, ExchangeKind, Direct, Fanout, Topic, same_tracked_tells, ByKind, AreKeysOf, texts_by, with_text, in_front, in_back, in-append}
 
 abbrev pub pattern : ExchangeKind → Text → Tracked
 pattern kind text = record { kind = kind; text = text }
@@ -24,11 +24,11 @@ not_there p (q ∷ qs) n = go (same_tracked p q) (same_tracked_tells p q) (not_t
     go false d e = e
 
 -- a pattern that is there is not added
-pub stays : (keys : ByKind) (ps : List Tracked) (kind : ExchangeKind) (text : Text) → AreKeysOf keys ps → IsIn text (texts_by keys kind) → ps ≡ once_more same_tracked ps (pattern kind text)
+pub stays : (keys : ByKind) (ps : List Tracked) (kind : ExchangeKind) (text : Text) → AreKeysOf keys ps → IsIn text (texts_by keys kind) → ps ≡ appended_if_new same_tracked ps (pattern kind text)
 stays keys ps kind text k i = subst (λ (v : Bool). ps ≡ cond v ps (ps ++ pattern kind text ∷ [])) (sym (there (pattern kind text) ps ((k kind text).0 i))) refl
 
 -- one that is not there is
-pub grows : (keys : ByKind) (ps : List Tracked) (kind : ExchangeKind) (text : Text) → AreKeysOf keys ps → (IsIn text (texts_by keys kind) → ⊥) → ps ++ pattern kind text ∷ [] ≡ once_more same_tracked ps (pattern kind text)
+pub grows : (keys : ByKind) (ps : List Tracked) (kind : ExchangeKind) (text : Text) → AreKeysOf keys ps → (IsIn text (texts_by keys kind) → ⊥) → ps ++ pattern kind text ∷ [] ≡ appended_if_new same_tracked ps (pattern kind text)
 grows keys ps kind text k n = subst (λ (v : Bool). ps ++ pattern kind text ∷ [] ≡ cond v ps (ps ++ pattern kind text ∷ [])) (sym (not_there (pattern kind text) ps (λ j. n ((k kind text).1 j)))) refl
 
 -- ---- one more

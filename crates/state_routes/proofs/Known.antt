@@ -1,7 +1,7 @@
 -- The open links lead exactly where a state makes sure, or does not rule out, that keys lead.
-use Rattle.state_routes.proofs.Names.{rules, ◌≡◌, ◌⊎◌, ℕ, zero, suc, Bool, true, false, cond, eqb, List, [], ◌∷◌, ◌++◌, refl, sym, ap, subst, ◌∙◌, inl, inr, Option, Some, None, arith, Decides, Contains, not, ◌&&◌, ◌||◌, unwrap_or, option_map, bytes_eq, false≢true, eqb-true, bytes_eq-Decides, Text, Topology, IsIn, IsWellFormed, exchange_names, Reading, Binds, Edge, bound, alternate, default, Leads, here, on, RoutesBy, of_key, reading_after, fixed_after, Comes, routed, dead, Tracked, same_tracked, is_accepted, PatternAnswers, sure, possible, Mode, Reaches, Never, Exchange, DeclaredQueue, Binding, Place, ExchangeKind, Direct, Fanout, Topic, Hop, Gate, Pattern, Chain, still, along, node, end_node, alternate_link, alternate_links, tracked_index, test_by, kind_at, kind_or_direct, gate_of, binding_gates, has_queue, default_gate, gates_of, accepted, is_open, is_shut, passes, blocks, all_block, open_links, open_alternates, open_ways, entry, default_entry, AreEntered, dying, GoOn, IsEnd, AreOnce, in_front, in_back, in-append, in_map, from_map, contained, has_place, same_tracked_tells}
+use Rattle.state_routes.proofs.Names.{rules, ◌≡◌, ◌⊎◌, ℕ, zero, suc, Bool, true, false, cond, eqb, List, [], ◌∷◌, ◌++◌, refl, sym, ap, subst, ◌∙◌, inl, inr, Option, Some, None, arith, Decides, Contains, not, ◌&&◌, ◌||◌, unwrap_or, option_map, bytes_eq, false≢true, eqb-true, bytes_eq-Decides, Text, Topology, IsIn, IsWellFormed, exchange_names, Reading, Binds, Edge, bound, alternate, default, Leads, here, on, RoutesBy, of_key, reading_after, fixed_after, Comes, routed, dead, Tracked, same_tracked, is_accepted, PatternAnswers, sure, possible, Mode, Reaches, Never, Exchange, DeclaredQueue, Binding, Destination, ExchangeKind, Direct, Fanout, Topic, Hop, Gate, Pattern, Chain, still, along, node, end_node, alternate_link, alternate_links, tracked_index, test_by, kind_at, kind_or_direct, gate_of, binding_gates, has_queue, default_gate, gates_of, accepted, is_open, is_shut, passes, blocks, all_block, open_links, open_alternates, open_ways, entry, default_entry, AreEntered, dying, GoOn, IsEnd, AreOnce, in_front, in_back, in-append, in_map, from_map, contained, has_place, same_tracked_tells}
 use Rattle.std.specs.Prelude.{slice_get}
-use Rattle.model.specs.declared.topologies.Place.TheVariants as place
+use Rattle.model.specs.declared.topologies.Destination.TheVariants as destination
 use Rattle.state_routes.specs.declared.gates.Test.{Test}
 use Rattle.state_routes.proofs.DeadLetters.{ToDeath, from_entered, to_entered, dying_tells, dying_has, fixed_goes, fixed_sent, sent_fixed}
 use Rattle.state_routes.proofs.Numbers.{node_same, node_default, node_above, found_same}
@@ -235,7 +235,7 @@ from_has_queue name (z ∷ zs) e = go (bytes_eq z.name name) (bytes_eq-Decides z
     go true d k f = (z, inl refl, d.0 refl)
     go false d k f = let r = f k in (r.0, inr r.1, r.2)
 
-same_end : (xs : List Exchange) (q : Text) → end_node xs q (place.Queue q) ≡ 0
+same_end : (xs : List Exchange) (q : Text) → end_node xs q (destination.Queue q) ≡ 0
 same_end xs q = go (bytes_eq q q) (bytes_eq-Decides q q)
   where
     go : (v : Bool) → Decides v (q ≡ q) → cond v zero (suc zero) ≡ zero
@@ -249,11 +249,11 @@ abbrev pub Arrives : Mode → Topology → Reading → Text → Text → Type 0
 Arrives Reaches t r x q = RoutesBy t r x q
 Arrives Never t r x q = Comes t r None x q
 
-arrives_at : (m : Mode) (t : Topology) (r : Reading) (x q : Text) → Edge t r x (place.Queue q) → Arrives m t r x q
+arrives_at : (m : Mode) (t : Topology) (r : Reading) (x q : Text) → Edge t r x (destination.Queue q) → Arrives m t r x q
 arrives_at Reaches t r x q e = (x, here, e)
 arrives_at Never t r x q e = routed (x, here, e)
 
-arrives_on : (m : Mode) (t : Topology) (r : Reading) (x y q : Text) → Edge t r x (place.Exchange y) → Arrives m t r y q → Arrives m t r x q
+arrives_on : (m : Mode) (t : Topology) (r : Reading) (x y q : Text) → Edge t r x (destination.Exchange y) → Arrives m t r y q → Arrives m t r x q
 arrives_on Reaches t r x y q e (z, l, f) = (z, on e l, f)
 arrives_on Never t r x y q e c = comes_on t r None x y q e c
 
@@ -275,7 +275,7 @@ module _ (m : Mode) (t : Topology) (q : Text) (ps : List Tracked) (ms : List ℕ
   lets_pass : (e : Exchange) (b : Binding) → Contains t.exchanges e → b.source ≡ e.name → (reading_by m ps ms).opens e.kind b.key → passes m (test_by ps (kind_at t.exchanges b.source) b.key) (accepted ps ms) ≡ true
   lets_pass e b c s o = subst (λ (k : ExchangeKind). passes m (test_by ps k b.key) (accepted ps ms) ≡ true) (sym (kind_is e b.source c s)) (opens_passes ps ms once m e.kind b.key o)
 
-  by_binding_edge : (x : Text) (to : Place) (e : Exchange) (b : Binding) → Contains t.exchanges e → e.name ≡ x → Binds t e to b → (reading_by m ps ms).opens e.kind b.key → Linked (node t.exchanges x) (end_node t.exchanges q to)
+  by_binding_edge : (x : Text) (to : Destination) (e : Exchange) (b : Binding) → Contains t.exchanges e → e.name ≡ x → Binds t e to b → (reading_by m ps ms).opens e.kind b.key → Linked (node t.exchanges x) (end_node t.exchanges q to)
   by_binding_edge x to e b c n bs o =
       let g = gate_of t.exchanges q ps b in
       let r = by_gate g (in_front g (gates_of t q ps) deaths (in_gates t q ps b (contained t.bindings b bs.is_binding))) (lets_pass e b c bs.source o) in
@@ -294,7 +294,7 @@ module _ (m : Mode) (t : Topology) (q : Text) (ps : List Tracked) (ms : List ℕ
   no_default e i f = formed.none_is_default (subst (λ (z : Text). IsIn z (exchange_names t.exchanges)) (node_default t.exchanges e.name f) (name_in e i))
 
   -- the gates from an exchange none of whose bindings lets the key pass
-  module _ (e : Exchange) (c : Contains t.exchanges e) (s : (to : Place) (b : Binding) → Binds t e to b → (reading_by m ps ms).shuts e.kind b.key) where
+  module _ (e : Exchange) (c : Contains t.exchanges e) (s : (to : Destination) (b : Binding) → Binds t e to b → (reading_by m ps ms).shuts e.kind b.key) where
     binding_blocks : (b : Binding) → IsIn b t.bindings → node t.exchanges b.source ≡ node t.exchanges e.name → blocks m (test_by ps (kind_at t.exchanges b.source) b.key) (accepted ps ms) ≡ true
     binding_blocks b i f =
         let same : b.source ≡ e.name = node_same t.exchanges b.source e.name formed.none_is_default (source_in b i) f in
@@ -313,7 +313,7 @@ module _ (m : Mode) (t : Topology) (q : Text) (ps : List Tracked) (ms : List ℕ
       ]
     ]
 
-  by_alternate_edge : (x other : Text) (e : Exchange) → Contains t.exchanges e → e.name ≡ x → e.alternate ≡ Some other → ((to : Place) (b : Binding) → Binds t e to b → (reading_by m ps ms).shuts e.kind b.key) → Linked (node t.exchanges x) (node t.exchanges other)
+  by_alternate_edge : (x other : Text) (e : Exchange) → Contains t.exchanges e → e.name ≡ x → e.alternate ≡ Some other → ((to : Destination) (b : Binding) → Binds t e to b → (reading_by m ps ms).shuts e.kind b.key) → Linked (node t.exchanges x) (node t.exchanges other)
   by_alternate_edge x other e c n a s =
       let l : Hop = record { from = node t.exchanges e.name; to = node t.exchanges other } in (
         l,
@@ -323,20 +323,20 @@ module _ (m : Mode) (t : Topology) (q : Text) (ps : List Tracked) (ms : List ℕ
         refl,
       )
 
-  onward_link : (x y : Text) → Edge t (reading_by m ps ms) x (place.Exchange y) → Linked (node t.exchanges x) (node t.exchanges y)
-  onward_link x y (bound e b c n bs o) = by_binding_edge x (place.Exchange y) e b c n bs o
+  onward_link : (x y : Text) → Edge t (reading_by m ps ms) x (destination.Exchange y) → Linked (node t.exchanges x) (node t.exchanges y)
+  onward_link x y (bound e b c n bs o) = by_binding_edge x (destination.Exchange y) e b c n bs o
   onward_link x y (alternate e c n a s) = by_alternate_edge x y e c n a s
 
-  into_link : (x : Text) (p : Text) → p ≡ q → Edge t (reading_by m ps ms) x (place.Queue p) → Linked (node t.exchanges x) 0
-  into_link x p same (bound e b c n bs o) = let r = by_binding_edge x (place.Queue p) e b c n bs o in (r.0, r.1, r.2, r.3 ∙ ap (λ (z : Text). end_node t.exchanges q (place.Queue z)) same ∙ same_end t.exchanges q)
+  into_link : (x : Text) (p : Text) → p ≡ q → Edge t (reading_by m ps ms) x (destination.Queue p) → Linked (node t.exchanges x) 0
+  into_link x p same (bound e b c n bs o) = let r = by_binding_edge x (destination.Queue p) e b c n bs o in (r.0, r.1, r.2, r.3 ∙ ap (λ (z : Text). end_node t.exchanges q (destination.Queue z)) same ∙ same_end t.exchanges q)
   into_link x p same (default d c n o) =
       by_gate (default_gate ps q) (in_front (default_gate ps q) (gates_of t q ps) deaths (default_in t q ps (has_queue_in q t.queues (d, contained t.queues d c, n ∙ same))))
       (names_passes ps ms once m q (subst (λ (z : Text). (reading_by m ps ms).names z) same o))
 
   -- into a queue whose dead letters lead on
-  death_link : (x p : Text) (last : DeclaredQueue) (w : ToDeath t ps (IsEnd t q) last deaths) (n : ℕ) → w.end ≡ Some n → last.name ≡ p → Edge t (reading_by m ps ms) x (place.Queue p) → Linked (node t.exchanges x) n
+  death_link : (x p : Text) (last : DeclaredQueue) (w : ToDeath t ps (IsEnd t q) last deaths) (n : ℕ) → w.end ≡ Some n → last.name ≡ p → Edge t (reading_by m ps ms) x (destination.Queue p) → Linked (node t.exchanges x) n
   death_link x p last w n e same (bound ex b c nm bs o) =
-      let r = by_gate (entry t.exchanges ps n b) (in_back (entry t.exchanges ps n b) (gates_of t q ps) deaths (w.bound n e b (contained t.bindings b bs.is_binding) (bs.leads ∙ ap (λ (z : Text). place.Queue z) (sym same)))) (lets_pass ex b c bs.source o) in
+      let r = by_gate (entry t.exchanges ps n b) (in_back (entry t.exchanges ps n b) (gates_of t q ps) deaths (w.bound n e b (contained t.bindings b bs.is_binding) (bs.leads ∙ ap (λ (z : Text). destination.Queue z) (sym same)))) (lets_pass ex b c bs.source o) in
       (r.0, r.1, r.2 ∙ ap (node t.exchanges) (bs.source ∙ nm), r.3)
   death_link x p last w n e same (default d c nm o) =
       by_gate (default_entry ps last.name n) (in_back (default_entry ps last.name n) (gates_of t q ps) deaths (w.default n e))
@@ -374,15 +374,15 @@ module _ (m : Mode) (t : Topology) (q : Text) (ps : List Tracked) (ms : List ℕ
     pub name : Text
     pub source : IsIn name (exchange_names t.exchanges) ⊎ (name ≡ [])
     pub from_is : l.from ≡ node t.exchanges name
-    pub leads : ((to : Place) × Edge t (reading_by m ps ms) name to × (l.to ≡ end_node t.exchanges q to)) ⊎ ((last : DeclaredQueue) × IsIn last (dying m t.queues) × Edge t (reading_by m ps ms) name (place.Queue last.name) × IsEnd t q last (Some l.to))
+    pub leads : ((to : Destination) × Edge t (reading_by m ps ms) name to × (l.to ≡ end_node t.exchanges q to)) ⊎ ((last : DeclaredQueue) × IsIn last (dying m t.queues) × Edge t (reading_by m ps ms) name (destination.Queue last.name) × IsEnd t q last (Some l.to))
 
-  binding_edge : (b : Binding) (to : Place) → IsIn b t.bindings → b.to ≡ to → passes m (test_by ps (kind_at t.exchanges b.source) b.key) (accepted ps ms) ≡ true → Edge t (reading_by m ps ms) b.source to
+  binding_edge : (b : Binding) (to : Destination) → IsIn b t.bindings → b.to ≡ to → passes m (test_by ps (kind_at t.exchanges b.source) b.key) (accepted ps ms) ≡ true → Edge t (reading_by m ps ms) b.source to
   binding_edge b to i leads o =
       let e = exchange_of b.source (source_in b i) in
       let opens = passes_opens ps ms once m e.0.kind b.key (subst (λ (k : ExchangeKind). passes m (test_by ps k b.key) (accepted ps ms) ≡ true) (kind_is e.0 b.source (has_place t.exchanges e.0 e.1) e.2) o) in
       bound e.0 b (has_place t.exchanges e.0 e.1) (sym e.2) (record { is_binding = has_place t.bindings b i; source = e.2; leads = leads }) opens
 
-  default_edge : (d : DeclaredQueue) → IsIn d t.queues → passes m (Pattern (tracked_index ps Direct d.name)) (accepted ps ms) ≡ true → Edge t (reading_by m ps ms) [] (place.Queue d.name)
+  default_edge : (d : DeclaredQueue) → IsIn d t.queues → passes m (Pattern (tracked_index ps Direct d.name)) (accepted ps ms) ≡ true → Edge t (reading_by m ps ms) [] (destination.Queue d.name)
   default_edge d i o = default d (has_place t.queues d i) refl (passes_names ps ms once m d.name o)
 
   edge_of : (l : Hop) → IsIn l (ways_at m t q ps ms deaths) → FromEdge l
@@ -406,9 +406,9 @@ module _ (m : Mode) (t : Topology) (q : Text) (ps : List Tracked) (ms : List ℕ
               source = inr refl;
               from_is = ap (λ (z : Hop). z.from) s ∙ ap (λ (z : Gate). z.link.from) r.1;
               leads = inl (
-                place.Queue d.0.name,
+                destination.Queue d.0.name,
                 default_edge d.0 d.1 (subst (λ (z : Text). passes m (Pattern (tracked_index ps Direct z)) (accepted ps ms) ≡ true) (sym d.2) (subst (λ (z : Gate). passes m z.test (accepted ps ms) ≡ true) r.1 o)),
-                ap (λ (z : Hop). z.to) s ∙ ap (λ (z : Gate). z.link.to) r.1 ∙ sym (ap (λ (z : Text). end_node t.exchanges q (place.Queue z)) d.2 ∙ same_end t.exchanges q),
+                ap (λ (z : Hop). z.to) s ∙ ap (λ (z : Gate). z.link.to) r.1 ∙ sym (ap (λ (z : Text). end_node t.exchanges q (destination.Queue z)) d.2 ∙ same_end t.exchanges q),
               );
             }
       ]
@@ -422,7 +422,7 @@ module _ (m : Mode) (t : Topology) (q : Text) (ps : List Tracked) (ms : List ℕ
               name = r.0.source;
               source = inl (source_in r.0 r.1);
               from_is = ap (λ (z : Hop). z.from) s ∙ r.3;
-              leads = inr (w.last, w.is_in, binding_edge r.0 (place.Queue w.last.name) r.1 r.2 (subst (λ (z : Test). passes m z (accepted ps ms) ≡ true) r.4 o), ends);
+              leads = inr (w.last, w.is_in, binding_edge r.0 (destination.Queue w.last.name) r.1 r.2 (subst (λ (z : Test). passes m z (accepted ps ms) ≡ true) r.4 o), ends);
             }
             | inr r ↦ record {
               name = [];
@@ -449,7 +449,7 @@ module _ (m : Mode) (t : Topology) (q : Text) (ps : List Tracked) (ms : List ℕ
             name = r.0.name;
             source = inl (name_in r.0 r.2);
             from_is = ap (λ (z : Hop). z.from) r.4;
-            leads = inl (place.Exchange r.1, e, ap (λ (z : Hop). z.to) r.4);
+            leads = inl (destination.Exchange r.1, e, ap (λ (z : Hop). z.to) r.4);
           }
 
   same_source : (name x : Text) → IsIn name (exchange_names t.exchanges) ⊎ (name ≡ []) → node t.exchanges name ≡ node t.exchanges x → name ≡ x
@@ -462,7 +462,7 @@ module _ (m : Mode) (t : Topology) (q : Text) (ps : List Tracked) (ms : List ℕ
   elsewhere (along l i f u rest) g k = let w = edge_of l i in let h = node_above t.exchanges w.name in let n = w.from_is in omega arith
 
   -- from an exchange into a queue whose dead letters lead on
-  death_arrives : (x : Text) (last : DeclaredQueue) (n : ℕ) → IsIn last (dying m t.queues) → Edge t (reading_by m ps ms) x (place.Queue last.name) → IsEnd t q last (Some n) → ((y : Text) → n ≡ node t.exchanges y → Arrives m t (reading_by m ps ms) y q) → Arrives m t (reading_by m ps ms) x q
+  death_arrives : (x : Text) (last : DeclaredQueue) (n : ℕ) → IsIn last (dying m t.queues) → Edge t (reading_by m ps ms) x (destination.Queue last.name) → IsEnd t q last (Some n) → ((y : Text) → n ≡ node t.exchanges y → Arrives m t (reading_by m ps ms) y q) → Arrives m t (reading_by m ps ms) x q
   death_arrives x last n i e ends onward =
       let w = dying_tells m t.queues last i in
       subst (λ (z : Mode). Arrives z t (reading_by m ps ms) x q) (sym w.0) (go last.dead_letter_exchange last.dead_letter_key refl refl ends w)
@@ -484,15 +484,15 @@ module _ (m : Mode) (t : Topology) (q : Text) (ps : List Tracked) (ms : List ℕ
       let same = same_source w.name x w.source (sym w.from_is ∙ f ∙ e) in
       elim w.leads [
         | inl r ↦ go r.0 (subst (λ (v : Text). Edge t (reading_by m ps ms) v r.0) same r.1) (sym u ∙ r.2) rest (λ y k. chain_arrives rest z y k)
-        | inr r ↦ death_arrives x r.0 l.to r.1 (subst (λ (v : Text). Edge t (reading_by m ps ms) v (place.Queue r.0.name)) same r.2) r.3 (λ y k. chain_arrives rest z y (sym u ∙ k))
+        | inr r ↦ death_arrives x r.0 l.to r.1 (subst (λ (v : Text). Edge t (reading_by m ps ms) v (destination.Queue r.0.name)) same r.2) r.3 (λ y k. chain_arrives rest z y (sym u ∙ k))
       ]
     where
-      go : (to : Place) → Edge t (reading_by m ps ms) x to → b ≡ end_node t.exchanges q to → Chain (ways_at m t q ps ms deaths) b last → ((y : Text) → b ≡ node t.exchanges y → Arrives m t (reading_by m ps ms) y q) → Arrives m t (reading_by m ps ms) x q
-      go (place.Exchange y) d k c r = arrives_on m t (reading_by m ps ms) x y q d (r y k)
-      go (place.Queue p) d k c r = at (bytes_eq p q) (bytes_eq-Decides p q) k
+      go : (to : Destination) → Edge t (reading_by m ps ms) x to → b ≡ end_node t.exchanges q to → Chain (ways_at m t q ps ms deaths) b last → ((y : Text) → b ≡ node t.exchanges y → Arrives m t (reading_by m ps ms) y q) → Arrives m t (reading_by m ps ms) x q
+      go (destination.Exchange y) d k c r = arrives_on m t (reading_by m ps ms) x y q d (r y k)
+      go (destination.Queue p) d k c r = at (bytes_eq p q) (bytes_eq-Decides p q) k
         where
           at : (v : Bool) → Decides v (p ≡ q) → b ≡ cond v 0 1 → Arrives m t (reading_by m ps ms) x q
-          at true n k = arrives_at m t (reading_by m ps ms) x q (subst (λ (z : Text). Edge t (reading_by m ps ms) x (place.Queue z)) (n.0 refl) d)
+          at true n k = arrives_at m t (reading_by m ps ms) x q (subst (λ (z : Text). Edge t (reading_by m ps ms) x (destination.Queue z)) (n.0 refl) d)
           at false n k = absurd (elsewhere c k z)
 
 -- the other way round, by the mode

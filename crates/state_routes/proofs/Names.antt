@@ -4,12 +4,12 @@ pub use Rattle.certificate_laws.proofs.Trackings.{contained, first_is, has_place
 pub use Rattle.certificate_laws.specs.Soundness.{AreOnce}
 pub use Rattle.exchange_graph.specs.Marks.{IsSet, unset}
 pub use Rattle.laws.proofs.Counts.{in-append, in_back, in_front}
-pub use Rattle.model.specs.Certificates.{AreChosen, ArePlaces, Excepting, Form, IsShort, KeepsTo, PatternAnswers, Sliced, Whole, at_places, possible, sure}
+pub use Rattle.model.specs.Certificates.{AreChosen, AreIndices, Excepting, Form, IsShort, KeepsTo, PatternAnswers, Sliced, Whole, at_indices, possible, sure}
 pub use Rattle.model.specs.Guarantee.{Guarantee}
 pub use Rattle.model.specs.Positions.{FitsEach, is_accepted}
 pub use Rattle.model.specs.Routing.{Binds, Comes, Edge, Leads, Reading, RoutesBy, alternate, bound, dead, default, fixed_after, here, of_key, on, reading_after, routed}
 pub use Rattle.model.specs.Topology.{AreDistinct, IsIn, IsWellFormed, Topology, exchange_names}
-pub use Rattle.model.specs.Tracking.{IsTrackedList, MayEnter, Met, Selects, Tracked, as_topic, by_alternate, by_binding, by_bound, by_death, by_name, keys_by, keys_from, keys_of, literal, names_in, once_more, own, same_tracked, tokens_by}
+pub use Rattle.model.specs.Tracking.{IsTrackedList, MayEnter, Met, Selects, Tracked, appended_if_new, as_topic, by_alternate, by_binding, by_bound, by_death, by_name, keys_by, keys_from, keys_of, literal, names_in, own, same_tracked, tokens_by}
 pub use Rattle.model.specs.Words.{Text, tokens, words}
 pub use Rattle.model.specs.declared.topologies.Binding.{Binding}
 pub use Rattle.model.specs.declared.topologies.DeclaredQueue.{DeclaredQueue}
@@ -18,7 +18,7 @@ pub use Rattle.model.specs.declared.topologies.ExchangeKind.{ExchangeKind}
 pub use Rattle.model.specs.declared.topologies.ExchangeKind.TheVariants.{Direct, Fanout, Topic}
 pub use Rattle.model.specs.declared.topologies.Mode.{Mode}
 pub use Rattle.model.specs.declared.topologies.Mode.TheVariants.{Never, Reaches}
-pub use Rattle.model.specs.declared.topologies.Place.{Place}
+pub use Rattle.model.specs.declared.topologies.Destination.{Destination}
 pub use Rattle.paths.proofs.Chains.{all_marked, begun_at, chain_on, none_set, set_keeps}
 pub use Rattle.paths.specs.Reach.{AreReached, Chain, LinksAreWithin, MarksBegin, along, still}
 pub use Rattle.paths.specs.declared.reach.Hop.{Hop}

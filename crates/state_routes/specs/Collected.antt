@@ -7,7 +7,7 @@ use Rattle.state_routes.specs.declared.gates.Gate.{Gate}
 use Rattle.state_routes.specs.Nodes.{node, count, any_links}
 use Rattle.paths.specs.Reach.{AreReached}
 use Rattle.state_routes.specs.Deaths.{AreEntered, IsUnfixedEnd, dying, links_in}
-use Rattle.model.specs.Tracking.{Tracked, once_more, same_tracked}
+use Rattle.model.specs.Tracking.{Tracked, appended_if_new, same_tracked}
 use Rattle.model.specs.declared.topologies.Mode.{Mode}
 use Rattle.model.specs.declared.topologies.Exchange.{Exchange}
 use Rattle.model.specs.declared.topologies.DeclaredQueue.{DeclaredQueue}
@@ -17,7 +17,7 @@ use Rattle.model.specs.declared.topologies.ExchangeKind.TheVariants.{Direct, Fan
 
 -- `ps`, with the pattern of this kind and text appended unless `ps` has it
 abbrev pub onto_tracked : List Tracked → ExchangeKind → Text → List Tracked
-onto_tracked ps kind text = once_more same_tracked ps (record { kind = kind; text = text })
+onto_tracked ps kind text = appended_if_new same_tracked ps (record { kind = kind; text = text })
 
 -- `ps`, with the binding key of each binding from the exchange `name` appended unless it is there
 abbrev pub keys_onto : List Tracked → ExchangeKind → Text → List Binding → List Tracked

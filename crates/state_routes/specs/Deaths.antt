@@ -11,8 +11,8 @@ use Rattle.model.specs.declared.topologies.Mode.TheVariants.{Reaches, Never}
 use Rattle.model.specs.declared.topologies.Exchange.{Exchange}
 use Rattle.model.specs.declared.topologies.DeclaredQueue.{DeclaredQueue}
 use Rattle.model.specs.declared.topologies.Binding.{Binding}
-use Rattle.model.specs.declared.topologies.Place.{Place}
-use Rattle.model.specs.declared.topologies.Place.TheVariants as place
+use Rattle.model.specs.declared.topologies.Destination.{Destination}
+use Rattle.model.specs.declared.topologies.Destination.TheVariants as destination
 use Rattle.model.specs.declared.topologies.ExchangeKind.TheVariants.{Direct}
 use Rattle.paths.specs.declared.reach.Hop.{Hop}
 use Rattle.state_routes.specs.declared.gates.Gate.{Gate}
@@ -23,9 +23,9 @@ use Rattle.state_routes.specs.Gates.{tracked_index, test_by, kind_at, gates_of}
 -- ---- the ways into a queue
 
 -- the destination is the queue of this name
-abbrev pub is_into_queue : Place → Text → Bool
-is_into_queue (place.Exchange x) name = false
-is_into_queue (place.Queue p) name = bytes_eq p name
+abbrev pub is_into_queue : Destination → Text → Bool
+is_into_queue (destination.Exchange x) name = false
+is_into_queue (destination.Queue p) name = bytes_eq p name
 
 -- the gate of binding `b`, except that it ends at node `to`
 abbrev pub entry : List Exchange → List Tracked → ℕ → Binding → Gate

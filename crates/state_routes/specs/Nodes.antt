@@ -6,8 +6,8 @@ use Rattle.model.specs.Words.{Text}
 use Rattle.model.specs.Topology.{Topology}
 use Rattle.model.specs.declared.topologies.Exchange.{Exchange}
 use Rattle.model.specs.declared.topologies.Binding.{Binding}
-use Rattle.model.specs.declared.topologies.Place.{Place}
-use Rattle.model.specs.declared.topologies.Place.TheVariants as place
+use Rattle.model.specs.declared.topologies.Destination.{Destination}
+use Rattle.model.specs.declared.topologies.Destination.TheVariants as destination
 use Rattle.exchange_graph.specs.Fans.{exchange_index}
 use Rattle.paths.specs.declared.reach.Hop.{Hop}
 
@@ -21,9 +21,9 @@ abbrev pub count : Topology → ℕ
 count t = length t.exchanges + 4
 
 -- the node where a binding ends
-abbrev pub end_node : List Exchange → Text → Place → ℕ
-end_node exchanges queue (place.Exchange name) = node exchanges name
-end_node exchanges queue (place.Queue name) = if bytes_eq name queue then 0 else 1
+abbrev pub end_node : List Exchange → Text → Destination → ℕ
+end_node exchanges queue (destination.Exchange name) = node exchanges name
+end_node exchanges queue (destination.Queue name) = if bytes_eq name queue then 0 else 1
 
 -- the nodes that a binding connects
 abbrev pub link_of : List Exchange → Text → Binding → Hop

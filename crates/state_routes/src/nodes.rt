@@ -5,7 +5,7 @@ ghost use Rattle.exchange_graph.specs.Fans.{exchange_index};
 ghost use Rattle.state_routes.specs.Nodes.{alternate_links, any_links, end_node, link_of, links_of, node};
 
 use exchange_graph::Topology;
-use model::{Binding, Exchange, Place};
+use model::{Binding, Destination, Exchange};
 use paths::Hop;
 use std::alloc::{AllocError, Global};
 
@@ -33,12 +33,12 @@ pub fn node(topology: &Topology, name: &[u8]) -> usize
 }
 
 /// Returns the node where a binding ends: 0 for `queue`, 1 for any other queue, otherwise the exchange's.
-fn end_node(topology: &Topology, queue: &[u8], to: &Place) -> usize
+fn end_node(topology: &Topology, queue: &[u8], to: &Destination) -> usize
     ensures { result ≡ end_node topology.now.exchanges queue.now to.now }
 {
     match to {
-        Place::Exchange(name) => node(topology, name.as_bytes()),
-        Place::Queue(name) => { if name.as_bytes() == queue { 0 } else { 1 } }
+        Destination::Exchange(name) => node(topology, name.as_bytes()),
+        Destination::Queue(name) => { if name.as_bytes() == queue { 0 } else { 1 } }
     }
 }
 

@@ -1,7 +1,7 @@
 //! A list of patterns, each once, in the order in which they were added.
 
 ghost use Rattle.std.specs.Prelude.{◌≡◌, [], OnOk};
-ghost use Rattle.model.specs.Tracking.{once_more, same_tracked};
+ghost use Rattle.model.specs.Tracking.{appended_if_new, same_tracked};
 
 use crate::keys::Keys;
 use model::{ExchangeKind, Text};
@@ -42,7 +42,7 @@ impl Patterns {
 
     /// Appends a pattern, unless the list has it. Fails only if an allocation fails.
     pub fn add(&mut self, alloc: Global, kind: ExchangeKind, text: &Text) -> Result<(), AllocError>
-        ensures { OnOk result (self.new ≡ once_more same_tracked self.old (record { kind = kind; text = text.now })) }
+        ensures { OnOk result (self.new ≡ appended_if_new same_tracked self.old (record { kind = kind; text = text.now })) }
     {
         if self.keys.has(kind, text.as_bytes()) {
             return Ok(());

@@ -1,7 +1,7 @@
 //! Chooses the patterns that a slice of a certificate tracks. Start with `indices_to`.
 
 ghost use Rattle.std.specs.Prelude.{◌<◌, ◌+◌, length, IfOk, OnOk};
-ghost use Rattle.model.specs.Certificates.{ArePlaces};
+ghost use Rattle.model.specs.Certificates.{AreIndices};
 ghost use Rattle.state_routes.specs.Placing.{RiseBelow};
 
 use crate::gates::kind_at;
@@ -10,7 +10,7 @@ use crate::nodes::{alternate_links, node};
 use crate::tracking::met;
 use exchange_graph::Topology;
 use guarantees::Guarantee;
-use model::{Binding, DeclaredQueue, ExchangeKind, Mode, Place};
+use model::{Binding, DeclaredQueue, Destination, ExchangeKind, Mode};
 use paths::Hop;
 use std::alloc::{AllocError, Global};
 use word_automata::Tracked;
@@ -56,8 +56,8 @@ fn queue_end(topology: &Topology, mode: Mode, queue: &[u8], name: &[u8]) -> usiz
 /// Returns a hop from the node of the binding's source to the node of its destination: an exchange's own, or the [`queue_end`] of a queue.
 fn binding_way(topology: &Topology, mode: Mode, queue: &[u8], binding: &Binding) -> Hop {
     let to = match &binding.to {
-        Place::Exchange(name) => node(topology, name.as_bytes()),
-        Place::Queue(name) => queue_end(topology, mode, queue, name.as_bytes()),
+        Destination::Exchange(name) => node(topology, name.as_bytes()),
+        Destination::Queue(name) => queue_end(topology, mode, queue, name.as_bytes()),
     };
     Hop {
         from: node(topology, binding.source.as_bytes()),
@@ -239,7 +239,7 @@ fn add_place(places: &mut Vec<u64>, place: usize, there: bool) -> Result<(), All
 /// Returns index 0, and that of each pattern of `list` that is one of `keys`. Fails only if an allocation fails.
 fn places_of(alloc: Global, list: &[Tracked], keys: &Keys) -> Result<Vec<u64>, AllocError>
     requires { 0 < length list.now }
-    ensures { IfOk result (λ places. ArePlaces list.now places.items) }
+    ensures { IfOk result (λ places. AreIndices list.now places.items) }
 {
     let mut places = Vec::new(alloc);
     places.push(0)?;
@@ -258,7 +258,7 @@ pub fn indices_to(
     list: &[Tracked],
 ) -> Result<Vec<u64>, AllocError>
     requires { 0 < length list.now }
-    ensures { IfOk result (λ places. ArePlaces list.now places.items) }
+    ensures { IfOk result (λ places. AreIndices list.now places.items) }
 {
     let keys = keys_of(alloc, topology, guarantee)?;
     places_of(alloc, list, &keys)

@@ -1,5 +1,5 @@
 -- Nodes that are added.
-use Rattle.topic_match.proofs.Names.{◌≡◌, ℕ, zero, suc, ◌+◌, ◌-◌, ◌<◌, List, [], ◌∷◌, ◌++◌, Bool, true, false, refl, sym, ap, ◌∙◌, subst, length, take, get_or, set, inl, inr, ltb, arith, replicate, ltb-true, ltb-false, Token, Any, Node, no_node, node_at, beginning, beginning_at, last_token, heads_of, IsDeep, IsFoundBy, IsNode, AreLinked, IsPlace, KeepNodes, mark_of, first_slot, bits_of, AreGrown, EndAt}
+use Rattle.topic_match.proofs.Names.{◌≡◌, ℕ, zero, suc, ◌+◌, ◌-◌, ◌<◌, List, [], ◌∷◌, ◌++◌, Bool, true, false, refl, sym, ap, ◌∙◌, subst, length, take, get_or, set, inl, inr, ltb, arith, replicate, ltb-true, ltb-false, Token, Any, Node, no_node, node_at, beginning, beginning_at, last_token, heads_of, IsDeep, IsFoundBy, IsNode, AreLinked, IsSlotOf, KeepNodes, mark_of, first_slot, bits_of, AreGrown, EndAt}
 use Rattle.std.specs.Prelude.{◌⊎◌}
 use Rattle.topic_match.proofs.Lists.{take_push}
 use Rattle.topic_match.proofs.Slots.{found_more}
@@ -57,9 +57,9 @@ push_zero [] (suc i) = refl
 push_zero (x ∷ xs) zero = refl
 push_zero (x ∷ xs) (suc i) = push_zero xs i
 
-pub record IsAdded (patterns : List (List Token)) (nodes : List Node) (slots : List ℕ) (place parent pattern depth : ℕ) (more : List Node) (changed : List ℕ) : Type 0 where
+pub record IsAdded (patterns : List (List Token)) (nodes : List Node) (slots : List ℕ) (slot parent pattern depth : ℕ) (more : List Node) (changed : List ℕ) : Type 0 where
   pub nodes_are : more ≡ nodes ++ record { parent = parent; pattern = pattern; depth = depth + 1 } ∷ []
-  pub slots_are : changed ≡ set ((slots ++ 0 ∷ []) ++ 0 ∷ []) place (length nodes)
+  pub slots_are : changed ≡ set ((slots ++ 0 ∷ []) ++ 0 ∷ []) slot (length nodes)
 
 pub added_grown : (patterns : List (List Token)) (nodes : List Node) (x : Node) → AreGrown patterns nodes (nodes ++ x ∷ [])
 added_grown patterns nodes x = record {
@@ -78,20 +78,20 @@ pub added_begins : (patterns : List (List Token)) (nodes : List Node) (parent pa
 added_begins patterns nodes parent pattern depth h b =
     ap (λ (z : Node). beginning patterns z) (last_at nodes (record { parent = parent; pattern = pattern; depth = depth + 1 }) (length nodes) no_node refl)
 
-pub added_linked : (patterns : List (List Token)) (nodes : List Node) (slots : List ℕ) (place parent pattern depth : ℕ) (more : List Node) (changed : List ℕ) → AreLinked patterns nodes slots
+pub added_linked : (patterns : List (List Token)) (nodes : List Node) (slots : List ℕ) (slot parent pattern depth : ℕ) (more : List Node) (changed : List ℕ) → AreLinked patterns nodes slots
     → parent < length nodes → pattern < length patterns → depth < length (get_or patterns pattern []) → beginning_at patterns nodes parent ≡ take depth (get_or patterns pattern [])
-    → IsPlace patterns nodes slots parent (get_or (get_or patterns pattern []) depth Any) place → get_or slots place 0 ≡ 0
-    → IsAdded patterns nodes slots place parent pattern depth more changed → AreLinked patterns more changed
-added_linked patterns nodes slots place parent pattern depth more changed l hp hq hd before p empty a =
-    subst (λ (zs : List ℕ). AreLinked patterns more zs) (sym a.slots_are) (subst (λ (zs : List Node). AreLinked patterns zs (set ((slots ++ 0 ∷ []) ++ 0 ∷ []) place (length nodes))) (sym a.nodes_are) (record {
+    → IsSlotOf patterns nodes slots parent (get_or (get_or patterns pattern []) depth Any) slot → get_or slots slot 0 ≡ 0
+    → IsAdded patterns nodes slots slot parent pattern depth more changed → AreLinked patterns more changed
+added_linked patterns nodes slots slot parent pattern depth more changed l hp hq hd before p empty a =
+    subst (λ (zs : List ℕ). AreLinked patterns more zs) (sym a.slots_are) (subst (λ (zs : List Node). AreLinked patterns zs (set ((slots ++ 0 ∷ []) ++ 0 ∷ []) slot (length nodes))) (sym a.nodes_are) (record {
       some = omega (arith, size);
       root = ap (λ (z : Node). z.depth) (old 0 l.some) ∙ l.root;
       heads = let k = l.heads in omega (arith, k, size, wide);
-      within = λ s. elim (same_or place s) [
+      within = λ s. elim (same_or slot s) [
         | inl e ↦ (let g : get_or filled s 0 ≡ length nodes = subst (λ (j : ℕ). get_or filled j 0 ≡ length nodes) e here_is in omega (arith, g, size))
         | inr n ↦ (let g = there s n in let k = l.within s in omega (arith, g, k, size))
       ];
-      later = λ s g. elim (same_or place s) [
+      later = λ s g. elim (same_or slot s) [
         | inl e ↦ (let q : get_or filled s 0 ≡ length nodes = subst (λ (j : ℕ). get_or filled j 0 ≡ length nodes) e here_is in let w = p.within in let k = l.heads in omega (arith, q, e, w, k, size, wide))
         | inr n ↦ (let q = there s n in let k = l.later s (omega (arith, g, q)) in omega (arith, q, k, size, wide))
       ];
@@ -118,22 +118,22 @@ added_linked patterns nodes slots place parent pattern depth more changed l hp h
     all = nodes ++ x ∷ []
 
     filled : List ℕ
-    filled = set ((slots ++ 0 ∷ []) ++ 0 ∷ []) place (length nodes)
+    filled = set ((slots ++ 0 ∷ []) ++ 0 ∷ []) slot (length nodes)
 
     size : length all ≡ length nodes + 1
     size = length_push nodes x
 
     wide : length filled ≡ length slots + 2
-    wide = let e = set_length ((slots ++ 0 ∷ []) ++ 0 ∷ []) place (length nodes) in let f = length_push (slots ++ 0 ∷ []) 0 in let g = length_push slots 0 in omega (arith, e, f, g)
+    wide = let e = set_length ((slots ++ 0 ∷ []) ++ 0 ∷ []) slot (length nodes) in let f = length_push (slots ++ 0 ∷ []) 0 in let g = length_push slots 0 in omega (arith, e, f, g)
 
     heads_are : heads_of nodes slots ≡ heads_of all filled
     heads_are = let k = l.heads in omega (arith, k, size, wide)
 
-    here_is : get_or filled place 0 ≡ length nodes
-    here_is = set_here ((slots ++ 0 ∷ []) ++ 0 ∷ []) place (length nodes) 0 (let f = length_push (slots ++ 0 ∷ []) 0 in let g = length_push slots 0 in let w = p.within in omega (arith, f, g, w))
+    here_is : get_or filled slot 0 ≡ length nodes
+    here_is = set_here ((slots ++ 0 ∷ []) ++ 0 ∷ []) slot (length nodes) 0 (let f = length_push (slots ++ 0 ∷ []) 0 in let g = length_push slots 0 in let w = p.within in omega (arith, f, g, w))
 
-    there : (s : ℕ) → (place ≡ s → ⊥) → get_or filled s 0 ≡ get_or slots s 0
-    there s n = set_there ((slots ++ 0 ∷ []) ++ 0 ∷ []) place s (length nodes) 0 n ∙ push_zero (slots ++ 0 ∷ []) s ∙ push_zero slots s
+    there : (s : ℕ) → (slot ≡ s → ⊥) → get_or filled s 0 ≡ get_or slots s 0
+    there s n = set_there ((slots ++ 0 ∷ []) ++ 0 ∷ []) slot s (length nodes) 0 n ∙ push_zero (slots ++ 0 ∷ []) s ∙ push_zero slots s
 
     keep : KeepNodes slots filled
     keep s h = there s (λ e. let g : get_or slots s 0 ≡ 0 = subst (λ (j : ℕ). get_or slots j 0 ≡ 0) e empty in omega (arith, g, h))

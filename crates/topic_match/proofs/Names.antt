@@ -15,8 +15,8 @@ pub use Rattle.topic_match.specs.Building.{AreGrown, EndAt}
 pub use Rattle.topic_match.specs.Counts.{AreCounts, AreCountsTo, matches_after, matches_empty, trues}
 pub use Rattle.topic_match.specs.Ends.{AreEnding, AreFound, AreRising, AreSound, IsFound}
 pub use Rattle.topic_match.specs.Exits.{AreDeep, AreExits, has_exit, no_exit, with_exit}
-pub use Rattle.topic_match.specs.Nodes.{AreLinked, Found, IsChild, IsDeep, IsFoundBy, IsLast, IsNode, IsPlace, KeepNodes, beginning, beginning_at, bits_of, first_slot, further, heads_of, here, last_token, mark_of, mixed, no_node, node_at, slot_behind}
-pub use Rattle.topic_match.specs.Places.{AreMatches, AreSome}
+pub use Rattle.topic_match.specs.Nodes.{AreLinked, Found, IsChild, IsDeep, IsFoundBy, IsLast, IsNode, IsSlotOf, KeepNodes, beginning, beginning_at, bits_of, first_slot, further, heads_of, here, last_token, mark_of, mixed, no_node, node_at, slot_behind}
+pub use Rattle.topic_match.specs.Indices.{AreMatches, AreSome}
 pub use Rattle.topic_match.specs.Taking.{Advances, IsStuck, IsWithoutAny, IsWordTaken, still, taken, token_takes}
 pub use Rattle.topic_match.specs.Tries.{IsTrie}
 pub use Rattle.topic_match.specs.Walks.{AreAdded, AreMet, AreSteps, GoesOn, IsBarren, IsStep, nodes_of, trues_in}

@@ -145,9 +145,9 @@ only_pairs patterns nodes slots key met p l s a h =
 begins_same : (patterns : List (List Token)) (nodes : List Node) (a c : ℕ) (b : List Token) → a ≡ c → beginning_at patterns nodes a ≡ b → beginning_at patterns nodes c ≡ b
 begins_same patterns nodes a c b e h = subst (λ (z : ℕ). beginning_at patterns nodes z ≡ b) e h
 
-all_pairs : (patterns : List (List Token)) (nodes : List Node) (slots ends : List ℕ) (places : List (List ℕ)) (key : Text) (met : List Met) (p : Pair) → IsTrie patterns nodes slots ends places
+all_pairs : (patterns : List (List Token)) (nodes : List Node) (slots ends : List ℕ) (indices : List (List ℕ)) (key : Text) (met : List Met) (p : Pair) → IsTrie patterns nodes slots ends indices
     → AreMet patterns nodes (words key) (Begins []) met → IsPair patterns key p → IsIn p (pairs_of patterns nodes met)
-all_pairs patterns nodes slots ends places key met p t a h =
+all_pairs patterns nodes slots ends indices key met p t a h =
     let q = place_in patterns h.pattern h.is_in in
     let e : beginning_at patterns nodes (get_or ends q.0 0) ≡ p.start ++ h.begins.0 = t.ended.are q.0 q.1 ∙ q.2 ∙ h.begins.1 in
     let u = up patterns nodes slots (suc (get_or ends q.0 0)) (get_or ends q.0 0) p.start h.begins.0 t.linked (omega arith) (t.ended.within q.0 q.1) e in
@@ -159,12 +159,12 @@ all_pairs patterns nodes slots ends places key met p t a h =
     (subst (λ (z : List Token). IsIn (pair_of z p.taken) (pairs_from (beginning_at patterns nodes x.0.node) 0 x.0.counts.items)) b
     (in_from (beginning_at patterns nodes x.0.node) 0 x.0.counts.items p.taken p.taken (omega arith) told))
 
-pub counted : (patterns : List (List Token)) (nodes : List Node) (slots ends : List ℕ) (places : List (List ℕ)) (key : Text) (met : List Met) (count : ℕ) → IsTrie patterns nodes slots ends places
+pub counted : (patterns : List (List Token)) (nodes : List Node) (slots ends : List ℕ) (indices : List (List ℕ)) (key : Text) (met : List Met) (count : ℕ) → IsTrie patterns nodes slots ends indices
     → 0 < length patterns → AreMet patterns nodes (words key) (Begins []) met → count ≡ trues_in met → IsCounted patterns key count
-counted patterns nodes slots ends places key met count t s a e = record {
+counted patterns nodes slots ends indices key met count t s a e = record {
   pairs = pairs_of patterns nodes met;
   distinct = apart_of patterns nodes slots met t.linked a.distinct a.within;
   only = λ p i. only_pairs patterns nodes slots key met p t.linked s a i;
-  all = λ p h. all_pairs patterns nodes slots ends places key met p t a h;
+  all = λ p h. all_pairs patterns nodes slots ends indices key met p t a h;
   size = e ∙ size_of patterns nodes met;
 }

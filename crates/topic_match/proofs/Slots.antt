@@ -1,5 +1,5 @@
 -- Nodes in their slots.
-use Rattle.topic_match.proofs.Names.{◌≡◌, ℕ, ◌/◌, ◌<◌, List, Bool, false, refl, sym, ap, ◌∙◌, subst, length, get_or, arith, Decides, false≢true, Token, Node, node_at, Found, here, further, IsLast, AreLinked, IsChild, IsFoundBy, IsPlace, KeepNodes, heads_of, slot_behind}
+use Rattle.topic_match.proofs.Names.{◌≡◌, ℕ, ◌/◌, ◌<◌, List, Bool, false, refl, sym, ap, ◌∙◌, subst, length, get_or, arith, Decides, false≢true, Token, Node, node_at, Found, here, further, IsLast, AreLinked, IsChild, IsFoundBy, IsSlotOf, KeepNodes, heads_of, slot_behind}
 
 -- an empty slot finds nothing but the root
 pub none_found : (heads : ℕ) (slots : List ℕ) (s bits c : ℕ) → get_or slots s 0 ≡ 0 → Found heads slots s bits c → 0 < c → ⊥
@@ -54,11 +54,11 @@ child_in patterns nodes slots k t s node l h e i = record {
   last = subst (λ (z : ℕ). IsLast patterns (node_at nodes z) k t) e i;
 }
 
-pub place_is : (patterns : List (List Token)) (nodes : List Node) (heads : ℕ) (slots : List ℕ) (k : ℕ) (t : Token) (s bits : ℕ) → heads ≡ heads_of nodes slots → s < length slots
+pub slot_is : (patterns : List (List Token)) (nodes : List Node) (heads : ℕ) (slots : List ℕ) (k : ℕ) (t : Token) (s bits : ℕ) → heads ≡ heads_of nodes slots → s < length slots
     → ((new : List ℕ) (c : ℕ) → KeepNodes slots new → Found heads new s bits c → IsFoundBy heads new k t c)
     → (0 < get_or slots s 0 → IsChild patterns nodes k t (get_or slots s 0)) → (get_or slots s 0 ≡ 0 → (c : ℕ) → IsChild patterns nodes k t c → ⊥)
-    → IsPlace patterns nodes slots k t s
-place_is patterns nodes heads slots k t s bits e h put child none = record {
+    → IsSlotOf patterns nodes slots k t s
+slot_is patterns nodes heads slots k t s bits e h put child none = record {
   within = h;
   child = child;
   none = none;

@@ -53,13 +53,13 @@ sorted_found lists met n found sorted f p s = record {
   all = λ i h. is_in sorted i (Contains-permutation found sorted i p (contains found i (f.all i h)));
 }
 
-pub law : (patterns : List (List Token)) (nodes : List Node) (slots ends : List ℕ) (places : List (List ℕ)) (key : Text) (met : List Met) (found : List ℕ) → IsTrie patterns nodes slots ends places
-    → AreMet patterns nodes (words key) (Begins []) met → AreRising places met (length (words key)) found → AreMatches patterns key found
-law patterns nodes slots ends places key met found t a f = record {
+pub law : (patterns : List (List Token)) (nodes : List Node) (slots ends : List ℕ) (indices : List (List ℕ)) (key : Text) (met : List Met) (found : List ℕ) → IsTrie patterns nodes slots ends indices
+    → AreMet patterns nodes (words key) (Begins []) met → AreRising indices met (length (words key)) found → AreMatches patterns key found
+law patterns nodes slots ends indices key met found t a f = record {
   rising = f.rising;
-  within = λ i h. (only_matching patterns nodes slots ends places (words key) met i t a (f.only i h)).0;
-  only = λ i h. (only_matching patterns nodes slots ends places (words key) met i t a (f.only i h)).1;
-  all = λ i h m. f.all i (all_matching patterns nodes slots ends places (words key) met i t a h m);
+  within = λ i h. (only_matching patterns nodes slots ends indices (words key) met i t a (f.only i h)).0;
+  only = λ i h. (only_matching patterns nodes slots ends indices (words key) met i t a (f.only i h)).1;
+  all = λ i h m. f.all i (all_matching patterns nodes slots ends indices (words key) met i t a h m);
 }
 
 -- ---- what is known of slices

@@ -6,7 +6,7 @@ pub mod Ends
 pub mod Exits
 pub mod Nodes
 pub mod Patterns
-pub mod Places
+pub mod Indices
 pub mod Taking
 pub mod Tries
 pub mod Walks

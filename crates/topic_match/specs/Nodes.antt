@@ -109,7 +109,7 @@ pub record IsChild (patterns : List (List Token)) (nodes : List Node) (at : ℕ)
   pub last : IsLast patterns (node_at nodes c) at token
 
 -- Slot `s` has the child of `at` by `token`; or there is no such child, and `s` is the empty slot in which it will be found.
-pub record IsPlace (patterns : List (List Token)) (nodes : List Node) (slots : List ℕ) (at : ℕ) (token : Token) (s : ℕ) : Type 0 where
+pub record IsSlotOf (patterns : List (List Token)) (nodes : List Node) (slots : List ℕ) (at : ℕ) (token : Token) (s : ℕ) : Type 0 where
   pub within : s < length slots
   pub child : 0 < slice_index_or slots s 0 → IsChild patterns nodes at token (slice_index_or slots s 0)
   pub none : slice_index_or slots s 0 ≡ 0 → (c : ℕ) → IsChild patterns nodes at token c → ⊥

@@ -2,21 +2,21 @@
 
 ghost use Rattle.std.specs.Prelude.{◌≡◌, ◌+◌, ◌<◌, ℕ, [], length, take, IfOk, OnOk, slice_index_or};
 ghost use Rattle.model.specs.declared.texts.Token.TheVariants.{Any};
-ghost use Rattle.topic_match.specs.Nodes.{AreLinked, IsPlace, beginning_at};
+ghost use Rattle.topic_match.specs.Nodes.{AreLinked, IsSlotOf, beginning_at};
 ghost use Rattle.topic_match.specs.Building.{AreGrown, EndAt};
 
-use crate::children::{node_in, place_of};
+use crate::children::{node_in, slot_of};
 use crate::nodes::Node;
 use crate::patterns::Pattern;
 use crate::steps::Step;
 use std::alloc::{AllocError, Global};
 
-/// Adds the node of the first `depth + 1` tokens of pattern `pattern` as a child of `parent`, in slot `place`. Fails only if an allocation fails.
+/// Adds the node of the first `depth + 1` tokens of pattern `pattern` as a child of `parent`, in `slot`. Fails only if an allocation fails.
 fn add_node(
     patterns: &[Pattern],
     nodes: &mut Vec<Node>,
     slots: &mut Vec<usize>,
-    place: usize,
+    slot: usize,
     parent: usize,
     pattern: usize,
     depth: usize,
@@ -28,9 +28,9 @@ fn add_node(
     requires depth { depth < length (slice_index_or patterns.now pattern []) }
     requires fits { depth + 1 < 18446744073709551616 }
     requires before { beginning_at patterns.now nodes.old.items parent ≡ take depth (slice_index_or patterns.now pattern []) }
-    // Slot `place` is the one for the node, and empty.
-    requires place { IsPlace patterns.now nodes.old.items slots.old.items parent (slice_index_or (slice_index_or patterns.now pattern []) depth Any) place }
-    requires empty { slice_index_or slots.old.items place 0 ≡ 0 }
+    // `slot` is the one for the node, and empty.
+    requires slot { IsSlotOf patterns.now nodes.old.items slots.old.items parent (slice_index_or (slice_index_or patterns.now pattern []) depth Any) slot }
+    requires empty { slice_index_or slots.old.items slot 0 ≡ 0 }
     // The nodes stay linked and keep their beginnings, and the result is the node of the first `depth + 1` tokens.
     ensures linked { OnOk result (AreLinked patterns.now nodes.new.items slots.new.items) }
     ensures grown { OnOk result (AreGrown patterns.now nodes.old.items nodes.new.items) }
@@ -45,7 +45,7 @@ fn add_node(
     })?;
     slots.push(0)?;
     slots.push(0)?;
-    slots[place] = node;
+    slots[slot] = node;
     Ok(node)
 }
 
@@ -72,17 +72,17 @@ fn node_behind(
         × (beginning_at patterns.now nodes.new.items c ≡ take (depth + 1) (slice_index_or patterns.now pattern []))) }
 {
     let token = &patterns[pattern].tokens()[depth];
-    let place = place_of(
+    let slot = slot_of(
         patterns,
         nodes.as_slice(),
         slots.as_slice(),
         parent,
         &Step::by(token),
     );
-    if let Some(node) = node_in(slots.as_slice(), place) {
+    if let Some(node) = node_in(slots.as_slice(), slot) {
         return Ok(node);
     }
-    add_node(patterns, nodes, slots, place, parent, pattern, depth)
+    add_node(patterns, nodes, slots, slot, parent, pattern, depth)
 }
 
 /// Returns the node of the whole pattern `pattern`. Adds it and those before it if they are missing. Fails only if an allocation fails.

@@ -8,7 +8,7 @@ ghost use Rattle.topic_match.specs.Nodes.{
   IsChild,
   IsDeep,
   IsLast,
-  IsPlace,
+  IsSlotOf,
   bits_of,
   first_slot,
   heads_of,
@@ -94,7 +94,7 @@ fn is_behind(patterns: &[Pattern], node: &Node, parent: usize, token: &Step<'_>)
 
 /// Returns the slot of the child of `at` by `token`, or the empty slot for it if there is none. With fewer than 2^32 nodes, it passes at most 64 nodes
 /// that have another parent than `at` or another mark than that of `token`.
-pub fn place_of(
+pub fn slot_of(
     patterns: &[Pattern],
     nodes: &[Node],
     slots: &[usize],
@@ -102,7 +102,7 @@ pub fn place_of(
     token: &Step<'_>,
 ) -> usize
     requires { AreLinked patterns.now nodes.now slots.now }
-    ensures { IsPlace patterns.now nodes.now slots.now at token.now result }
+    ensures { IsSlotOf patterns.now nodes.now slots.now at token.now result }
 {
     let heads = heads_of(nodes, slots);
     let mut slot = first_slot(heads, at, token.mark());
@@ -128,5 +128,5 @@ pub fn child(
     requires { AreLinked patterns.now nodes.now slots.now }
     ensures { MatchOption result ((c : ℕ) → IsChild patterns.now nodes.now at token.now c → ⊥) (λ c. IsChild patterns.now nodes.now at token.now c) }
 {
-    node_in(slots, place_of(patterns, nodes, slots, at, token))
+    node_in(slots, slot_of(patterns, nodes, slots, at, token))
 }

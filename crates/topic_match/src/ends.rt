@@ -4,37 +4,37 @@ ghost use Rattle.std.specs.Prelude.{◌≡◌, ◌<◌, ◌++◌, ◌∷◌, ℕ
 ghost use Rattle.model.specs.Topology.{IsIn};
 ghost use Rattle.topic_match.specs.Ends.{AreEnding, AreFound, AreRising, AreSound};
 
+use crate::indices::Indices;
 use crate::nodes::Met;
-use crate::places::Places;
 use std::alloc::{AllocError, Global};
 
-/// Appends `place` to the list of `node`. Fails only if an allocation fails.
-fn add_at(lists: &mut Vec<Places>, node: usize, place: usize) -> Result<(), AllocError>
+/// Appends `index` to the list of `node`. Fails only if an allocation fails.
+fn add_at(lists: &mut Vec<Indices>, node: usize, index: usize) -> Result<(), AllocError>
     requires { node < length lists.old.items }
-    ensures { OnOk result (lists.new.items ≡ slice_set lists.old.items node (slice_index_or lists.old.items node [] ++ place ∷ [])) }
+    ensures { OnOk result (lists.new.items ≡ slice_set lists.old.items node (slice_index_or lists.old.items node [] ++ index ∷ [])) }
 {
-    lists[node].add(place)
+    lists[node].add(index)
 }
 
 /// Returns `count` empty lists. Fails only if an allocation fails.
-fn no_places(alloc: Global, count: usize) -> Result<Vec<Places>, AllocError>
+fn no_indices(alloc: Global, count: usize) -> Result<Vec<Indices>, AllocError>
     ensures size { IfOk result (λ lists. length lists.items ≡ count) }
     ensures none { IfOk result (λ lists. (c : ℕ) → slice_index_or lists.items c [] ≡ []) }
 {
     let mut lists = Vec::new(alloc);
-    for place in 0..count {
-        lists.push(Places::none(alloc))?;
+    for index in 0..count {
+        lists.push(Indices::none(alloc))?;
     }
     Ok(lists)
 }
 
 /// Returns for each of `count` nodes the indices of the patterns that end at it.
 /// `ends` has the node of each pattern. Fails only if an allocation fails.
-pub fn ending(alloc: Global, count: usize, ends: &[usize]) -> Result<Vec<Places>, AllocError>
+pub fn ending(alloc: Global, count: usize, ends: &[usize]) -> Result<Vec<Indices>, AllocError>
     requires { (p : ℕ) → p < length ends.now → slice_index_or ends.now p 0 < count }
     ensures { IfOk result (λ lists. AreEnding ends.now count (length ends.now) lists.items) }
 {
-    let mut lists = no_places(alloc, count)?;
+    let mut lists = no_indices(alloc, count)?;
     for pattern in 0..ends.len() {
         add_at(&mut lists, ends[pattern], pattern)?;
     }
@@ -42,9 +42,9 @@ pub fn ending(alloc: Global, count: usize, ends: &[usize]) -> Result<Vec<Places>
 }
 
 /// Appends the patterns that end at the node of `met` if its beginning matches `count` words. Fails only if an allocation fails.
-fn add_places(
+fn add_indices(
     found: &mut Vec<usize>,
-    lists: &[Places],
+    lists: &[Indices],
     met: &Met,
     count: usize,
 ) -> Result<(), AllocError>
@@ -62,7 +62,7 @@ fn add_places(
 /// Returns the indices of the patterns that end at a node of `met` and match `count` words. Fails only if an allocation fails.
 fn found_at(
     alloc: Global,
-    lists: &[Places],
+    lists: &[Indices],
     met: &[Met],
     count: usize,
 ) -> Result<Vec<usize>, AllocError>
@@ -71,7 +71,7 @@ fn found_at(
 {
     let mut found = Vec::new(alloc);
     for at in 0..met.len() {
-        add_places(&mut found, lists, &met[at], count)?;
+        add_indices(&mut found, lists, &met[at], count)?;
     }
     Ok(found)
 }
@@ -79,7 +79,7 @@ fn found_at(
 /// Returns the indices of the patterns that end at a node of `met` and match `count` words, in increasing order. Fails only if an allocation fails.
 pub fn rising_at(
     alloc: Global,
-    lists: &[Places],
+    lists: &[Indices],
     met: &[Met],
     count: usize,
 ) -> Result<Vec<usize>, AllocError>

@@ -5,18 +5,18 @@ ghost use Rattle.topic_match.specs.Beginnings.{Begins, IsCounted};
 ghost use Rattle.topic_match.specs.Counts.{AreCounts};
 ghost use Rattle.topic_match.specs.Exits.{AreExits};
 ghost use Rattle.topic_match.specs.Nodes.{AreLinked};
-ghost use Rattle.topic_match.specs.Places.{AreMatches};
+ghost use Rattle.topic_match.specs.Indices.{AreMatches};
 ghost use Rattle.topic_match.specs.Walks.{AreMet, trues_in};
 
 use crate::building::nodes_of;
 use crate::counts::{Counts, trues};
 use crate::ends::{ending, rising_at};
 use crate::exits::exits_of;
+use crate::indices::Indices;
 use crate::matchers::Matcher;
 use crate::nodes::{Exits, Links, Met, Node};
 use crate::patterns::Pattern;
 use crate::pieces::{KeyWord, words_in};
-use crate::places::Places;
 use crate::steps::steps_of;
 use crate::walks::walk;
 use smallvec::SmallVec;
@@ -82,7 +82,7 @@ pub struct Trie {
     nodes: Vec<Node>,
     slots: Vec<usize>,
     ends: Vec<usize>,
-    places: Vec<Places>,
+    indices: Vec<Indices>,
     exits: Vec<Exits>,
 }
 
@@ -97,7 +97,7 @@ impl Model for Trie {
 
     ghost view = { λ t. t.patterns.items };
 
-    ghost invariant = { λ t. IsTrie t.patterns.items t.nodes.items t.slots.items t.ends.items t.places.items
+    ghost invariant = { λ t. IsTrie t.patterns.items t.nodes.items t.slots.items t.ends.items t.indices.items
         × AreExits t.patterns.items t.nodes.items (length t.nodes.items) t.exits.items };
 }
 
@@ -109,7 +109,7 @@ impl Trie {
         alloc: Global,
         key: &[u8],
     ) -> Result<(Vec<usize>, u128), AllocError>
-        ensures places { IfOk result (λ found. AreMatches self.now key.now found.0.items) }
+        ensures indices { IfOk result (λ found. AreMatches self.now key.now found.0.items) }
         ensures count { IfOk result (λ found. IsCounted self.now key.now found.1) }
     {
         if self.patterns.is_empty() {
@@ -126,8 +126,8 @@ impl Trie {
             },
             words.as_slice(),
         )?;
-        let places = rising_at(alloc, self.places.as_slice(), met.as_slice(), words.len())?;
-        Ok((places, trues_in(met.as_slice())))
+        let indices = rising_at(alloc, self.indices.as_slice(), met.as_slice(), words.len())?;
+        Ok((indices, trues_in(met.as_slice())))
     }
 }
 
@@ -136,20 +136,20 @@ impl Matcher for Trie {
 
     fn new(alloc: Global, patterns: Vec<Pattern>) -> Result<Trie, AllocError> {
         let (nodes, slots, ends) = nodes_of(alloc, patterns.as_slice())?;
-        let places = ending(alloc, nodes.len(), ends.as_slice())?;
+        let indices = ending(alloc, nodes.len(), ends.as_slice())?;
         let exits = exits_of(alloc, patterns.as_slice(), nodes.as_slice())?;
         Ok(Trie {
             patterns,
             nodes,
             slots,
             ends,
-            places,
+            indices,
             exits,
         })
     }
 
     fn matches(&self, alloc: Global, key: &[u8]) -> Result<Vec<usize>, AllocError> {
-        let (places, _) = self.matches_counted(alloc, key)?;
-        Ok(places)
+        let (indices, _) = self.matches_counted(alloc, key)?;
+        Ok(indices)
     }
 }

@@ -6,8 +6,8 @@ use Rattle.model.specs.Topology.{Topology, queue_names, exchange_names, IsIn, Ar
 use Rattle.model.specs.declared.topologies.Exchange.{Exchange}
 use Rattle.model.specs.declared.topologies.DeclaredQueue.{DeclaredQueue}
 use Rattle.model.specs.declared.topologies.Binding.{Binding}
-use Rattle.model.specs.declared.topologies.Place.{Place}
-use Rattle.model.specs.declared.topologies.Place.TheVariants as place
+use Rattle.model.specs.declared.topologies.Destination.{Destination}
+use Rattle.model.specs.declared.topologies.Destination.TheVariants as destination
 use Rattle.topic_match.specs.Patterns.{IsPattern}
 use Rattle.topology_drafts.specs.declared.bad.BadTopology.{BadTopology}
 use Rattle.topology_drafts.specs.declared.bad.BadTopology.TheVariants.{Repeated, Absent, Argument, Worded, TooMany, NoExchange, Memory}
@@ -22,15 +22,15 @@ pub record IsExchange (exchanges : List Text) (name : Text) : Type 0 where
   pub some : name ≡ [] → ⊥
   pub there : IsIn name exchanges
 
--- the place is one of `exchanges` or one of `queues`
-abbrev pub IsPlace : List Text → List Text → Place → Type 0
-IsPlace exchanges queues (place.Exchange name) = IsExchange exchanges name
-IsPlace exchanges queues (place.Queue name) = IsIn name queues
+-- the destination is one of `exchanges` or one of `queues`
+abbrev pub IsDestination : List Text → List Text → Destination → Type 0
+IsDestination exchanges queues (destination.Exchange name) = IsExchange exchanges name
+IsDestination exchanges queues (destination.Queue name) = IsIn name queues
 
 -- the source and the destination of the binding exist
 pub record Joins (exchanges queues : List Text) (b : Binding) : Type 0 where
   pub source : IsExchange exchanges b.source
-  pub end : IsPlace exchanges queues b.to
+  pub end : IsDestination exchanges queues b.to
 
 -- the source and the destination of every binding exist
 abbrev pub AllJoin : Topology → Type 0

@@ -6,16 +6,16 @@ ghost use Rattle.topic_match.specs.Patterns.{IsPattern};
 ghost use Rattle.topology_drafts.specs.Causes.{
   AlternateIsThere,
   DeadLettersLead,
+  IsDestination,
   IsExchange,
   IsNamed,
-  IsPlace,
   IsWorded,
   Joins,
   KeyHasExchange,
 };
 
 use crate::directory::Directory;
-use model::{Binding, DeclaredQueue, Exchange, Place, limits};
+use model::{Binding, DeclaredQueue, Destination, Exchange, limits};
 use topic_match::is_pattern;
 
 /// Returns whether `name` is one of `exchanges`. The default exchange is not.
@@ -26,16 +26,16 @@ fn is_exchange(exchanges: &Directory<'_, Exchange>, name: &[u8]) -> bool
 }
 
 /// Returns whether the exchange or queue `to` exists.
-fn is_place(
+fn is_destination(
     exchanges: &Directory<'_, Exchange>,
     queues: &Directory<'_, DeclaredQueue>,
-    to: &Place,
+    to: &Destination,
 ) -> bool
-    ensures { Decides result (IsPlace exchanges.now queues.now to.now) }
+    ensures { Decides result (IsDestination exchanges.now queues.now to.now) }
 {
     match to {
-        Place::Exchange(name) => is_exchange(exchanges, name.as_bytes()),
-        Place::Queue(name) => queues.has(name.as_bytes()),
+        Destination::Exchange(name) => is_exchange(exchanges, name.as_bytes()),
+        Destination::Queue(name) => queues.has(name.as_bytes()),
     }
 }
 
@@ -47,7 +47,8 @@ fn joins(
 ) -> bool
     ensures { Decides result (Joins exchanges.now queues.now binding.now) }
 {
-    is_exchange(exchanges, binding.source.as_bytes()) && is_place(exchanges, queues, &binding.to)
+    is_exchange(exchanges, binding.source.as_bytes())
+        && is_destination(exchanges, queues, &binding.to)
 }
 
 /// Returns whether `queue` has a dead-letter exchange, if it has a dead-letter key.

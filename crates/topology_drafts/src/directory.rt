@@ -101,8 +101,8 @@ impl Names {
     }
 
     /// Returns the index of `name`, from 0, or `None` if it is not in the list.
-    pub fn place(&self, name: &[u8]) -> Option<usize>
-        ensures place { result ≡ position (λ k. bytes_eq name.now k) self.now }
+    pub fn index_of(&self, name: &[u8]) -> Option<usize>
+        ensures index { result ≡ position (λ k. bytes_eq name.now k) self.now }
         ensures within { IfSome result (λ i. i < length self.now) }
     {
         self.set.get_index_of(name)

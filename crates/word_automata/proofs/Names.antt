@@ -3,7 +3,7 @@ pub use Rattle.certificate_laws.proofs.Certificates.{start_each}
 pub use Rattle.model.specs.Certificates.{IsShort}
 pub use Rattle.model.specs.Positions.{BitsAfter, BitsAtStart, FitsEach, IsStartState, IsStepOf, Letter, Named, Other, StartsAt, StepsTo, bit_after, bit_at_start, has_bit, letters, named_words, takes_letter, word_of}
 pub use Rattle.model.specs.Topology.{IsIn}
-pub use Rattle.model.specs.Tracking.{Tracked, literal, once_more, tokens_of}
+pub use Rattle.model.specs.Tracking.{Tracked, appended_if_new, literal, tokens_of}
 pub use Rattle.model.specs.Words.{Text}
 pub use Rattle.model.specs.declared.texts.Token.{Token}
 pub use Rattle.model.specs.declared.texts.Token.TheVariants.{Any, One, Word}

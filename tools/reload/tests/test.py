@@ -197,6 +197,7 @@ class Reloads(unittest.TestCase):
                 self.assertEqual([it["name"] for it in made], ["shop", "reload.mine", marks[-1]])
                 self.assertEqual((made[-1]["type"], made[-1]["internal"]), ("fanout", True))
                 self.assertEqual(status, 1 if place == 1 else 0, told)
+                self.assertEqual(told.endswith("asked whether it is in force; the files are as before"), place == 1, told)
         self.assertEqual(marks[0], marks[1], "the same files have the same mark")
         self.assertNotEqual(marks[1], marks[2])
 

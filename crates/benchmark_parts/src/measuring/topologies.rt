@@ -3,7 +3,7 @@
 use crate::measuring::shapes::Shape;
 use crate::measuring::written::{Texts, Written};
 use exchange_graph::Topology;
-use model::{Binding, DeclaredQueue, Exchange, ExchangeKind, Place, Text};
+use model::{Binding, DeclaredQueue, Destination, Exchange, ExchangeKind, Text};
 use std::alloc::Global;
 
 /// A pattern with one repeated word, with 63,489 states.
@@ -79,7 +79,7 @@ impl Plan {
         }
     }
 
-    fn put_binding(&mut self, source: Text, to: Place, key: Text) {
+    fn put_binding(&mut self, source: Text, to: Destination, key: Text) {
         if self.bindings.push(Binding { source, to, key }).is_err() {
             self.texts.fail();
         }
@@ -105,7 +105,7 @@ impl Plan {
     fn bind_to(&mut self, source: &str, queue: Text, key: &str) {
         let source = self.texts.text(source.as_bytes());
         let key = self.texts.text(key.as_bytes());
-        self.put_binding(source, Place::Queue(queue), key);
+        self.put_binding(source, Destination::Queue(queue), key);
     }
 
     /// Binds the queue `q` to the exchange `x` with `key`.
@@ -113,7 +113,7 @@ impl Plan {
         let source = self.texts.text(b"x");
         let queue = self.texts.text(b"q");
         let key = self.texts.of(key);
-        self.put_binding(source, Place::Queue(queue), key);
+        self.put_binding(source, Destination::Queue(queue), key);
     }
 
     /// Binds queue `number` to the exchange of the same number with `key`.
@@ -121,7 +121,7 @@ impl Plan {
         let source = self.texts.numbered("x", number);
         let queue = self.texts.numbered("q", number);
         let key = self.texts.of(key);
-        self.put_binding(source, Place::Queue(queue), key);
+        self.put_binding(source, Destination::Queue(queue), key);
     }
 
     /// Adds topic exchange `number` and queue `number`.
@@ -137,7 +137,7 @@ impl Plan {
         let source = self.texts.numbered("x", number);
         let next = self.texts.numbered("x", number.saturating_add(1));
         let key = self.texts.text(b"#");
-        self.put_binding(source, Place::Exchange(next), key);
+        self.put_binding(source, Destination::Exchange(next), key);
     }
 
     /// Returns an empty key.
@@ -176,7 +176,7 @@ fn keyed_queue(plan: &mut Plan, number: u32) {
     let source = plan.texts.text(b"x");
     let queue = plan.texts.numbered("q", number);
     let key = plan.texts.numbered("k.", number);
-    plan.put_binding(source, Place::Queue(queue), key);
+    plan.put_binding(source, Destination::Queue(queue), key);
 }
 
 /// Adds queue `number`, bound to `x` with `k.#`, whose dead letters go to `d`.
@@ -364,7 +364,7 @@ fn bind_last(plan: &mut Plan, place: u32) {
     let source = plan.texts.text(b"x255");
     let queue = plan.texts.text(b"q");
     let key = plan.texts.of(&key);
-    plan.put_binding(source, Place::Queue(queue), key);
+    plan.put_binding(source, Destination::Queue(queue), key);
 }
 
 /// Binds exchange `number` of a chain to queue `queue` with a key of its own.
@@ -377,7 +377,7 @@ fn bind_aside(plan: &mut Plan, number: u32, queue: u32, place: u32) {
     let source = plan.texts.numbered("x", number);
     let queue = plan.texts.numbered("q", queue);
     let key = plan.texts.of(&key);
-    plan.put_binding(source, Place::Queue(queue), key);
+    plan.put_binding(source, Destination::Queue(queue), key);
 }
 
 /// Adds an exchange that is bound to the next one with `#`, and has it as its alternate exchange as well.

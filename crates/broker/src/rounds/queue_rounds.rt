@@ -6,7 +6,7 @@
 
 ghost use Rattle.std.specs.Prelude.{◌≡◌, ◌<◌, ◌≤◌, ◌*◌, ◌+◌, ◌^◌, [], ℕ, List, None, true, IfSome, IfOk, OnOk, length};
 ghost use Rattle.model.specs.Topology.{IsIn};
-ghost use Rattle.marks.specs.Places.{bit_of};
+ghost use Rattle.marks.specs.Sets.{bit_of};
 ghost use Rattle.depot.specs.Store.{HasReady};
 ghost use Rattle.commands.specs.State.{Kept, broker_of, topology_kept};
 ghost use Rattle.commands.specs.Picked.{IsPickFrom};
@@ -20,7 +20,7 @@ use crate::rounds::round::Round;
 use crate::rounds::sleepers::{Gone, Sleepers, find_gone};
 use crate::rounds::waiters::PlaceMarks;
 use commands::{Core, Pick};
-use marks::{Flat, Over, Places};
+use marks::{Flat, IndexSet, Over};
 use std::alloc::{AllocError, Global};
 use std::marker::Model;
 use std::mem::swap;
@@ -92,7 +92,7 @@ fn pick_at(
     // What is picked, and that nothing comes before it.
     ensures some { IfSome result (λ p. IsPickFrom core.now queue p) }
     ensures none { result ≡ None → NoneInRound core.now sleepers.old.entries queue (round_at rounds.old queue) }
-    ensures reported { IfSome result (λ p. PicksFrom core.now sleepers.old.entries rounds.old rounds.new queue p) }
+    ensures picked { IfSome result (λ p. PicksFrom core.now sleepers.old.entries rounds.old rounds.new queue p) }
     ensures same { result ≡ None → SameOrders rounds.old rounds.new }
 {
     match rounds[queue].pick(core, sleepers, queue) {
@@ -127,7 +127,7 @@ fn first_between(
     ensures passed { IfSome result (λ f. NoneBetween core.now (rounds_of rounds.old sleepers.old.entries) from f.queue) }
     ensures least { IfSome result (λ f. from ≤ f.queue) }
     ensures below { IfSome result (λ f. f.queue < to) }
-    ensures reported { IfSome result (λ f. PicksFrom core.now sleepers.old.entries rounds.old rounds.new f.queue f.pick) }
+    ensures picked { IfSome result (λ f. PicksFrom core.now sleepers.old.entries rounds.old rounds.new f.queue f.pick) }
     ensures same { result ≡ None → SameOrders rounds.old rounds.new }
 {
     let mut next = from;
@@ -163,7 +163,7 @@ fn first_from(
     ensures some { IfSome result (λ f. IsPickFrom core.now f.queue f.pick) }
     ensures none { result ≡ None → NoneBetween core.now (rounds_of rounds.old sleepers.old.entries) 0 (length rounds.old) }
     ensures passed { IfSome result (λ f. NonePassed core.now (rounds_of rounds.old sleepers.old.entries) next f.queue) }
-    ensures reported { IfSome result (λ f. PicksFrom core.now sleepers.old.entries rounds.old rounds.new f.queue f.pick) }
+    ensures picked { IfSome result (λ f. PicksFrom core.now sleepers.old.entries rounds.old rounds.new f.queue f.pick) }
     ensures same { result ≡ None → SameOrders rounds.old rounds.new }
 {
     let turn = next.min(rounds.len());
@@ -424,7 +424,7 @@ impl QueueRounds {
         ensures none { result ≡ None → NoneBetween core.now (rounds_of self.old sleepers.old.entries) 0 (length self.old) }
         // No delivery can be made from a queue that comes before the found one in the cyclic order from `next`. If none is found no order changes.
         ensures passed { IfSome result (λ f. NonePassed core.now (rounds_of self.old sleepers.old.entries) next f.queue) }
-        ensures reported { IfSome result (λ f. PicksFrom core.now sleepers.old.entries self.old self.new f.queue f.pick) }
+        ensures picked { IfSome result (λ f. PicksFrom core.now sleepers.old.entries self.old self.new f.queue f.pick) }
         ensures same { result ≡ None → SameOrders self.old self.new }
     {
         first_from(&mut self.rounds, &mut self.awake, core, sleepers, next)

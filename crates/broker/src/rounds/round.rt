@@ -9,23 +9,23 @@ ghost use Rattle.std.specs.Prelude.{◌≡◌, ◌<◌, ◌≤◌, ◌+◌, ◌*
 ghost use Rattle.std.specs.Prelude.{slice_index_or, vec_capacity};
 ghost use Rattle.std.specs.List.{position_from};
 ghost use Rattle.model.specs.Topology.{IsIn};
-ghost use Rattle.marks.specs.Places.{bit_of, Differs};
+ghost use Rattle.marks.specs.Sets.{bit_of};
 ghost use Rattle.depot.specs.Store.{HasReady};
 ghost use Rattle.commands.specs.State.{Kept, broker_of, topology_kept};
 ghost use Rattle.commands.specs.Picked.{CannotTake, IsPickFrom};
 ghost use Rattle.commands.specs.declared.picks.Pick.{Pick as Consumer};
 ghost use Rattle.broker.specs.declared.rounds.waiters.Waiter.{Waiter as InRound};
 ghost use Rattle.broker.specs.Lines.{turned, AllDistinct};
-ghost use Rattle.broker.specs.Rounds.{round_of, picks, is_other, is_able, is_waiter_of, bit_for, remains, has_remained, listing, AllAreNoted, FindsWaiter};
+ghost use Rattle.broker.specs.Rounds.{round_of, picks, is_other, is_able, is_waiter_of, remains, has_remained, listing, AllAreNoted, FindsWaiter};
 ghost use Rattle.broker.specs.Rounds.{IsNoted, IsAwakeAt, IsAwake, IsAsleep, StaysAt, OthersStay, KeepsIn, KeepsRound, NoneAwake, NoneAwakePassed, ListsMore};
 ghost use Rattle.broker.specs.Rounds.{Wakens, Waiters, order, NoneInRound, GoesLast, LosesOne, LeaveLine, HasRoom};
-ghost use Rattle.broker.specs.Moving.{all_awake, AllRoused};
+ghost use Rattle.broker.specs.Moving.{all_awake, AllAreAwake};
 
 use crate::rounds::finding::{Found, find, is_able, is_of};
 use crate::rounds::sleepers::{Sleepers, mark_waiter};
 use crate::rounds::waiters::{PlaceMarks, Waiter, is_same, make_room, mark_between};
 use commands::{Core, Pick};
-use marks::{Flat, Over, Places};
+use marks::{Flat, IndexSet, Over};
 use std::alloc::{AllocError, Global};
 use std::marker::Model;
 
@@ -89,31 +89,6 @@ fn staying(waiters: &[Waiter], core: &Core, queue: usize, connection: u64) -> us
     count
 }
 
-/// Puts `place` into the set, or takes it out if the waiter there sleeps.
-fn fit(awake: &mut PlaceMarks, place: usize, asleep: bool)
-    requires { place < length awake.old * 64 }
-    ensures len { length awake.new ≡ length awake.old }
-    ensures fits { Differs (bit_of awake.old) (bit_of awake.new) place (bit_for asleep) }
-{
-    if asleep {
-        awake.clear(place);
-    } else {
-        awake.set(place);
-    }
-}
-
-/// Gives each waiter at or after index `from` its bit: 1 if it is awake.
-fn refit(waiters: &[Waiter], awake: &mut PlaceMarks, from: usize)
-    requires { length waiters.now ≤ length awake.old * 64 }
-    ensures len { length awake.new ≡ length awake.old }
-    ensures before { (i : ℕ) → i < from → bit_of awake.new i ≡ bit_of awake.old i }
-    ensures fits { (i : ℕ) (d : InRound) → from ≤ i → i < length waiters.now → bit_of awake.new i ≡ bit_for (slice_index_or waiters.now i d).asleep }
-{
-    for place in from..waiters.len() {
-        fit(awake, place, waiters[place].asleep);
-    }
-}
-
 /// Removes the waiter at index `place`. The order of the others is unchanged, and picks look at those of them that are awake. Never allocates.
 fn remove_waiter(
     waiters: &mut Vec<Waiter>,
@@ -134,7 +109,7 @@ fn remove_waiter(
     ensures line { turned next.new (picks waiters.new.items) ≡ filter (is_other consumer) (turned next.old (picks waiters.old.items)) }
 {
     waiters.remove(place);
-    refit(waiters, awake, place);
+    awake.remove(place);
     if place < *next {
         *next -= 1;
     }
@@ -198,7 +173,7 @@ fn add_waiter(
         asleep: false,
     };
     let _ = waiters.insert(place, waiter);
-    refit(waiters, awake, place);
+    awake.insert(place);
     *next = place + 1;
     place
 }
@@ -440,7 +415,7 @@ impl Round {
 
     /// Wakes each waiter. Never allocates.
     pub fn wake_all(&mut self)
-        ensures roused { AllRoused self.old self.new }
+        ensures awake { AllAreAwake self.old self.new }
         ensures same { order self.new ≡ order self.old }
     {
         wake_all_up(&mut self.waiters);
@@ -470,7 +445,7 @@ impl Round {
         // Who is picked; if none is, no delivery can be made to a consumer of this round.
         ensures some { IfSome result (λ p. IsPickFrom core.now queue p) }
         ensures none { result ≡ None → NoneInRound core.now sleepers.old.entries queue self.old }
-        ensures reported { IfSome result (λ p. GoesLast core.now sleepers.old.entries queue self.old self.new p) }
+        ensures picked { IfSome result (λ p. GoesLast core.now sleepers.old.entries queue self.old self.new p) }
         ensures same { result ≡ None → order self.new ≡ order self.old }
         // If none is picked no waiter is awake: those whose consumer can't take a message sleep.
         ensures rested { result ≡ None → (p : Consumer) → IsAwake self.new p → ⊥ }

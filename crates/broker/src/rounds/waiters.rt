@@ -1,11 +1,11 @@
 //! The waiters of consumers.
 
 ghost use Rattle.std.specs.Prelude.{◌≡◌, ◌<◌, ◌≤◌, ◌+◌, ◌*◌, ℕ, OnOk, length, vec_capacity};
-ghost use Rattle.marks.specs.Places.{bit_of};
+ghost use Rattle.marks.specs.Sets.{bit_of};
 ghost use Rattle.broker.specs.Rounds.{is_consumer};
 
 use commands::Pick;
-use marks::{Flat, Over, Places};
+use marks::{Flat, IndexSet, Over};
 use std::alloc::AllocError;
 
 /// A set of indices, with a bit for each.

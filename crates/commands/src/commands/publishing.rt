@@ -1,6 +1,6 @@
 //! Publishes and their confirms. Source: AMQP 0-9-1, basic.publish; RabbitMQ, "Publisher Confirms".
 
-ghost use Rattle.std.specs.Prelude.{◌≡◌, ◌+◌, cond, is_some, option_map, option_copied, IfOk, OnErr, Option, Some};
+ghost use Rattle.std.specs.Prelude.{◌≡◌, ◌+◌, cond, is_some, option_map, option_copied, IfOk, OnErr, Option, None, Some};
 ghost use Rattle.std.specs.Arc.{arc_value};
 ghost use Rattle.model.specs.Grammar.{IsMethod};
 ghost use Rattle.model.specs.Topology.{Topology};
@@ -74,11 +74,55 @@ pub(crate) fn publish(
     ensures placed { IsPlaced depot.old.topology channel.new }
     ensures err { OnErr result ((depot.new ≡ depot.old) × (channel.new ≡ channel.old)) }
 {
-    let none = Content {
+    match content {
+        Some(content) => publish_content(alloc, id, channel, depot, publish, content),
+        None => publish_empty(alloc, id, channel, depot, publish),
+    }
+}
+
+/// Publishes a message without properties and with an empty body, as [`publish`] does.
+#[inline(never)]
+fn publish_empty(
+    alloc: Global,
+    id: ChannelId,
+    channel: &mut Channel,
+    depot: &mut Depot,
+    publish: &Publish,
+) -> Result<Step, Stop>
+    requires { CanCommand id.connection id.number depot.old channel.old }
+    // What the result means, and that all that is sent is for this connection.
+    ensures commands { Commands id.connection id.number depot.old channel.old (BasicPublish publish.now) None result depot.new channel.new }
+    ensures addressed { IfOk result (λ s. IsMethod (BasicPublish publish.now) → AreAddressed id.connection s.sends.items) }
+    // The frame; a failure changes nothing.
+    ensures topology { depot.new.topology ≡ depot.old.topology }
+    ensures placed { IsPlaced depot.old.topology channel.new }
+    ensures err { OnErr result ((depot.new ≡ depot.old) × (channel.new ≡ channel.old)) }
+{
+    let content = Content {
         properties: Properties::none(),
         body: Body::empty(),
     };
-    let content = content.as_ref().unwrap_or(&none);
+    publish_content(alloc, id, channel, depot, publish, &content)
+}
+
+/// Publishes a message with `content`, as [`publish`] does.
+fn publish_content(
+    alloc: Global,
+    id: ChannelId,
+    channel: &mut Channel,
+    depot: &mut Depot,
+    publish: &Publish,
+    content: &Content,
+) -> Result<Step, Stop>
+    requires { CanCommand id.connection id.number depot.old channel.old }
+    // What the result means, and that all that is sent is for this connection.
+    ensures commands { Commands id.connection id.number depot.old channel.old (BasicPublish publish.now) (Some content.now) result depot.new channel.new }
+    ensures addressed { IfOk result (λ s. IsMethod (BasicPublish publish.now) → AreAddressed id.connection s.sends.items) }
+    // The frame; a failure changes nothing.
+    ensures topology { depot.new.topology ≡ depot.old.topology }
+    ensures placed { IsPlaced depot.old.topology channel.new }
+    ensures err { OnErr result ((depot.new ≡ depot.old) × (channel.new ≡ channel.old)) }
+{
     let known = check_publish(depot, channel, publish)?;
     let route = shared(known)?;
     let number = depot.published() + 1;

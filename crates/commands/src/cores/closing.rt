@@ -20,7 +20,7 @@ impl Core {
     ghost use Rattle.commands.specs.State.{broker_of, channel_on, topology_kept, names_of};
     ghost use Rattle.commands.specs.Steps.{PerformsOn};
     ghost use Rattle.channels.specs.Open.{Open, open_in};
-    ghost use Rattle.commands.specs.Ended.{OtherConsumersStay, TellsEnd, TellsStayOn};
+    ghost use Rattle.commands.specs.Ended.{OtherConsumersStay, ReportsConsumersOn, ReportsEnd};
     ghost use Rattle.commands.specs.declared.acted.Ends.TheVariants as ended;
     ghost use Rattle.commands.specs.Judged.{refusal_seen, HasChannel};
     ghost use Rattle.replies.specs.Sent.{AreAddressed};
@@ -39,7 +39,7 @@ impl Core {
             (with_gone (broker_of self.old) connection)) }
         ensures addressed { IfOk result (λ a. AreAddressed connection a.step.sends.items) }
         // What ends.
-        ensures ended { IfOk result (λ a. TellsEnd connection a.ends (broker_of self.old) (broker_of self.new)) }
+        ensures ended { IfOk result (λ a. ReportsEnd connection a.ends (broker_of self.old) (broker_of self.new)) }
         ensures reported { IfOk result (λ a. a.ends ≡ ended.Connection) }
         ensures stay { OnOk result (OtherConsumersStay connection (broker_of self.old) (broker_of self.new)) }
         // The frame; a failure changes nothing.
@@ -162,8 +162,8 @@ impl Core {
         ensures ignored { refusal_seen refusal ≡ said.Ignored → IsOk result }
         ensures addressed { IfOk result (λ a. AreAddressed connection a.step.sends.items) }
         // What ends.
-        ensures ended { IfOk result (λ a. TellsEnd connection a.ends (broker_of self.old) (broker_of self.new)) }
-        ensures stay { IfOk result (λ a. TellsStayOn connection channel a.ends (broker_of self.old) (broker_of self.new)) }
+        ensures ended { IfOk result (λ a. ReportsEnd connection a.ends (broker_of self.old) (broker_of self.new)) }
+        ensures stay { IfOk result (λ a. ReportsConsumersOn connection channel a.ends (broker_of self.old) (broker_of self.new)) }
         // The frame; a failure changes nothing.
         ensures topology { topology_kept self.new ≡ topology_kept self.old }
         ensures err { OnErr result (self.new ≡ self.old) }

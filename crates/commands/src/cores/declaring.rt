@@ -11,7 +11,7 @@ impl Core {
     ghost use Rattle.model.specs.declared.methods.Method.TheVariants.{QueueDeclare as DeclaresQueue};
     ghost use Rattle.model.specs.Grammar.{IsMethod};
     ghost use Rattle.commands.specs.State.{broker_of, topology_kept};
-    ghost use Rattle.commands.specs.Judged.{IsQueuePlace};
+    ghost use Rattle.commands.specs.Judged.{IsQueueIndex};
     ghost use Rattle.replies.specs.Sent.{AreAddressed};
 
     /// Replies with `queue.declare-ok` for the queue at `index` unless `no_wait` is set: with the number of its ready messages and of its
@@ -24,7 +24,7 @@ impl Core {
         index: usize,
         declare: &QueueDeclare,
     ) -> Result<Step, AllocError>
-        requires { IsQueuePlace (topology_kept self.now) declare.now.queue index }
+        requires { IsQueueIndex (topology_kept self.now) declare.now.queue index }
         ensures ok { IfOk result (λ s. Finds (broker_of self.now) connection channel declare.now s.sends.items s.notes.items (broker_of self.now)) }
         ensures addressed { IfOk result (λ s. IsMethod (DeclaresQueue declare.now) → AreAddressed connection s.sends.items) }
     {

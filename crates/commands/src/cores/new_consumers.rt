@@ -32,13 +32,13 @@ impl Core {
     ghost use Rattle.std.specs.Prelude.{◌≡◌, ◌<◌, ℕ, Some, IfSome, length};
     ghost use Rattle.channels.specs.RunningConnections.{running_in};
     ghost use Rattle.commands.specs.State.{topology_kept};
-    ghost use Rattle.commands.specs.NewConsumers.{seat_on, consumer_to_make, IsConsumed, IsNewest};
+    ghost use Rattle.commands.specs.NewConsumers.{consumer_made_on, consumer_to_make, IsConsumed, IsNewest};
     ghost use Rattle.model.specs.declared.methods.Method.TheVariants.{BasicConsume};
 
     /// Returns the numbers of the consumer that `consume` makes on this channel; each consumer of the channel has a smaller number. `None` if the
     /// consume is refused, or the connection is not running.
-    fn seat_on(&self, connection: u64, channel: u16, consume: &Consume) -> Option<Pick>
-        ensures seat { result ≡ seat_on self.now connection channel (BasicConsume consume.now) (running_in self.now.connections connection) }
+    fn consumer_made_on(&self, connection: u64, channel: u16, consume: &Consume) -> Option<Pick>
+        ensures numbers { result ≡ consumer_made_on self.now connection channel (BasicConsume consume.now) (running_in self.now.connections connection) }
         ensures newest { IfSome result (IsNewest self.now) }
     {
         let running = self.connections.get(connection)?;
@@ -56,7 +56,7 @@ impl Core {
     /// Returns the numbers of the consumer that `event` is going to make; each consumer of its channel has a smaller number. `None` if the event is
     /// not a consume, or is refused.
     pub fn consumer_to_make(&self, event: &Event) -> Option<Pick>
-        ensures seat { result ≡ consumer_to_make self.now event.now }
+        ensures numbers { result ≡ consumer_to_make self.now event.now }
         ensures newest { IfSome result (IsNewest self.now) }
     {
         match event {
@@ -65,7 +65,7 @@ impl Core {
                 channel,
                 method: Method::BasicConsume(consume),
                 ..
-            } => self.seat_on(*connection, *channel, consume),
+            } => self.consumer_made_on(*connection, *channel, consume),
             _ => None,
         }
     }

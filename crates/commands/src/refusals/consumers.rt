@@ -5,7 +5,7 @@ ghost use Rattle.std.specs.Str.{bytes_eq};
 ghost use Rattle.model.specs.Words.{Text as Name};
 ghost use Rattle.model.specs.Step as said;
 ghost use Rattle.channels.specs.Open.{open_in};
-ghost use Rattle.commands.specs.Judged.{refused_by, IsQueuePlace};
+ghost use Rattle.commands.specs.Judged.{refused_by, IsQueueIndex};
 
 use crate::refusals::{Refusal, check_queue};
 use channels::Channel;
@@ -36,7 +36,7 @@ fn check_consumer(channel: &Channel, consume: &Consume) -> Result<(), Refusal>
     ensures { (names : List Name) → refused_by result ≡ said.refusal_of_consumer (open_in names channel.now) consume.now }
 {
     match channel.refusal(consume) {
-        Some(seat) => Err(Refusal::from(seat)),
+        Some(why) => Err(Refusal::from(why)),
         None => Ok(()),
     }
 }
@@ -48,7 +48,7 @@ pub fn check_consume(
     channel: &Channel,
     consume: &Consume,
 ) -> Result<usize, Refusal>
-    ensures place { IfOk result (IsQueuePlace topology.now consume.now.queue) }
+    ensures index { IfOk result (IsQueueIndex topology.now consume.now.queue) }
     ensures refusal { (names : List Name) → refused_by result ≡ said.refusal_of_consume topology.now (open_in names channel.now) consume.now }
 {
     let place = check_queue(topology, &consume.queue)?;

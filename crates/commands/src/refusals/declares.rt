@@ -3,7 +3,7 @@
 ghost use Rattle.std.specs.Prelude.{◌≡◌, Some, None, IfOk, if◌then◌else◌};
 ghost use Rattle.model.specs.Step as said;
 ghost use Rattle.model.specs.Step.{Of_channel};
-ghost use Rattle.commands.specs.Judged.{refused_by, IsQueuePlace};
+ghost use Rattle.commands.specs.Judged.{refused_by, IsQueueIndex};
 
 use crate::refusals::{Refusal, check_queue};
 use exchange_graph::Topology;
@@ -43,7 +43,7 @@ pub fn check_exchange(topology: &Topology, declare: &ExchangeDeclare) -> Result<
 
 /// Refuses a queue.declare unless it is passive and the queue exists. Returns the index of the queue.
 pub fn check_queue_declare(topology: &Topology, declare: &QueueDeclare) -> Result<usize, Refusal>
-    ensures place { IfOk result (IsQueuePlace topology.now declare.now.queue) }
+    ensures index { IfOk result (IsQueueIndex topology.now declare.now.queue) }
     ensures refusal { refused_by result ≡ said.refusal_of_queue_declare topology.now declare.now }
 {
     if !declare.passive {

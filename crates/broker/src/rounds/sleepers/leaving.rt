@@ -2,7 +2,7 @@
 
 ghost use Rattle.std.specs.Prelude.{◌≡◌, ◌<◌, ◌≤◌, ◌*◌, ℕ, length, filter, vec_capacity};
 ghost use Rattle.model.specs.Topology.{IsIn};
-ghost use Rattle.marks.specs.Places.{bit_of};
+ghost use Rattle.marks.specs.Sets.{bit_of};
 ghost use Rattle.broker.specs.declared.rounds.sleepers.leaving.Gone.TheVariants.{Nobody};
 ghost use Rattle.broker.specs.Rounds.{is_listed_there, listings_of, listings_on, Listing, IsListedOnAny, IsListedUnder, AddsGone};
 ghost use Rattle.broker.specs.Rounds.{KeepsListings, KeepListingsOn, KeepLists, ListingsLeave, MakesNoList};
@@ -10,7 +10,7 @@ ghost use Rattle.broker.specs.Rounds.{KeepsListings, KeepListingsOn, KeepLists, 
 use crate::rounds::sleepers::{ChannelSleepers, ConnectionSleepers, Listed, Sleepers};
 use crate::rounds::waiters::{PlaceMarks, mark_between};
 use commands::{Core, Pick};
-use marks::Places;
+use marks::IndexSet;
 
 /// The listed consumers that are gone.
 #[derive(Clone, Copy, Drop)]

@@ -7,7 +7,7 @@ ghost use Rattle.broker.specs.Rounds.{NotesStay, SameListed, MakesNoList, AllWak
 use crate::rounds::queue_rounds::QueueRounds;
 use crate::rounds::sleepers::{ChannelSleepers, ConnectionSleepers, Listed, Sleepers};
 use crate::rounds::waiters::PlaceMarks;
-use marks::Places;
+use marks::IndexSet;
 
 impl Listed {
     /// Wakes the listed waiter.

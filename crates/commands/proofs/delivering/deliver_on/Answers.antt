@@ -6,10 +6,10 @@ use Rattle.commands.proofs.Delivered.{ready_on, takes_there, delivered, takes_sh
 use Rattle.commands.proofs.delivering.deliver_on.Goals as goal
 
 pub ghost_is_named-requires : goal.ghost_is_named-requires
-ghost_is_named-requires c = takes_within c.args.depot.now.topology c.in-Some.consumer.now c.args.channel.now.given.consumers c.requires.placed.consumers c.in-Some.ensures.seat
+ghost_is_named-requires c = takes_within c.args.depot.now.topology c.in-Some.consumer.now c.args.channel.now.given.consumers c.requires.placed.consumers c.in-Some.ensures.listed
 
 pub first_ready_at-requires : goal.first_ready_at-requires
-first_ready_at-requires c = takes_within c.args.depot.now.topology c.in-Some.consumer.now c.args.channel.now.given.consumers c.requires.placed.consumers c.in-Some.ensures.seat
+first_ready_at-requires c = takes_within c.args.depot.now.topology c.in-Some.consumer.now c.args.channel.now.given.consumers c.requires.placed.consumers c.in-Some.ensures.listed
 
 -- no message goes to a consumer that may take none
 pub returns-in_default-clause-ok : goal.returns-in_default-clause-ok
@@ -24,7 +24,7 @@ returns-in_default-first_ready_at-clause-ok c = λ old new turns pick.
     absurd (false≢true (ap is_some (sym (ap (option_map (λ e. e.now)) c.in_default-first_ready_at.is)) ∙ ap is_some (sym same ∙ ready)))
 
 pub give_out-requires-clause-within : goal.give_out-requires-clause-within
-give_out-requires-clause-within c = takes_within c.args.depot.now.topology c.in-Some.consumer.now c.args.channel.now.given.consumers c.requires.placed.consumers c.in-Some.ensures.seat
+give_out-requires-clause-within c = takes_within c.args.depot.now.topology c.in-Some.consumer.now c.args.channel.now.given.consumers c.requires.placed.consumers c.in-Some.ensures.listed
 
 pub returns-clause-ok : goal.returns-clause-ok
 returns-clause-ok c =

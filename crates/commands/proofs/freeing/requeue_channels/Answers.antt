@@ -9,7 +9,7 @@ loop-place-preserved c =
     let old : Store = c.loop-place.depot in
     let new : Store = c.requeue.new.self in
     let channels = c.args.running.now.channels in
-    let places = c.places-place-end.ensures.places in
+    let places = c.slots-place-end.ensures.slots in
     let within = c.loop-place-test.true in
     let made : AreSettledBy Returns old connection place (outstanding_on (get_or channels place None)) [] [] new =
     subst (λ (os : List Delivery). AreSettledBy Returns old connection place os [] [] new) c.outstanding.ensures.all c.requeue.ensures in
@@ -20,6 +20,6 @@ loop-place-preserved c =
 
 pub returns : goal.returns
 returns c =
-    let places = c.places-place-end.ensures.places in
+    let places = c.slots-place-end.ensures.slots in
     let past = c.loop-place-test.false in
     c.loop-place.invariant.returned c.loop-place.depot (requeue_ends c.args.connection c.loop-place.place c.args.running.now.channels c.loop-place.depot (omega (arith, places, past)))

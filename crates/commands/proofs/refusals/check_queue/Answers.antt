@@ -3,8 +3,8 @@ use Rattle.std.proofs.Common.{Some, if◌then◌else◌}
 use Rattle.commands.proofs.Judging.{queue_there, queue_absent}
 use Rattle.commands.proofs.refusals.check_queue.Goals as goal
 
-pub returns-in-Some-clause-place : goal.returns-in-Some-clause-place
-returns-in-Some-clause-place c = record { within = c.in-Some.ensures.within; named = c.in-Some.ensures.named ∙ c.as_bytes.ensures }
+pub returns-in-Some-clause-index : goal.returns-in-Some-clause-index
+returns-in-Some-clause-index c = record { within = c.in-Some.ensures.within; named = c.in-Some.ensures.named ∙ c.as_bytes.ensures }
 
 pub returns-in-Some-clause-refusal : goal.returns-in-Some-clause-refusal
 returns-in-Some-clause-refusal c =

@@ -8,4 +8,4 @@ returns-in-Spelled-Spelled c = λ is.
     let s = both.ensures in
     let o = both.ensures' in
     let same = (bytes_eq-Decides both.some.now both.others.now).0 (sym c.eq.ensures ∙ is) in
-    alike c.one_header.ensures c.args.some.now c.args.others.now both.some.now s.0 s.1 o.0 (same ∙ o.1)
+    alike c.ghost_one_header.ensures c.args.some.now c.args.others.now both.some.now s.0 s.1 o.0 (same ∙ o.1)

@@ -4,7 +4,7 @@ use Rattle.commands.specs.State.{broker_of, topology_kept}
 use Rattle.broker.proofs.Outcomes.{if_some}
 use Rattle.broker.proofs.Joined.{holds, serves, serves_kept, notes_keep, running_still}
 use Rattle.broker.proofs.Staying.{own_picked, listed_same}
-use Rattle.broker.proofs.Nearer.{told_first, lines_stay}
+use Rattle.broker.proofs.Nearer.{picked_in_turn, lines_stay}
 use Rattle.broker.proofs.brokers.Broker.find.Goals as goal
 
 pub returns-clause-none : goal.returns-clause-none
@@ -27,7 +27,7 @@ invariant_of-self c =
     serves kept after
     (serves_kept kept before after c.pick-self-inside.ensures.kept (notes_keep kept before.lists after.lists c.pick-self-inside.ensures.noted) c.pick-self-inside.ensures.len (holds kept before c.self.invariant))
     (running_still (broker_of kept) (broker_of kept) before.lists after.lists (λ d none. none) c.pick-self-inside.ensures.no_list c.self.invariant.running)
-    (own_picked kept before after c.pick-self-inside.result c.pick-self-inside.ensures.reported c.pick-self-inside.ensures.on c.self.invariant.own)
+    (own_picked kept before after c.pick-self-inside.result c.pick-self-inside.ensures.picked c.pick-self-inside.ensures.on c.self.invariant.own)
     (listed_same kept before.lists after.lists c.pick-self-inside.ensures.same c.self.invariant.listed)
 
 pub returns-clause-in_turn : goal.returns-clause-in_turn
@@ -36,7 +36,7 @@ returns-clause-in_turn c =
     let before : Rounds = c.self.inside.rounds in
     let after : Rounds = c.pick-self-inside.new.self in
     subst (λ (b : WithTurn). IfSome c.pick-self-inside.result (λ p. IsPickedInTurn b p (with_turn kept after c.pick-self-inside.result))) c.self.view_is
-    (told_first kept before after c.self.inside.turn c.pick-self-inside.result (holds kept before c.self.invariant) c.pick-self-inside.ensures.reported)
+    (picked_in_turn kept before after c.self.inside.turn c.pick-self-inside.result (holds kept before c.self.invariant) c.pick-self-inside.ensures.picked)
 
 pub returns-clause-stay : goal.returns-clause-stay
 returns-clause-stay c = λ none.

@@ -1,7 +1,7 @@
 use Rattle.broker.proofs.Names.{◌∙◌, inl, refl, sym, ap, subst, IsPick, WithTurn, AllInLine}
 use Rattle.broker.specs.Turns.{broker_of}
 use Rattle.broker.proofs.Joined.{holds}
-use Rattle.broker.proofs.Turning.{all_stand}
+use Rattle.broker.proofs.Turning.{all_in_line}
 use Rattle.broker.proofs.brokers.Broker.pick.Goals as goal
 
 pub returns-in-Some-clause-some : goal.returns-in-Some-clause-some
@@ -13,11 +13,11 @@ returns-in-None-clause-again c = λ p is pick.
 
 pub returns-in-Some-clause-complete : goal.returns-in-Some-clause-complete
 returns-in-Some-clause-complete c =
-    subst AllInLine c.self.view_is (all_stand c.self.inside.core c.self.inside.rounds c.self.inside.turn (holds c.self.inside.core c.self.inside.rounds c.self.invariant) c.self.invariant.own)
+    subst AllInLine c.self.view_is (all_in_line c.self.inside.core c.self.inside.rounds c.self.inside.turn (holds c.self.inside.core c.self.inside.rounds c.self.invariant) c.self.invariant.own)
 
 pub returns-in-None-clause-complete : goal.returns-in-None-clause-complete
 returns-in-None-clause-complete c =
-    subst AllInLine c.self.view_is (all_stand c.self.inside.core c.self.inside.rounds c.self.inside.turn (holds c.self.inside.core c.self.inside.rounds c.self.invariant) c.self.invariant.own)
+    subst AllInLine c.self.view_is (all_in_line c.self.inside.core c.self.inside.rounds c.self.inside.turn (holds c.self.inside.core c.self.inside.rounds c.self.invariant) c.self.invariant.own)
 
 -- the same is told again
 pub returns-in-Some-clause-in_turn : goal.returns-in-Some-clause-in_turn

@@ -1,4 +1,4 @@
-use Rattle.broker.proofs.Names.{◌∙◌, ℕ, sym, ap, subst, Rounds, IsServing, TellsEnd, TellsStay, Kept, Ends, connection_of_event, WithTurn, with_turn, NobodyIsPutBack}
+use Rattle.broker.proofs.Names.{◌∙◌, ℕ, sym, ap, subst, Rounds, IsServing, ReportsEnd, ReportsConsumers, Kept, Ends, connection_of_event, WithTurn, with_turn, NobodyIsPutBack}
 use Rattle.commands.specs.State.{broker_of}
 use Rattle.broker.proofs.Outcomes.{on_err}
 use Rattle.broker.proofs.Joined.{holds}
@@ -35,8 +35,8 @@ pub invariant_of-self-in-Nothing : goal.invariant_of-self-in-Nothing
 invariant_of-self-in-Nothing c =
     let old : Kept = c.self.inside.core in
     let new : Kept = c.step.new.self in
-    let runs = subst (λ (e : Ends). TellsEnd (connection_of_event c.args.event.now) e (broker_of old) (broker_of new)) c.in-Nothing.is c.in_ok-acted.ensures.ended in
-    let stay = subst (λ (e : Ends). TellsStay c.args.event.now e (broker_of old) (broker_of new)) c.in-Nothing.is c.in_ok-acted.ensures.stay in
+    let runs = subst (λ (e : Ends). ReportsEnd (connection_of_event c.args.event.now) e (broker_of old) (broker_of new)) c.in-Nothing.is c.in_ok-acted.ensures.ended in
+    let stay = subst (λ (e : Ends). ReportsConsumers c.args.event.now e (broker_of old) (broker_of new)) c.in-Nothing.is c.in_ok-acted.ensures.stay in
     serving_held c.self.inside.core c.self.inside.rounds c.wake_for.new.self c.expect_next.new.self c.args.event.now c.self.invariant c.wake_for.ensures.kept c.wake_for.ensures.noted c.wake_for.ensures.none c.wake_for.ensures.on c.expect_next.ensures.kept c.expect_next.ensures.noted c.expect_next.ensures.running c.expect_next.ensures.on c.wake_for.ensures.same c.expect_next.ensures.same
     c.brokers_stay_agreed.ensures.acts c.consumers_are_made.ensures c.step.new.self c.join.new.self c.in_ok-newcomer.newcomer _ _ c.in_ok-acted.ensures.ok c.step.ensures.topology c.wake_for.ensures.woken c.expect_next.ensures.wakens c.in_ok-newcomer.ensures.expected c.join.ensures.joined c.join.ensures.kept c.join.ensures.noted c.join.ensures.listed c.join.ensures.none c.join.ensures.len
     runs stay c.join.ensures.adds
@@ -47,7 +47,7 @@ leave-requires-clause-ended c =
     let old : Kept = c.self.inside.core in
     let new : Kept = c.step.new.self in
     has_ended c.connection_of.result c.in_ok-acted.acted.ends (broker_of old) (broker_of new)
-    (subst (λ (d : ℕ). TellsEnd d c.in_ok-acted.acted.ends (broker_of old) (broker_of new)) (sym c.connection_of.ensures) c.in_ok-acted.ensures.ended)
+    (subst (λ (d : ℕ). ReportsEnd d c.in_ok-acted.acted.ends (broker_of old) (broker_of new)) (sym c.connection_of.ensures) c.in_ok-acted.ensures.ended)
 
 pub leave-requires-clause-listed : goal.leave-requires-clause-listed
 leave-requires-clause-listed c =
@@ -62,7 +62,7 @@ invariant_of-self-in_default c =
     serving_left c.self.inside.core c.self.inside.rounds c.wake_for.new.self c.expect_next.new.self c.args.event.now c.self.invariant c.wake_for.ensures.kept c.wake_for.ensures.noted c.wake_for.ensures.none c.wake_for.ensures.on c.expect_next.ensures.kept c.expect_next.ensures.noted c.expect_next.ensures.running c.expect_next.ensures.on c.wake_for.ensures.same c.expect_next.ensures.same
     c.brokers_stay_agreed.ensures.acts c.consumers_are_made.ensures c.step.new.self c.join.new.self c.in_ok-newcomer.newcomer _ _ c.in_ok-acted.ensures.ok c.step.ensures.topology c.wake_for.ensures.woken c.expect_next.ensures.wakens c.in_ok-newcomer.ensures.expected c.join.ensures.joined c.join.ensures.kept c.join.ensures.noted c.join.ensures.listed c.join.ensures.none c.join.ensures.len
     c.connection_of.result c.connection_of.ensures c.leave.new.self c.join.ensures.adds c.leave.ensures.lines c.in_ok-acted.acted.ends
-    (subst (λ (d : ℕ). TellsEnd d c.in_ok-acted.acted.ends (broker_of old) (broker_of new)) (sym c.connection_of.ensures) c.in_ok-acted.ensures.ended)
+    (subst (λ (d : ℕ). ReportsEnd d c.in_ok-acted.acted.ends (broker_of old) (broker_of new)) (sym c.connection_of.ensures) c.in_ok-acted.ensures.ended)
     c.leave.ensures.kept c.leave.ensures.noted c.leave.ensures.gone c.leave.ensures.none c.leave.ensures.left c.leave.ensures.len
 
 -- all go on as before
@@ -88,8 +88,8 @@ returns-in-Nothing-clause-later c =
     let new : Kept = c.step.new.self in
     let before : Rounds = c.self.inside.rounds in
     let after : Rounds = c.join.new.self in
-    let runs = subst (λ (e : Ends). TellsEnd (connection_of_event c.args.event.now) e (broker_of old) (broker_of new)) c.in-Nothing.is c.in_ok-acted.ensures.ended in
-    let stay = subst (λ (e : Ends). TellsStay c.args.event.now e (broker_of old) (broker_of new)) c.in-Nothing.is c.in_ok-acted.ensures.stay in
+    let runs = subst (λ (e : Ends). ReportsEnd (connection_of_event c.args.event.now) e (broker_of old) (broker_of new)) c.in-Nothing.is c.in_ok-acted.ensures.ended in
+    let stay = subst (λ (e : Ends). ReportsConsumers c.args.event.now e (broker_of old) (broker_of new)) c.in-Nothing.is c.in_ok-acted.ensures.stay in
     let on = goes c.self.inside.core c.self.inside.rounds c.wake_for.new.self c.expect_next.new.self c.args.event.now c.self.invariant c.wake_for.ensures.kept c.wake_for.ensures.noted c.wake_for.ensures.none c.wake_for.ensures.on c.expect_next.ensures.kept c.expect_next.ensures.noted c.expect_next.ensures.running c.expect_next.ensures.on c.wake_for.ensures.same c.expect_next.ensures.same in
     subst (λ (b : WithTurn). NobodyIsPutBack b (with_turn new after c.self.inside.turn)) c.self.view_is
     (none_back old new before after c.self.inside.turn c.self.inside.turn c.step.ensures.topology (holds old before c.self.invariant) c.self.invariant.own

@@ -14,8 +14,8 @@ returns-in_err-found-clause-on c = λ e.
     let new : Rounds = record { rounds = c.pick.new.self; lists = c.pick.new.sleepers.entries; next = c.self.inside.next } in
     subst (λ (r : Rounds). GoesOn r new) c.self.view_is (record { len = c.pick.ensures.len; same = c.in_err-found.ensures.same refl; next = refl })
 
-pub returns-clause-reported : goal.returns-clause-reported
-returns-clause-reported c =
+pub returns-clause-picked : goal.returns-clause-picked
+returns-clause-picked c =
     let new : Rounds = record { rounds = c.pick.new.self; lists = c.pick.new.sleepers.entries; next = c.in_ok-found.found.queue + 1 } in
     subst (λ (r : Rounds). PicksFirst c.args.core.now r new c.in_ok-found.found.pick) c.self.view_is
     (record {
@@ -23,7 +23,7 @@ returns-clause-reported c =
       could = c.in_ok-found.ensures.some;
       within = let lt = c.in_ok-found.ensures.within in let len = c.pick.ensures.len in omega (arith, lt, len);
       passed = c.in_ok-found.ensures.passed;
-      reported = c.in_ok-found.ensures.reported;
+      picked = c.in_ok-found.ensures.picked;
       next = refl;
     })
 

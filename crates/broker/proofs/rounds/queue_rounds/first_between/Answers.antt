@@ -66,9 +66,9 @@ returns-in-Some-pick_at-clause-passed c = λ place p from lt i pick.
           c.in-Some.ensures.before place p (omega (arith, gt)) lt (marked_by c.args.core.now c.queues.sleepers.entries c.queues.rounds c.queues.awake place p c.queues.invariant.marked (c.queues.invariant.kept place p i (picked_of c.args.core.now place p pick)) pick) pick
     ]
 
-pub returns-in-Some-pick_at-clause-reported : goal.returns-in-Some-pick_at-clause-reported
-returns-in-Some-pick_at-clause-reported c =
-    picks_since c.args.core.now (rounds_of c.args.rounds.now c.args.sleepers.now.entries) (rounds_of c.queues.rounds c.queues.sleepers.entries) c.pick_at.new.rounds c.in-Some.queue c.in-Some-pick_at.pick c.queues.invariant.same c.queues.invariant.kept c.in-Some-pick_at.ensures.reported
+pub returns-in-Some-pick_at-clause-picked : goal.returns-in-Some-pick_at-clause-picked
+returns-in-Some-pick_at-clause-picked c =
+    picks_since c.args.core.now (rounds_of c.args.rounds.now c.args.sleepers.now.entries) (rounds_of c.queues.rounds c.queues.sleepers.entries) c.pick_at.new.rounds c.in-Some.queue c.in-Some-pick_at.pick c.queues.invariant.same c.queues.invariant.kept c.in-Some-pick_at.ensures.picked
 
 pub pick_at-requires-clause-noted : goal.pick_at-requires-clause-noted
 pick_at-requires-clause-noted c = λ place p has. c.queues.invariant.more.noted (listing place p) (c.requires.noted place p has)

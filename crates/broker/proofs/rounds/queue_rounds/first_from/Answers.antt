@@ -29,10 +29,10 @@ returns-in-None-clause-passed c =
     (λ f below before. queues_back c.args.core.now old c.args.next c.min-turn.result f.queue (omega (arith, turn)) mid below (c.in-None.ensures.none refl) c.in-None.ensures.kept before)
     c.first_between-in-None.ensures.below c.first_between-in-None.ensures.passed
 
-pub returns-in-None-clause-reported : goal.returns-in-None-clause-reported
-returns-in-None-clause-reported c =
+pub returns-in-None-clause-picked : goal.returns-in-None-clause-picked
+returns-in-None-clause-picked c =
     let old = rounds_of c.args.rounds.now c.args.sleepers.now.entries in
     let mid = rounds_of c.first_between.new.rounds c.first_between.new.sleepers.entries in
     if_some c.first_between-in-None.result (λ f. PicksFrom c.args.core.now mid.lists mid.rounds c.first_between-in-None.new.rounds f.queue f.pick)
     (λ f. PicksFrom c.args.core.now old.lists old.rounds c.first_between-in-None.new.rounds f.queue f.pick)
-    (λ f reported. picks_since c.args.core.now old mid c.first_between-in-None.new.rounds f.queue f.pick (c.in-None.ensures.same refl) c.in-None.ensures.kept reported) c.first_between-in-None.ensures.reported
+    (λ f picked. picks_since c.args.core.now old mid c.first_between-in-None.new.rounds f.queue f.pick (c.in-None.ensures.same refl) c.in-None.ensures.kept picked) c.first_between-in-None.ensures.picked

@@ -29,10 +29,10 @@ returns-in-None-clause-none c = λ e p i.
     c.in-None.ensures.none refl p
     (subst (λ (r : Waiters). IsInRound (broker_of c.args.core.now) c.args.sleepers.now.entries c.args.queue r p) (same_default c.args.rounds.now c.args.queue (record { waiters = []; marks = []; next = 0; capacity = 0 }) c.index-rounds-queue.result c.requires.within) i)
 
-pub returns-in-Some-clause-reported : goal.returns-in-Some-clause-reported
-returns-in-Some-clause-reported c =
+pub returns-in-Some-clause-picked : goal.returns-in-Some-clause-picked
+returns-in-Some-clause-picked c =
     picks_in c.args.rounds.now c.args.queue c.pick.new.self c.requires.within c.args.core.now c.args.sleepers.now.entries _
-    (subst (λ (r : Waiters). GoesLast c.args.core.now c.args.sleepers.now.entries c.args.queue r c.pick.new.self c.in-Some.pick) (sym (same_default c.args.rounds.now c.args.queue (record { waiters = []; marks = []; next = 0; capacity = 0 }) c.index-rounds-queue.result c.requires.within)) c.in-Some.ensures.reported)
+    (subst (λ (r : Waiters). GoesLast c.args.core.now c.args.sleepers.now.entries c.args.queue r c.pick.new.self c.in-Some.pick) (sym (same_default c.args.rounds.now c.args.queue (record { waiters = []; marks = []; next = 0; capacity = 0 }) c.index-rounds-queue.result c.requires.within)) c.in-Some.ensures.picked)
 
 pub returns-in-None-clause-same : goal.returns-in-None-clause-same
 returns-in-None-clause-same c = λ e.

@@ -5,7 +5,7 @@ use Rattle.broker.proofs.rounds.queue_rounds.take_round.Goals as goal
 pub returns-clause-moved : goal.returns-clause-moved
 returns-clause-moved c =
     subst (IsMoved c.args.round.now) (sym (get_or-set_same c.args.rounds.now c.args.place c.swap.new.x (record { waiters = []; marks = []; next = 0; capacity = 0 }) c.requires.within ∙ c.swap.ensures.x_after))
-    (record { roused = c.wake_all.ensures.roused; same = c.wake_all.ensures.same })
+    (record { awake = c.wake_all.ensures.awake; same = c.wake_all.ensures.same })
 
 pub returns-clause-marked : goal.returns-clause-marked
 returns-clause-marked c =

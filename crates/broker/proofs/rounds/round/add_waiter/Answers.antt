@@ -1,6 +1,6 @@
-use Rattle.broker.proofs.Names.{◌∙◌, ◌≤◌, ◌+◌, ℕ, List, length, min, vec_len, refl, sym, ap, subst, arith, rules, insert, get_or, bit_for, Waiter, turned, round_of, picks, awake_waiter, KeepsRound}
+use Rattle.broker.proofs.Names.{◌∙◌, ◌≤◌, ◌+◌, ◌*◌, ℕ, List, length, min, vec_len, refl, sym, ap, subst, arith, rules, insert, get_or, Waiter, turned, round_of, picks, awake_waiter, KeepsRound}
 use Rattle.std.proofs.Common.{◌≡◌, ◌⊎◌}
-use Rattle.broker.proofs.Inserting.{MarksFrom, insert_length, insert_here, comes_last, did_insert, picks_inserted, keeps_inserted}
+use Rattle.broker.proofs.Inserting.{insert_length, insert_here, comes_last, did_insert, picks_inserted, keeps_inserted}
 use Rattle.broker.proofs.Picks.{picks_length}
 use Rattle.broker.proofs.rounds.round.add_waiter.Goals as goal
 
@@ -32,10 +32,8 @@ returns-clause-kept c = λ k queue.
     let count = c.len-count.ensures in
     let within = c.line_end-place.ensures.within in
     let items = did_insert c.insert.result old (insert old place one) c.insert.new.self.items c.insert.ensures.items (c.insert.ensures.succeeds (omega (arith, long, room))) in
-    let value = c.deref.ensures.value in
-    let fits = subst (λ (ws : List Waiter). MarksFrom ws c.args.awake.now c.refit.new.awake place) (value ∙ items) (record { before = c.refit.ensures.before; fits = c.refit.ensures.fits }) in
-    subst (λ (ws : List Waiter). KeepsRound k queue (round_of old c.args.awake.now) (round_of ws c.refit.new.awake)) (sym items)
-    (keeps_inserted old place one c.args.awake.now c.refit.new.awake (omega (arith, within, count, long)) fits k queue)
+    subst (λ (ws : List Waiter). KeepsRound k queue (round_of old c.args.awake.now) (round_of ws c.insert-2.new.self)) (sym items)
+    (keeps_inserted old place one c.args.awake.now c.insert-2.new.self (length c.args.awake.now * 64) (omega (arith, within, count, long)) c.requires.mark c.insert-2.ensures.inserted k queue)
 
 -- it is awake there
 pub returns-clause-joined : goal.returns-clause-joined
@@ -49,14 +47,12 @@ returns-clause-joined c =
     let within = c.line_end-place.ensures.within in
     let le : place ≤ length old = omega (arith, within, count, long) in
     let items = did_insert c.insert.result old (insert old place one) c.insert.new.self.items c.insert.ensures.items (c.insert.ensures.succeeds (omega (arith, long, room))) in
-    let all = c.deref.ensures.value ∙ items in
     let more = insert_length old place one le in
-    let new = ap (λ (ws : List Waiter). length ws) items in
-    let seen = ap (λ (ws : List Waiter). length ws) all in (
+    let new = ap (λ (ws : List Waiter). length ws) items in (
       place,
       record {
         within = omega (arith, le, more, new);
         there = λ d. ap (λ (ws : List Waiter). get_or ws place d) items ∙ insert_here old place one d le;
-        marked = c.refit.ensures.fits place one (omega arith) (omega (arith, le, more, seen)) ∙ ap (λ (ws : List Waiter). bit_for (get_or ws place one).asleep) all ∙ ap (λ (s : Waiter). bit_for s.asleep) (insert_here old place one one le);
+        marked = c.insert-2.ensures.inserted.there;
       },
     )

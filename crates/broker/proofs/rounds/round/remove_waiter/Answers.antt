@@ -1,26 +1,16 @@
-use Rattle.broker.proofs.Names.{◌∙◌, ◌≤◌, ◌<◌, ◌-◌, ℕ, List, false, length, get_or, filter, inl, inr, refl, sym, ap, subst, arith, length-remove, bit_of, Waiter, turned, round_of, picks, bit_for, is_other, OthersStay}
+use Rattle.broker.proofs.Names.{◌∙◌, ◌-◌, List, false, filter, inl, inr, refl, sym, subst, arith, Waiter, turned, round_of, picks, is_other, OthersStay}
 use Rattle.std.proofs.Common.{◌≡◌}
 use Rattle.broker.proofs.Picks.{apart_swept}
 use Rattle.broker.proofs.Removing.{removed_is, line_removed, others_stay}
 use Rattle.broker.proofs.rounds.round.remove_waiter.Goals as goal
-
-pub refit-requires : goal.refit-requires
-refit-requires c =
-    let room = c.requires.room in
-    let lt = c.requires.within in
-    let long = length-remove c.args.waiters.now.items c.args.place lt in
-    let is = ap (λ (xs : List Waiter). length xs) (c.deref.ensures.value ∙ c.remove.ensures.items) in
-    omega (arith, room, lt, long, is)
 
 -- if its index was before that of the order's first
 pub returns-then-place-next-clause-stay : goal.returns-then-place-next-clause-stay
 returns-then-place-next-clause-stay c =
     let none : Waiter = record { pick = record { connection = 0; channel = 0; number = 0 }; asleep = false } in
     let old = c.args.waiters.now.items in
-    let place = c.args.place in
-    let fits = subst (λ (ws : List Waiter). (k : ℕ) (d : Waiter) → place ≤ k → k < length ws → bit_of c.refit.new.awake k ≡ bit_for (get_or ws k d).asleep) (c.deref.ensures.value ∙ c.remove.ensures.items) c.refit.ensures.fits in
-    subst (λ (ws : List Waiter). OthersStay c.args.consumer (round_of old c.args.awake.now) (round_of ws c.refit.new.awake)) (sym c.remove.ensures.items)
-    (others_stay c.args.consumer old place none c.args.awake.now c.refit.new.awake c.requires.once c.requires.within c.requires.there c.refit.ensures.before fits)
+    subst (λ (ws : List Waiter). OthersStay c.args.consumer (round_of old c.args.awake.now) (round_of ws c.remove-2.new.self)) (sym c.remove.ensures.items)
+    (others_stay c.args.consumer old c.args.place none c.args.awake.now c.remove-2.new.self c.requires.once c.requires.within c.requires.there c.remove-2.ensures.removed)
 
 pub returns-then-place-next-clause-once : goal.returns-then-place-next-clause-once
 returns-then-place-next-clause-once c =
@@ -42,10 +32,8 @@ pub returns-else-place-next-clause-stay : goal.returns-else-place-next-clause-st
 returns-else-place-next-clause-stay c =
     let none : Waiter = record { pick = record { connection = 0; channel = 0; number = 0 }; asleep = false } in
     let old = c.args.waiters.now.items in
-    let place = c.args.place in
-    let fits = subst (λ (ws : List Waiter). (k : ℕ) (d : Waiter) → place ≤ k → k < length ws → bit_of c.refit.new.awake k ≡ bit_for (get_or ws k d).asleep) (c.deref.ensures.value ∙ c.remove.ensures.items) c.refit.ensures.fits in
-    subst (λ (ws : List Waiter). OthersStay c.args.consumer (round_of old c.args.awake.now) (round_of ws c.refit.new.awake)) (sym c.remove.ensures.items)
-    (others_stay c.args.consumer old place none c.args.awake.now c.refit.new.awake c.requires.once c.requires.within c.requires.there c.refit.ensures.before fits)
+    subst (λ (ws : List Waiter). OthersStay c.args.consumer (round_of old c.args.awake.now) (round_of ws c.remove-2.new.self)) (sym c.remove.ensures.items)
+    (others_stay c.args.consumer old c.args.place none c.args.awake.now c.remove-2.new.self c.requires.once c.requires.within c.requires.there c.remove-2.ensures.removed)
 
 pub returns-else-place-next-clause-once : goal.returns-else-place-next-clause-once
 returns-else-place-next-clause-once c =

@@ -5,7 +5,7 @@ use Rattle.channels.proofs.channels.Channel.add_consumer.Goals as goal
 pub invariant_of-self-2 : goal.invariant_of-self-2
 invariant_of-self-2 c =
     let next = c.self.inside.next_number in
-    let old : ConsumerCounts = c.self.inside.seats in
+    let old : ConsumerCounts = c.self.inside.consumers in
     let os = c.self.inside.pending.outstanding in
     let one : Consumer = record { number = next; tag = c.args.tag; queue = c.args.queue; no_ack = c.args.no_ack; limit = c.self.inside.each_limit } in
     let was : CountsAgree (record old { room = c.reserve.new.self.room }) os = record { each = c.self.invariant.1.each; all = c.self.invariant.1.all } in

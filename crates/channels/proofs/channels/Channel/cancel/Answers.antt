@@ -1,5 +1,5 @@
 use Rattle.channels.proofs.Imports.{sym, subst, not, AreNumbered, is_named, Consumer, Open}
-use Rattle.channels.proofs.Seating.{named_out}
+use Rattle.channels.proofs.Making.{named_out}
 use Rattle.channels.proofs.Numbering.{numbered_filter}
 use Rattle.channels.proofs.channels.Channel.cancel.Goals as goal
 
@@ -7,7 +7,7 @@ pub invariant_of-self : goal.invariant_of-self
 invariant_of-self c = (
   c.self.invariant.0,
   c.remove_by_tag.ensures.counted _ c.self.invariant.1,
-  subst (AreNumbered c.self.inside.next_number) (sym c.remove_by_tag.ensures.consumers) (numbered_filter c.self.inside.next_number (λ (x : Consumer). not (is_named c.args.tag.now x)) c.self.inside.seats.consumers c.self.invariant.2),
+  subst (AreNumbered c.self.inside.next_number) (sym c.remove_by_tag.ensures.consumers) (numbered_filter c.self.inside.next_number (λ (x : Consumer). not (is_named c.args.tag.now x)) c.self.inside.consumers.consumers c.self.invariant.2),
   c.self.invariant.3,
 )
 
@@ -23,10 +23,10 @@ returns-clause-seen c names =
         next_name = i.next_name;
         each_limit = i.each_limit;
         limit = i.limit;
-        consumers = i.seats.consumers;
+        consumers = i.consumers.consumers;
         outstanding = i.pending.outstanding;
         room = i.pending.room;
-        seats = i.seats.room;
+        consumer_room = i.consumers.room;
       };
     } in
     rw (← c.self.view_is) (named_out names c.args.tag.now old c.remove_by_tag.new.self.consumers c.remove_by_tag.new.self.room c.remove_by_tag.ensures.consumers)

@@ -8,7 +8,7 @@ count_in-requires-clause-each c =
     let l = c.push.ensures.bounded in
     let n = ap length c.push.ensures.outstanding in
     let few : length c.self.inside.pending.outstanding < 18446744073709551615 = omega (arith, length-append {A = Delivery}) in
-    subst (λ (ns : List ℕ). All (λ k. k < 18446744073709551615) ns) (sym c.self.invariant.1.each) (counts_small 18446744073709551615 c.self.inside.seats.consumers c.self.inside.pending.outstanding few)
+    subst (λ (ns : List ℕ). All (λ k. k < 18446744073709551615) ns) (sym c.self.invariant.1.each) (counts_small 18446744073709551615 c.self.inside.consumers.consumers c.self.inside.pending.outstanding few)
 
 pub invariant_of-self : goal.invariant_of-self
 invariant_of-self c =

@@ -1,5 +1,5 @@
 use Rattle.channels.proofs.Imports.{◌∙◌, sym, subst, Text, JudgesNamed}
-use Rattle.channels.proofs.Seating.{named_judged, unnamed_judged}
+use Rattle.channels.proofs.Making.{named_judged, unnamed_judged}
 use Rattle.channels.proofs.channels.Channel.refusal.Goals as goal
 
 pub returns-then-len-eq0 : goal.returns-then-len-eq0

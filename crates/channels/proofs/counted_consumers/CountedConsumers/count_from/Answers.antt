@@ -5,4 +5,4 @@ use Rattle.channels.proofs.counted_consumers.CountedConsumers.count_from.Goals a
 
 pub returns : goal.returns
 returns c = subst (λ (s : ConsumerCounts). c.count_from.result ≡ count_by (takes_from c.args.queue) s.consumers) c.self.view_is
-    (c.count_from.ensures ∙ ap (λ (ss : List CountedConsumer). count_by (λ (s : CountedConsumer). takes_from c.args.queue s.consumer) ss) c.deref.ensures.value ∙ counted_of (takes_from c.args.queue) c.self.inside.seats.items)
+    (c.count_from.ensures ∙ ap (λ (ss : List CountedConsumer). count_by (λ (s : CountedConsumer). takes_from c.args.queue s.consumer) ss) c.deref.ensures.value ∙ counted_of (takes_from c.args.queue) c.self.inside.consumers.items)

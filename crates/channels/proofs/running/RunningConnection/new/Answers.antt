@@ -13,5 +13,5 @@ invariant_of-result c =
     let len = channels.ok.0 in
     omega (arith, places, fits, len)
 
-pub returns-clause-places : goal.returns-clause-places
-returns-clause-places c = opened_len c.in_ok-open_channels.field-0.items c.args.channels (c.in_ok-open_channels.ensures [])
+pub returns-clause-slots : goal.returns-clause-slots
+returns-clause-slots c = opened_len c.in_ok-open_channels.field-0.items c.args.channels (c.in_ok-open_channels.ensures [])

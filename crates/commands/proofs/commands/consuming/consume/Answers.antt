@@ -1,7 +1,7 @@
-use Rattle.commands.proofs.Names.{◌≡◌, ◌<◌, ◌∙◌, None, sym, subst, err_from_is_err_and, Text, Topology, queue_names, Performs, refusal_of_consume, BasicConsume, IsQueuePlace, refusal_seen, seen, state_of}
+use Rattle.commands.proofs.Names.{◌≡◌, ◌<◌, ◌∙◌, None, sym, subst, err_from_is_err_and, Text, Topology, queue_names, Performs, refusal_of_consume, BasicConsume, IsQueueIndex, refusal_seen, seen, state_of}
 use Rattle.std.proofs.Common.{Some, length}
-use Rattle.commands.proofs.Placing.{placed_seated}
-use Rattle.commands.proofs.Consuming.{consumed, seat_free, tag_short, unseated}
+use Rattle.commands.proofs.Placing.{placed_made}
+use Rattle.commands.proofs.Consuming.{consumed, none_against, tag_short, not_made}
 use Rattle.commands.proofs.commands.consuming.consume.Goals as goal
 
 pub returns-in_err-place-clause-commands : goal.returns-in_err-place-clause-commands
@@ -29,13 +29,13 @@ returns-in_err-tag-clause-commands c = λ content old new turns.
     let free : refusal_of_consume s.topology ch m ≡ None = sym (subst (λ (t : Topology). None ≡ refusal_of_consume t ch m) c.topology.ensures (c.in_ok-place.ensures.refusal names)) in
     let p = err_from_is_err_and c.from_residual-in_err-tag.result c.from_residual-in_err-tag.ensures.1 in
     rw (p.1, p.2)
-    (unseated s.topology names c.args.channel.now c.consume.new.self m c.in_ok-place.place c.in_err-tag.field-0.0 (λ x. Performs s.topology (state_of s old) c.args.id.connection c.args.id.number ch (BasicConsume m) content x.sends.items x.notes.items (state_of s new)) free c.in_err-tag.ensures)
+    (not_made s.topology names c.args.channel.now c.consume.new.self m c.in_ok-place.place c.in_err-tag.field-0.0 (λ x. Performs s.topology (state_of s old) c.args.id.connection c.args.id.number ch (BasicConsume m) content x.sends.items x.notes.items (state_of s new)) free c.in_err-tag.ensures)
 
 pub returns-clause-commands : goal.returns-clause-commands
 returns-clause-commands c = λ content old new turns.
     let s = c.args.depot.now in
     let names = queue_names s.topology.queues in
-    let at : IsQueuePlace s.topology c.args.consume.now.queue c.in_ok-place.place = subst (λ (t : Topology). IsQueuePlace t c.args.consume.now.queue c.in_ok-place.place) c.topology.ensures c.in_ok-place.ensures.place in
+    let at : IsQueueIndex s.topology c.args.consume.now.queue c.in_ok-place.place = subst (λ (t : Topology). IsQueueIndex t c.args.consume.now.queue c.in_ok-place.place) c.topology.ensures c.in_ok-place.ensures.index in
     let free : refusal_of_consume s.topology (seen s c.args.channel.now) c.args.consume.now ≡ None =
     sym (subst (λ (t : Topology). None ≡ refusal_of_consume t (seen s c.args.channel.now) c.args.consume.now) c.topology.ensures (c.in_ok-place.ensures.refusal names)) in (
       free,
@@ -50,10 +50,10 @@ returns-clause-addressed c = λ said.
     let free : refusal_of_consume s.topology (seen s c.args.channel.now) c.args.consume.now ≡ None =
     sym (subst (λ (t : Topology). None ≡ refusal_of_consume t (seen s c.args.channel.now) c.args.consume.now) c.topology.ensures (c.in_ok-place.ensures.refusal names)) in
     c.answer_consume.ensures.addressed
-    (subst (λ (tag : Text). length tag < 256) (sym (c.in_ok-tag.ensures.named names)) (tag_short (seen s c.args.channel.now) c.args.consume.now (seat_free s.topology (seen s c.args.channel.now) c.args.consume.now free) said.1.1.0))
+    (subst (λ (tag : Text). length tag < 256) (sym (c.in_ok-tag.ensures.named names)) (tag_short (seen s c.args.channel.now) c.args.consume.now (none_against s.topology (seen s c.args.channel.now) c.args.consume.now free) said.1.1.0))
 
 pub returns-clause-placed : goal.returns-clause-placed
 returns-clause-placed c =
     let t = c.args.depot.now.topology in
-    let at : IsQueuePlace t c.args.consume.now.queue c.in_ok-place.place = subst (λ (x : Topology). IsQueuePlace x c.args.consume.now.queue c.in_ok-place.place) c.topology.ensures c.in_ok-place.ensures.place in
-    placed_seated t c.args.channel.now c.consume.new.self c.in_ok-place.place c.args.consume.now c.in_ok-tag.tag at.within c.in_ok-tag.ensures c.requires
+    let at : IsQueueIndex t c.args.consume.now.queue c.in_ok-place.place = subst (λ (x : Topology). IsQueueIndex x c.args.consume.now.queue c.in_ok-place.place) c.topology.ensures c.in_ok-place.ensures.index in
+    placed_made t c.args.channel.now c.consume.new.self c.in_ok-place.place c.args.consume.now c.in_ok-tag.tag at.within c.in_ok-tag.ensures c.requires

@@ -1,4 +1,4 @@
-use Rattle.commands.proofs.Names.{◌≡◌, ◌-◌, ◌∙◌, ◌∷◌, ◌++◌, [], ℕ, List, None, ap, sym, subst, option_map, err_from_is_err_and, Text, Topology, queue_names, first_ready, ready_in, delivery_notes, Send, Note, AreAddressed, refusal_in, Entry, queue_name, entries_named, IsQueuePlace, seen, state_of}
+use Rattle.commands.proofs.Names.{◌≡◌, ◌-◌, ◌∙◌, ◌∷◌, ◌++◌, [], ℕ, List, None, ap, sym, subst, option_map, err_from_is_err_and, Text, Topology, queue_names, first_ready, ready_in, delivery_notes, Send, Note, AreAddressed, refusal_in, Entry, queue_name, entries_named, IsQueueIndex, seen, state_of}
 use Rattle.std.proofs.Common.{Some}
 use Rattle.commands.proofs.Getting.{gotten, first_carried, first_named, there}
 use Rattle.commands.proofs.commands.getting.get.Goals as goal
@@ -8,7 +8,7 @@ returns-in_err-check_tag-clause-commands c = λ content old new turns.
     let s = c.args.depot.now in
     let asked = c.args.get.now in
     let e : Entry = c.in-Some.entry.now in
-    let at : IsQueuePlace s.topology asked.queue c.in_ok-place.place = subst (λ (t : Topology). IsQueuePlace t asked.queue c.in_ok-place.place) c.topology.ensures c.in_ok-place.ensures.place in
+    let at : IsQueueIndex s.topology asked.queue c.in_ok-place.place = subst (λ (t : Topology). IsQueueIndex t asked.queue c.in_ok-place.place) c.topology.ensures c.in_ok-place.ensures.index in
     let is : None ≡ refusal_in s.topology asked.queue = c.in_ok-place.ensures.refusal ∙ ap (λ (t : Topology). refusal_in t asked.queue) c.topology.ensures in
     let found : first_ready (entries_named s asked.queue) ≡ Some e = first_named s c.in_ok-place.place asked.queue (Some e) at c.ghost_is_named.ensures (sym (ap (option_map (λ e. e.now)) c.in-Some.is) ∙ c.first_ready_at.ensures) in
     let p = err_from_is_err_and c.from_residual-in_err-check_tag.result c.from_residual-in_err-check_tag.ensures.1 in
@@ -21,7 +21,7 @@ returns-clause-commands c = λ content old new turns.
     let asked = c.args.get.now in
     let e : Entry = c.in-Some.entry.now in
     let q : Text = queue_name s.topology c.in_ok-place.place in
-    let at : IsQueuePlace s.topology asked.queue c.in_ok-place.place = subst (λ (t : Topology). IsQueuePlace t asked.queue c.in_ok-place.place) c.topology.ensures c.in_ok-place.ensures.place in
+    let at : IsQueueIndex s.topology asked.queue c.in_ok-place.place = subst (λ (t : Topology). IsQueueIndex t asked.queue c.in_ok-place.place) c.topology.ensures c.in_ok-place.ensures.index in
     let is : None ≡ refusal_in s.topology asked.queue = c.in_ok-place.ensures.refusal ∙ ap (λ (t : Topology). refusal_in t asked.queue) c.topology.ensures in
     let first : Some e ≡ option_map (λ e. e.now) c.first_ready_at.result = sym (ap (option_map (λ e. e.now)) c.in-Some.is) in
     let found : first_ready (entries_named s asked.queue) ≡ Some e = first_named s c.in_ok-place.place asked.queue (Some e) at c.ghost_is_named.ensures (first ∙ c.first_ready_at.ensures) in

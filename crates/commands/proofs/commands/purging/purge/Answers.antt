@@ -1,4 +1,4 @@
-use Rattle.commands.proofs.Names.{◌≡◌, ◌∙◌, ap, sym, subst, ℕ, None, Text, Topology, ready_in, purge_sends, refusal_in, Entry, entries_named, queue_at, IsPurgedBy, IsQueuePlace, List}
+use Rattle.commands.proofs.Names.{◌≡◌, ◌∙◌, ap, sym, subst, ℕ, None, Text, Topology, ready_in, purge_sends, refusal_in, Entry, entries_named, queue_at, IsPurgedBy, IsQueueIndex, List}
 use Rattle.commands.proofs.Purging.{purged_is}
 use Rattle.commands.proofs.commands.purging.purge.Goals as goal
 
@@ -7,7 +7,7 @@ returns-clause-commands c =
     let s = c.args.depot.now in
     let asked = c.args.purge.now in
     let place = c.in_ok-place.place in
-    let at : IsQueuePlace s.topology asked.queue place = subst (λ (t : Topology). IsQueuePlace t asked.queue place) c.topology.ensures c.in_ok-place.ensures.place in
+    let at : IsQueueIndex s.topology asked.queue place = subst (λ (t : Topology). IsQueueIndex t asked.queue place) c.topology.ensures c.in_ok-place.ensures.index in
     let none : refusal_in s.topology asked.queue ≡ None = subst (λ (t : Topology). refusal_in t asked.queue ≡ None) c.topology.ensures (sym c.in_ok-place.ensures.refusal) in
     let here : queue_at s place ≡ entries_named s asked.queue = sym c.ghost_is_named.ensures.entries_are ∙ ap (entries_named s) at.named in
     let count : c.ready_at-count.result ≡ ready_in (entries_named s asked.queue) = c.ready_at-count.ensures ∙ ap (λ (es : List Entry). ready_in es) here in

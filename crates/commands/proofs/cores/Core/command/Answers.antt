@@ -1,8 +1,8 @@
-use Rattle.commands.proofs.Names.{◌≡◌, sym, subst, Result, Ok, Stop, AnswersOn, IsNotPerformed, UnlessPerformed, Done, Performed, Acted, TellsEnd, TellsStayOn, broker_of}
+use Rattle.commands.proofs.Names.{◌≡◌, sym, subst, Result, Ok, Stop, AnswersOn, IsNotPerformed, UnlessPerformed, Done, Performed, Acted, ReportsEnd, ReportsConsumersOn, broker_of}
 use Rattle.std.proofs.Common.{Some}
 use Rattle.commands.specs.declared.commands.Done.TheVariants.{Left}
 use Rattle.commands.proofs.Ending.{leaving_runs}
-use Rattle.commands.proofs.Remaining.{performed_tells}
+use Rattle.commands.proofs.Remaining.{performed_reports}
 use Rattle.commands.proofs.Commanding.{left_can, left_done, left_own}
 use Rattle.commands.proofs.cores.Core.command.Goals as goal
 
@@ -30,13 +30,13 @@ returns-in-Some-Ok-Left-clause-addressed c =
 -- what it ends is told
 pub returns-in-Some-Ok-Performed-clause-ended : goal.returns-in-Some-Ok-Performed-clause-ended
 returns-in-Some-Ok-Performed-clause-ended c =
-    subst (λ (a : Acted). TellsEnd c.args.id.connection a.ends (broker_of c.args.self.now) (broker_of c.decide.new.self)) (sym c.leaving.ensures)
+    subst (λ (a : Acted). ReportsEnd c.args.id.connection a.ends (broker_of c.args.self.now) (broker_of c.decide.new.self)) (sym c.leaving.ensures)
     (leaving_runs c.args.id.connection (broker_of c.args.self.now) (broker_of c.decide.new.self) c.cancels-cancels.result c.decide.ensures.running)
 
 pub returns-in-Some-Ok-Performed-clause-stay : goal.returns-in-Some-Ok-Performed-clause-stay
 returns-in-Some-Ok-Performed-clause-stay c =
     let is : c.in-Some-Ok-Performed.field-0 ≡ Ok (Performed c.in-Some-Ok-Performed.step) = cc (c.in-Some-Ok-Performed.field-0-is, c.in-Some-Ok-Performed.field-0-0-is) in
     let answers = subst (λ (r : Result Done Stop). AnswersOn c.args.self.now c.args.id.connection c.args.id.number c.args.method.now c.args.content.now (Some r) c.decide.new.self) is c.in-Some-Ok-Performed.ensures.answers in
-    subst (λ (a : Acted). TellsStayOn c.args.id.connection c.args.id.number a.ends (broker_of c.args.self.now) (broker_of c.decide.new.self)) (sym c.leaving.ensures)
-    (performed_tells c.args.self.now c.decide.new.self c.args.id.connection c.args.id.number c.args.method.now c.args.content.now c.in-Some-Ok-Performed.step c.cancels-cancels.result
+    subst (λ (a : Acted). ReportsConsumersOn c.args.id.connection c.args.id.number a.ends (broker_of c.args.self.now) (broker_of c.decide.new.self)) (sym c.leaving.ensures)
+    (performed_reports c.args.self.now c.decide.new.self c.args.id.connection c.args.id.number c.args.method.now c.args.content.now c.in-Some-Ok-Performed.step c.cancels-cancels.result
     (λ opens. subst (λ (r : Result Done Stop). IsNotPerformed r) is (c.in-Some-Ok-Performed.ensures.elsewhere opens)) c.cancels-cancels.ensures answers)

@@ -3,7 +3,7 @@ use Rattle.std.proofs.Common.{Ok, Err}
 use Rattle.commands.specs.State.{topology_kept, broker_of}
 use Rattle.engine.proofs.Asked.{on_err}
 use Rattle.engine.proofs.Delivered.{picked_there, picked_engine, picked_none, pumped_at}
-use Rattle.engine.proofs.Waiting.{tells_one, serves_one}
+use Rattle.engine.proofs.Waiting.{picks_one, serves_one}
 use Rattle.engine.proofs.engines.Engine.pump.Goals as goal
 
 pub known_index-place-requires-clause-there : goal.known_index-place-requires-clause-there
@@ -23,7 +23,7 @@ invariant_of-self-in_err-notes c =
     let i = c.self.inside in
     let old : Parts = record { broker = i.broker; guarantees = i.guarantees.items; users = i.users.items; given = i.given; connections = i.connections.items } in
     (pumped_at c.pump_connection.result (λ v. v.items) old c.pick.new.self c.pump_connection.new.broker c.in-Some.pick c.known_index-place.result c.index_mut.result.now c.pump_connection.new.connection
-    c.self.invariant c.in-Some.ensures.kept c.pump_connection.ensures.topology c.in-Some.ensures.some.0 (rw (← c.deref.ensures.value) c.known_index-place.ensures.place) (sym c.index_mut.ensures.value)
+    c.self.invariant c.in-Some.ensures.kept c.pump_connection.ensures.topology c.in-Some.ensures.some.0 (rw (← c.deref.ensures.value) c.known_index-place.ensures.index) (sym c.index_mut.ensures.value)
     c.pump_connection.ensures.rest c.pump_connection.ensures.ok c.pump_connection.ensures.broker_kept c.pump_connection.ensures.output_kept).engine
 
 pub invariant_of-self-2 : goal.invariant_of-self-2
@@ -31,7 +31,7 @@ invariant_of-self-2 c =
     let i = c.self.inside in
     let old : Parts = record { broker = i.broker; guarantees = i.guarantees.items; users = i.users.items; given = i.given; connections = i.connections.items } in
     (pumped_at c.pump_connection.result (λ v. v.items) old c.pick.new.self c.pump_connection.new.broker c.in-Some.pick c.known_index-place.result c.index_mut.result.now c.pump_connection.new.connection
-    c.self.invariant c.in-Some.ensures.kept c.pump_connection.ensures.topology c.in-Some.ensures.some.0 (rw (← c.deref.ensures.value) c.known_index-place.ensures.place) (sym c.index_mut.ensures.value)
+    c.self.invariant c.in-Some.ensures.kept c.pump_connection.ensures.topology c.in-Some.ensures.some.0 (rw (← c.deref.ensures.value) c.known_index-place.ensures.index) (sym c.index_mut.ensures.value)
     c.pump_connection.ensures.rest c.pump_connection.ensures.ok c.pump_connection.ensures.broker_kept c.pump_connection.ensures.output_kept).engine
 
 pub returns-in_err-notes-clause-err : goal.returns-in_err-notes-clause-err
@@ -39,7 +39,7 @@ returns-in_err-notes-clause-err c =
     let i = c.self.inside in
     let old : Parts = record { broker = i.broker; guarantees = i.guarantees.items; users = i.users.items; given = i.given; connections = i.connections.items } in
     let did = pumped_at {E = Unit {0}} (Err tt) (λ (v : List Note). v) old c.pick.new.self c.pump_connection.new.broker c.in-Some.pick c.known_index-place.result c.index_mut.result.now c.pump_connection.new.connection
-    c.self.invariant c.in-Some.ensures.kept c.pump_connection.ensures.topology c.in-Some.ensures.some.0 (rw (← c.deref.ensures.value) c.known_index-place.ensures.place) (sym c.index_mut.ensures.value)
+    c.self.invariant c.in-Some.ensures.kept c.pump_connection.ensures.topology c.in-Some.ensures.some.0 (rw (← c.deref.ensures.value) c.known_index-place.ensures.index) (sym c.index_mut.ensures.value)
     c.pump_connection.ensures.rest tt c.in_err-notes.ensures.broker_kept c.in_err-notes.ensures.output_kept in
     on_err c.from_residual.result _ (subst (λ (p : Parts). Same (world_of p) (world_of (record old { broker = c.pump_connection.new.broker; connections = set i.connections.items c.known_index-place.result c.pump_connection.new.connection }))) c.self.view_is did.err)
 
@@ -48,11 +48,11 @@ returns-in_err-notes-clause-wanted c =
     let i = c.self.inside in
     on_err c.from_residual.result _ (subst (λ (p : Parts). (d : ℕ) × CanDeliver (world_of p).state.broker d) c.self.view_is (c.in-Some.pick.connection, c.in-Some.ensures.some.0))
 
-pub returns-in_err-notes-clause-reported : goal.returns-in_err-notes-clause-reported
-returns-in_err-notes-clause-reported c =
+pub returns-in_err-notes-clause-picked : goal.returns-in_err-notes-clause-picked
+returns-in_err-notes-clause-picked c =
     on_err c.from_residual.result _ (subst (λ (p : Parts). PicksOne p.broker c.pump_connection.new.broker) c.self.view_is
     (subst (λ (b : WithTurn). PicksOne c.self.inside.broker b) (sym c.in_err-notes.ensures.broker_kept)
-    (tells_one c.self.inside.broker c.pick.new.self c.in-Some.pick c.in-Some.ensures.kept c.in-Some.ensures.in_turn c.in-Some.ensures.turn c.in-Some.ensures.again)))
+    (picks_one c.self.inside.broker c.pick.new.self c.in-Some.pick c.in-Some.ensures.kept c.in-Some.ensures.in_turn c.in-Some.ensures.turn c.in-Some.ensures.again)))
 
 pub returns-clause-ok : goal.returns-clause-ok
 returns-clause-ok c =
@@ -60,7 +60,7 @@ returns-clause-ok c =
     let old : Parts = record { broker = i.broker; guarantees = i.guarantees.items; users = i.users.items; given = i.given; connections = i.connections.items } in
     let notes = c.in_ok-notes.notes.items in
     let did = pumped_at {E = Unit {0}} (Ok notes) (λ (v : List Note). v) old c.pick.new.self c.pump_connection.new.broker c.in-Some.pick c.known_index-place.result c.index_mut.result.now c.pump_connection.new.connection
-    c.self.invariant c.in-Some.ensures.kept c.pump_connection.ensures.topology c.in-Some.ensures.some.0 (rw (← c.deref.ensures.value) c.known_index-place.ensures.place) (sym c.index_mut.ensures.value)
+    c.self.invariant c.in-Some.ensures.kept c.pump_connection.ensures.topology c.in-Some.ensures.some.0 (rw (← c.deref.ensures.value) c.known_index-place.ensures.index) (sym c.index_mut.ensures.value)
     c.pump_connection.ensures.rest c.in_ok-notes.ensures.ok tt tt in
     subst (λ (p : Parts). IsPump (world_of p) c.in-Some.pick.connection notes (world_of (record old { broker = c.pump_connection.new.broker; connections = set i.connections.items c.known_index-place.result c.pump_connection.new.connection }))) c.self.view_is did.ok.pump
 
@@ -71,7 +71,7 @@ returns-clause-in_turn c =
     let now : Parts = record old { broker = c.pump_connection.new.broker; connections = set i.connections.items c.known_index-place.result c.pump_connection.new.connection } in
     let notes = c.in_ok-notes.notes.items in
     let did = pumped_at {E = Unit {0}} (Ok notes) (λ (v : List Note). v) old c.pick.new.self c.pump_connection.new.broker c.in-Some.pick c.known_index-place.result c.index_mut.result.now c.pump_connection.new.connection
-    c.self.invariant c.in-Some.ensures.kept c.pump_connection.ensures.topology c.in-Some.ensures.some.0 (rw (← c.deref.ensures.value) c.known_index-place.ensures.place) (sym c.index_mut.ensures.value)
+    c.self.invariant c.in-Some.ensures.kept c.pump_connection.ensures.topology c.in-Some.ensures.some.0 (rw (← c.deref.ensures.value) c.known_index-place.ensures.index) (sym c.index_mut.ensures.value)
     c.pump_connection.ensures.rest c.in_ok-notes.ensures.ok tt tt in
     subst (λ (p : Parts). ServesOne p c.in-Some.pick.connection notes now) c.self.view_is
     (serves_one old c.pick.new.self now c.in-Some.pick notes c.in-Some.ensures.kept c.in-Some.ensures.in_turn c.in-Some.ensures.turn c.in-Some.ensures.again did.ok

@@ -1,4 +1,4 @@
-use Rattle.engine.proofs.Names.{refl, sym, subst, Some, Parts, IsConnectionPlace, KeepsTurns}
+use Rattle.engine.proofs.Names.{refl, sym, subst, Some, Parts, IsConnectionIndex, KeepsTurns}
 use Rattle.broker.specs.Turns.{topology_kept, broker_of}
 use Rattle.engine.proofs.Swept.{connections_sent}
 use Rattle.engine.proofs.Tooks.{sends, sends_engine}
@@ -9,7 +9,7 @@ pub invariant_of-self : goal.invariant_of-self
 invariant_of-self c =
     let i = c.self.inside in
     let l = c.index_mut.result.now in
-    let place : IsConnectionPlace i.connections.items c.args.c (Some c.in-Some.place) = rw (← c.deref.ensures.value) c.in-Some.ensures.place in
+    let place : IsConnectionIndex i.connections.items c.args.c (Some c.in-Some.place) = rw (← c.deref.ensures.value) c.in-Some.ensures.index in
     sends_engine (record { broker = i.broker; guarantees = i.guarantees.items; users = i.users.items; given = i.given; connections = i.connections.items }) _ c.in-Some.place c.args.n c.self.invariant
     (record { topology = c.take_from.ensures.topology; guarantees = refl; users = refl; given = refl })
     (connections_sent (topology_kept i.broker) (broker_of i.broker) i.connections.items c.in-Some.place c.args.n l c.take_from.new.connection (broker_of c.take_from.new.broker) c.sweep.new.connections.items place.0 (sym c.index_mut.ensures.value) c.sweep.ensures c.take_from.ensures.sent)
@@ -19,7 +19,7 @@ returns-clause-taken c =
     let i = c.self.inside in
     let l = c.index_mut.result.now in
     let old : Parts = record { broker = i.broker; guarantees = i.guarantees.items; users = i.users.items; given = i.given; connections = i.connections.items } in
-    let place : IsConnectionPlace i.connections.items c.args.c (Some c.in-Some.place) = rw (← c.deref.ensures.value) c.in-Some.ensures.place in
+    let place : IsConnectionIndex i.connections.items c.args.c (Some c.in-Some.place) = rw (← c.deref.ensures.value) c.in-Some.ensures.index in
     let new : Parts = record { broker = c.take_from.new.broker; guarantees = i.guarantees.items; users = i.users.items; given = i.given; connections = c.sweep.new.connections.items } in
     rw (← c.self.view_is) (sends old new c.args.c c.in-Some.place c.args.n c.self.invariant (record { topology = c.take_from.ensures.topology; guarantees = refl; users = refl; given = refl }) place
     (connections_sent (topology_kept i.broker) (broker_of i.broker) i.connections.items c.in-Some.place c.args.n l c.take_from.new.connection (broker_of c.take_from.new.broker) c.sweep.new.connections.items place.0 (sym c.index_mut.ensures.value) c.sweep.ensures c.take_from.ensures.sent))

@@ -1,10 +1,10 @@
-use Rattle.state_routes.proofs.Names.{◌≡◌, ◌∙◌, List, [], ◌∷◌, ◌++◌, sym, ap, subst, false≢true, Text, IsIn, Tracked, once_more, same_tracked, AreKeysOf, texts_by, with_text}
+use Rattle.state_routes.proofs.Names.{◌≡◌, ◌∙◌, List, [], ◌∷◌, ◌++◌, sym, ap, subst, false≢true, Text, IsIn, Tracked, appended_if_new, same_tracked, AreKeysOf, texts_by, with_text}
 use Rattle.state_routes.proofs.Keying.{grows, one_known, pattern, stays}
 use Rattle.state_routes.proofs.patterns.Patterns.add.Goals as goal
 
 pub returns-then-has : goal.returns-then-has
 returns-then-has c =
-    subst (λ (z : List Tracked). z ≡ once_more same_tracked z (pattern c.args.kind c.args.text.now)) c.self.view_is
+    subst (λ (z : List Tracked). z ≡ appended_if_new same_tracked z (pattern c.args.kind c.args.text.now)) c.self.view_is
     (stays c.self.inside.keys c.self.inside.list.items c.args.kind c.args.text.now c.self.invariant (subst (λ (z : Text). IsIn z (texts_by c.self.inside.keys c.args.kind)) c.as_bytes.ensures (c.has.ensures.0 c.if-has.true)))
 
 pub invariant_of-self : goal.invariant_of-self
@@ -29,4 +29,4 @@ returns c =
     ∙ ap (λ (z : Tracked). c.self.inside.list.items ++ z ∷ []) (c.in_ok-pattern.ensures ∙ ap (pattern c.args.kind) c.in_ok-clone.ensures)
     ∙ grows c.self.inside.keys c.self.inside.list.items c.args.kind c.args.text.now c.self.invariant
     (λ i. false≢true (sym c.if-has.false ∙ c.has.ensures.1 (subst (λ (z : Text). IsIn z (texts_by c.self.inside.keys c.args.kind)) (sym c.as_bytes.ensures) i)))
-    ∙ ap (λ (z : List Tracked). once_more same_tracked z (pattern c.args.kind c.args.text.now)) c.self.view_is
+    ∙ ap (λ (z : List Tracked). appended_if_new same_tracked z (pattern c.args.kind c.args.text.now)) c.self.view_is

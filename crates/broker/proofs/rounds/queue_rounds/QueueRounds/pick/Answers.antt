@@ -17,12 +17,12 @@ pub returns-clause-passed : goal.returns-clause-passed
 returns-clause-passed c =
     subst (λ (xs : List Waiters). IfSome c.first_from.result (λ f. NonePassed c.args.core.now (rounds_of xs c.args.sleepers.now.entries) c.args.next f.queue)) (c.deref_mut.ensures.value ∙ c.self.view_is) c.first_from.ensures.passed
 
-pub returns-clause-reported : goal.returns-clause-reported
-returns-clause-reported c =
+pub returns-clause-picked : goal.returns-clause-picked
+returns-clause-picked c =
     subst (λ (xs : List Waiters). IfSome c.first_from.result (λ f. PicksFrom c.args.core.now c.args.sleepers.now.entries c.args.self.now xs f.queue f.pick))
     (sym (take_at c.first_from.new.rounds _ c.self.inside.rounds.len (c.first_from.auto.rounds ∙ c.deref_mut.ensures.len)))
     (subst (λ (xs : List Waiters). IfSome c.first_from.result (λ f. PicksFrom c.args.core.now c.args.sleepers.now.entries xs c.first_from.new.rounds f.queue f.pick)) (c.deref_mut.ensures.value ∙ c.self.view_is)
-    c.first_from.ensures.reported)
+    c.first_from.ensures.picked)
 
 pub returns-clause-same : goal.returns-clause-same
 returns-clause-same c = λ e.

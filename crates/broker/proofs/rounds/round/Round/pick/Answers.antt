@@ -31,8 +31,8 @@ returns-in-None-clause-none c = λ e.
     let was = ap (λ (xs : List Waiter). record { waiters = xs; marks = c.self.inside.awake; next = c.self.inside.next; capacity = vec_capacity c.self.inside.waiters }) c.deref_mut.ensures.value ∙ c.self.view_is in
     none_in_round c.args.core.now c.args.sleepers.now.entries c.args.queue c.args.self.now (subst (λ (r : Waiters). NoneAwake c.args.core.now c.args.queue r 0 (length r.waiters)) was (c.in-None.ensures.none refl))
 
-pub returns-in-Some-clause-reported : goal.returns-in-Some-clause-reported
-returns-in-Some-clause-reported c =
+pub returns-in-Some-clause-picked : goal.returns-in-Some-clause-picked
+returns-in-Some-clause-picked c =
     let one = c.index.result.now in
     let place = c.in-Some.place in
     let was = ap (λ (xs : List Waiter). record { waiters = xs; marks = c.self.inside.awake; next = c.self.inside.next; capacity = vec_capacity c.self.inside.waiters }) c.deref_mut.ensures.value ∙ c.self.view_is in
@@ -47,15 +47,15 @@ returns-in-Some-clause-reported c =
       next = place + 1;
       capacity = 0;
     } in
-    let reported = sym (picks_at c.args.self.now.waiters place one) ∙ sym (ap (λ (ps : List Pick). get_or ps place one.pick) same) ∙ picks_at new.waiters place one ∙ ap (λ (s : Waiter). s.pick) (sym c.index.ensures) in
+    let picked = sym (picks_at c.args.self.now.waiters place one) ∙ sym (ap (λ (ps : List Pick). get_or ps place one.pick) same) ∙ picks_at new.waiters place one ∙ ap (λ (s : Waiter). s.pick) (sym c.index.ensures) in
     let goes : GoesLast c.args.core.now c.args.sleepers.now.entries c.args.queue c.args.self.now new (get_or c.args.self.now.waiters place one).pick =
     goes_last c.args.core.now c.args.sleepers.now.entries c.args.queue c.args.self.now new place one (omega (arith, within, long, size)) (subst (λ (r : Waiters). AllDistinct (picks r.waiters)) c.self.view_is c.self.invariant.1) same refl
     (subst (λ (r : Waiters). NoneAwakePassed c.args.core.now c.args.queue r r.next place) was c.in-Some.ensures.passed) in
     record {
       front = goes.front;
       back = goes.back;
-      was = goes.was ∙ ap (λ (p : Pick). goes.front ++ p ∷ goes.back) reported;
-      now = goes.now ∙ ap (λ (p : Pick). goes.back ++ goes.front ++ p ∷ []) reported;
+      was = goes.was ∙ ap (λ (p : Pick). goes.front ++ p ∷ goes.back) picked;
+      now = goes.now ∙ ap (λ (p : Pick). goes.back ++ goes.front ++ p ∷ []) picked;
       passed = goes.passed;
     }
 

@@ -1,7 +1,7 @@
 use Rattle.broker.proofs.Names.{◌∙◌, ◌<◌, List, length, get_or, set, refl, sym, ap, subst, arith, rules, length-set, get_or-set_same, same_default, AllDistinct, Pick, Waiter, Waiters, asleep_waiter, awake_waiter, picks, IsAwake, IsAsleep}
 use Rattle.std.proofs.Common.{◌≡◌}
 use Rattle.broker.proofs.Picks.{picks_set}
-use Rattle.broker.proofs.Sleeping.{roused}
+use Rattle.broker.proofs.Sleeping.{one_woken}
 use Rattle.broker.proofs.rounds.round.Round.wake.Goals as goal
 
 pub returns-in-Some-clause-woken : goal.returns-in-Some-clause-woken
@@ -26,7 +26,7 @@ returns-in-Some-clause-wakens c =
     let place = c.in-Some.place in
     let s = c.index_mut.result.now in
     let lt = subst (λ (ws : List Waiter). place < length ws) c.deref.ensures.value c.in-Some.ensures.within in
-    let w = roused items c.self.inside.awake c.set.new.self place s lt (λ d. same_default items place d s lt ∙ sym c.index_mut.ensures.value) c.set.ensures.set in
+    let w = one_woken items c.self.inside.awake c.set.new.self place s lt (λ d. same_default items place d s lt ∙ sym c.index_mut.ensures.value) c.set.ensures.set in
     record {
       awake = λ p up. w.awake p (subst (λ (r : Waiters). IsAwake r p) (sym c.self.view_is) up);
       asleep = λ p i. w.asleep p (subst (λ (r : Waiters). IsAsleep r p) (sym c.self.view_is) i);

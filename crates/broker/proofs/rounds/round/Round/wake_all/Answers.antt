@@ -1,17 +1,17 @@
 use Rattle.broker.proofs.Names.{◌∙◌, List, length, sym, ap, subst, arith, take_at, Pick, Waiter, turned, AllDistinct, Waiters, round_of, picks, order, IsAwake, HasWaiter}
-use Rattle.broker.proofs.Moving.{all_roused}
+use Rattle.broker.proofs.Moving.{all_are_awake}
 use Rattle.broker.proofs.Picks.{picks_awake}
 use Rattle.broker.proofs.rounds.round.Round.wake_all.Goals as goal
 
-pub returns-clause-roused : goal.returns-clause-roused
-returns-clause-roused c = λ p in_line.
+pub returns-clause-awake : goal.returns-clause-awake
+returns-clause-awake c = λ p in_line.
     let old = c.self.inside.awake in
     let new = c.mark_between.new.marks in
     let waiters = c.deref_mut.result.now in
     let count = c.len.ensures in
     let long = c.deref_mut.ensures.len in
     subst (λ (xs : List Waiter). IsAwake (round_of xs new) p) (sym (take_at c.wake_all_up.new.waiters _ c.self.inside.waiters.len (c.wake_all_up.auto.waiters ∙ long) ∙ c.wake_all_up.ensures))
-    (all_roused waiters old new (λ i lt. c.mark_between.ensures.marked i (omega arith) (omega (arith, lt, count, long))) p
+    (all_are_awake waiters old new (λ i lt. c.mark_between.ensures.marked i (omega arith) (omega (arith, lt, count, long))) p
     (subst (λ (xs : List Waiter). HasWaiter (round_of xs old) p) (sym c.deref_mut.ensures.value) (subst (λ (r : Waiters). HasWaiter r p) (sym c.self.view_is) in_line)))
 
 pub returns-clause-same : goal.returns-clause-same

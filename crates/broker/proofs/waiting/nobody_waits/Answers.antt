@@ -1,5 +1,0 @@
-use Rattle.broker.proofs.Waits.{nobody_waits}
-use Rattle.broker.proofs.waiting.nobody_waits.Goals as goal
-
-pub returns : goal.returns
-returns c = nobody_waits

@@ -1,5 +1,0 @@
-use Rattle.certificate.proofs.Names.{◌≡◌, drop, rises}
-use Rattle.certificate.proofs.places.rises.Given as goal
-
-abbrev pub invariant-loop-at : goal.invariant-loop-at
-invariant-loop-at l = rises (drop l.at l.numbers) ≡ rises l.numbers

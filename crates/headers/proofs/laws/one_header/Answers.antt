@@ -1,5 +1,0 @@
-use Rattle.headers.proofs.Told
-use Rattle.headers.proofs.laws.one_header.Goals as goal
-
-pub returns : goal.returns
-returns c = Told.one_header

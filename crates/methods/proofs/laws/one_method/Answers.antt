@@ -1,5 +1,0 @@
-use Rattle.methods.proofs.Whole
-use Rattle.methods.proofs.laws.one_method.Goals as goal
-
-pub returns : goal.returns
-returns c = Whole.one_method
