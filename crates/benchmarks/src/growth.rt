@@ -1,7 +1,7 @@
 //! Checks that a process doesn't grow while messages and consumers come and go, nor while many messages are rejected at once.
 
 use crate::deliveries::{engine_of, start};
-use crate::rejects::{self, Holder, RejectLoad};
+use crate::rejects;
 use benchmark_parts::loads::consumers::put_consume_and_cancel;
 use benchmark_parts::loads::delivery_loads::beside;
 use benchmark_parts::measuring::{Measured, Shape, Written, built, greatest_bytes, resident_bytes};
@@ -20,14 +20,11 @@ const FIRST: u64 = 10_000;
 /// The number of consumers that are started and cancelled in one read.
 const WINDOW: u64 = 100;
 
-/// The load whose messages are rejected at once: the dead letter of each goes to twenty queues, which may have ten messages each.
-const REJECTED: RejectLoad = rejects::LIMITED;
+/// The number of messages that are rejected at once.
+const REJECTED: u64 = 100_000;
 
-/// The number of queues to which dead letters go.
-const LETTERED: u64 = 20;
-
-/// The number of dead letters that enter all of these queues, by their limits.
-const LETTERS: u64 = 200;
+/// The number of dead letters that come to each of their queues, by its limit.
+const LETTERS: u64 = 10;
 
 /// The number of bytes below which a process counts as not grown: the allocator keeps some for itself.
 const BOUND: u64 = 2_000_000;
@@ -123,64 +120,27 @@ fn consumers(rt: &HostRuntime) -> io::Result<()> {
     print_growth(rt, what, before, resident_bytes(rt)?, consuming.is_whole())
 }
 
-/// An engine of which one client holds all messages.
-#[derive(Drop)]
-struct Held {
-    engine: Measured,
-    holder: Holder,
-}
-
-impl Held {
-    /// Publishes the messages of [`REJECTED`] and delivers them. Returns `None` if an allocation fails, or if some are not delivered.
-    fn new(alloc: Global) -> Option<Held> {
-        let mut engine = rejects::filled(alloc, REJECTED, REJECTED.rejected)?;
-        let holder = rejects::hold(&mut engine, alloc, b"q0", REJECTED.rejected);
-        if holder.held == REJECTED.rejected {
-            Some(Held { engine, holder })
-        } else {
-            None
-        }
-    }
-
-    /// Rejects all messages at once.
-    fn reject(&mut self, alloc: Global) {
-        rejects::reject(&mut self.engine, alloc, self.holder);
-    }
-
-    /// Removes the dead letters from their queues. Returns their number.
-    fn drain(&mut self, alloc: Global) -> u64 {
-        let mut drained: u64 = 0;
-        for number in 0..LETTERED {
-            let mut queue = Written::new(alloc);
-            queue.put_text("f");
-            queue.put_number(number);
-            let holder = rejects::hold(&mut self.engine, alloc, queue.as_slice(), LETTERS);
-            rejects::reject(&mut self.engine, alloc, holder);
-            drained = drained.saturating_add(holder.held);
-        }
-        drained
-    }
-
-    /// Returns whether every allocation succeeded.
-    fn is_whole(&self) -> bool {
-        self.engine.is_whole()
-    }
-}
-
-/// Rejects all messages of a queue at once. Counts the most address space that the process has meanwhile, with what it reserves and gives back.
+/// Rejects all messages of a queue at once. The dead letter of each goes to twenty queues, which may have ten messages each. Counts the most address
+/// space that the process has meanwhile, with what it reserves and gives back.
 fn rejection(rt: &HostRuntime) -> io::Result<()> {
-    let what = "a rejection of 300,000 messages";
-    let Some(mut held) = Held::new(rt.alloc()) else {
-        return println!(rt; "{what}: they are not held");
+    let what = "a rejection of 100,000 messages";
+    let load = rejects::LIMITED.with_messages(REJECTED);
+    let Some(mut engine) = rejects::filled(rt.alloc(), load, REJECTED) else {
+        return println!(rt; "{what}: there is no engine");
     };
+    let holder = rejects::hold(&mut engine, rt.alloc(), b"q0", REJECTED);
     let before = greatest_bytes(rt)?;
-    held.reject(rt.alloc());
+    rejects::reject(&mut engine, rt.alloc(), holder);
     let after = greatest_bytes(rt)?;
-    let letters = held.drain(rt.alloc());
-    if letters != LETTERS {
-        return println!(rt; "{what}: {letters} dead letters");
+    let is_whole = engine.is_whole();
+    let letters = rejects::hold(&mut engine, rt.alloc(), b"f19", REJECTED).held;
+    if holder.held != REJECTED || letters != LETTERS {
+        return println!(rt;
+            "{what}: {} were rejected, and {letters} came to the last queue",
+            holder.held
+        );
     }
-    print_growth(rt, what, before, after, held.is_whole())
+    print_growth(rt, what, before, after, is_whole)
 }
 
 /// Checks messages, consumers and a rejection.

@@ -28,12 +28,18 @@ const BODY: usize = 12;
 pub struct RejectLoad {
     name: &'static str,
     properties: &'static [u8],
-    /// The number of messages that are rejected.
-    pub rejected: u64,
+    rejected: u64,
     /// The number of queues to which each dead letter goes.
     targets: u32,
     /// The number of messages that each of these queues may have, or `None` if it has no limit.
     limit: Option<u32>,
+}
+
+impl RejectLoad {
+    /// Returns the same load with `rejected` messages.
+    pub fn with_messages(self, rejected: u64) -> RejectLoad {
+        RejectLoad { rejected, ..self }
+    }
 }
 
 /// A load whose dead letters go to many queues, which refuse nearly all of them.
