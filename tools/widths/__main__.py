@@ -12,13 +12,9 @@ MOST = 160
 # A clause of a contract, by the beginning of its first line. A list of imports or of a view's fields is none: its lines have an item each.
 CLAUSE = re.compile(r"\s*(requires|ensures|ghost invariant)\b.*\{")
 
-# How many such clauses a crate may have still. No crate is added, and no number raised.
-STILL = {
-    "assembly": 7, "callers": 1, "certificate": 2, "commands": 32, "depot": 1,
-    "engine": 13, "exchange_graph": 1, "field_table": 4, "guarantee_search": 2, "memory_wire": 1, "methods": 1,
-    "outputs": 1, "paths": 1, "reload_loop": 11, "reloading": 1, "scenarios": 1, "scripts": 1, "server": 32,
-    "sockets": 4, "state_routes": 5, "topic_match": 7, "topology_drafts": 1,
-}
+# How many such clauses a crate may have still. No crate is added, and no number raised. These two name files, a listener or sockets, and two streams, each
+# before and after.
+STILL = {"reload_loop": 2}
 
 
 def is_text(line):

@@ -1,8 +1,11 @@
 -- What `Stream::next` must return.
-use Rattle.std.specs.Prelude.{◌+◌, ◌≤◌, ℕ, length, Bool, true, false, Option, Some, None, Result, Ok, Err, ⊤}
+use Rattle.std.specs.Prelude.{◌+◌, ◌≤◌, ℕ, List, length, Bool, true, false, Option, Some, None, Result, Ok, Err, ⊤}
 use Rattle.model.specs.Commands.{Stream, Yields, Ends, GoesOn, IsCommand}
 use Rattle.model.specs.declared.events.Command.{Command}
 use Rattle.assembly.specs.Front.{HasFront}
+use Rattle.assembly.specs.Held.{stream}
+use Rattle.assembly.specs.Pending.{AreSpelledSoFar}
+use Rattle.assembly.specs.declared.contents.Awaited.{Awaited}
 use Rattle.assembly.specs.declared.faults.Fault.{Fault}
 use Rattle.assembly.specs.declared.faults.Fault.TheVariants.{Broken, Memory}
 
@@ -31,6 +34,11 @@ YieldsNext old (Ok None) new = Stops old None new
 YieldsNext old (Err (Broken code)) new = Stops old (Some code) new
 YieldsNext old (Err Memory) new = GoesOn old new × HasFront old
 
+-- `YieldsNext` of a stream whose first eight bytes were read, by what its channels have begun and its unread bytes, before and after
+abbrev pub YieldsCommand : ℕ → Bool → List Awaited → List ℕ → Result (Option Command) Fault → List Awaited → List ℕ → Type 0
+YieldsCommand max keeps old unread result new unread' =
+    YieldsNext (stream false max keeps old unread) result (stream false max keeps new unread')
+
 -- ---- faults
 
 -- the reply code of the fault that the result reports, if any
@@ -42,3 +50,8 @@ broken_by answer = None
 abbrev pub IsBrokenBy : Option ℕ → Stream → Type 0
 IsBrokenBy None s = ⊤
 IsBrokenBy (Some code) s = Ends s (Some code)
+
+-- a frame may have at least 4,096 bytes, what the channels have begun can be encoded again, and the stream ends by the fault that is recorded, if any
+abbrev pub IsStreamSound : Bool → ℕ → Bool → List Awaited → List ℕ → Option ℕ → Type 0
+IsStreamSound is_new max keeps contents unread fault =
+    (4096 ≤ max) × AreSpelledSoFar contents × IsBrokenBy fault (stream is_new max keeps contents unread)

@@ -1,12 +1,12 @@
 //! Handles a whole frame: heartbeat, wrong channel, or the frame of a channel.
 
-ghost use Rattle.std.specs.Prelude.{◌≡◌, ◌<◌, ◌≤◌, ℕ, ◌==◌, IsTrue, MatchBool, vec_len, OnOk};
+ghost use Rattle.std.specs.Prelude.{◌≡◌, ◌<◌, ◌≤◌, ℕ, IsTrue, vec_len, OnOk};
 ghost use Rattle.model.specs.Commands;
-ghost use Rattle.model.specs.Commands.{Breaks, TakesPayload, TakesOn, awaited, taken_heartbeat};
+ghost use Rattle.model.specs.Commands.{taken_heartbeat};
 ghost use Rattle.model.specs.Commands.{is_on_wrong_channel as is_wrong};
 ghost use Rattle.frame.specs.Reading.{seen};
-ghost use Rattle.assembly.specs.Pending.{pending_at, content_at, AreSpelledSoFar};
-ghost use Rattle.assembly.specs.Taking.{DoesAt};
+ghost use Rattle.assembly.specs.Pending.{content_at, AreSpelledSoFar};
+ghost use Rattle.assembly.specs.Taking.{DoesAt, TakesAt, TakesWhole};
 
 use crate::contents::Awaited;
 use crate::faults::Fault;
@@ -16,9 +16,8 @@ use frame::Frame;
 use model::Command;
 use std::alloc::{AllocError, Global};
 
-/// Handles a whole frame. Returns the command that it completes, or `None` if its channel awaits more. Not inlined, so that a publish that is read
-/// at once does not clear the slots of the values that are moved here.
-#[inline(never)]
+/// Handles a whole frame. Returns the command that it completes, or `None` if its channel awaits more.
+#[inline(always)]
 pub(crate) fn take_frame(
     alloc: Global,
     keeps: bool,
@@ -28,8 +27,7 @@ pub(crate) fn take_frame(
 ) -> Result<Option<Command>, Fault>
     requires { AreSpelledSoFar contents.old.items }
     ensures spelled { AreSpelledSoFar contents.new.items }
-    ensures does { DoesAt (TakesOn keeps (pending_at contents.old.items frame.now.channel) (seen frame.now))
-        frame.now.channel (pending_at contents.old.items) result (pending_at contents.new.items) }
+    ensures does { TakesWhole keeps (seen frame.now) contents.old.items result contents.new.items }
 {
     if frame.kind == 8 {
         return take_heartbeat(frame);
@@ -85,9 +83,7 @@ fn take_on_channel(
     requires reached { channel < vec_len contents.old }
     requires spelled { AreSpelledSoFar contents.old.items }
     ensures spelled { AreSpelledSoFar contents.new.items }
-    ensures does { DoesAt (λ t. MatchBool (frame.now.kind == awaited (pending_at contents.old.items channel))
-        (TakesPayload keeps (pending_at contents.old.items channel) (seen frame.now) t) (t ≡ Breaks 505)) channel
-        (pending_at contents.old.items) result (pending_at contents.new.items) }
+    ensures does { TakesAt keeps channel (seen frame.now) contents.old.items result contents.new.items }
 {
     take_awaited(alloc, keeps, names, &mut contents[channel], frame)
 }

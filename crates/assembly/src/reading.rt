@@ -1,9 +1,9 @@
 //! Reads frames until a command is complete.
 
-ghost use Rattle.std.specs.Prelude.{◌≡◌, ◌<◌, ◌≤◌, ◌++◌, false, length, MatchOption};
+ghost use Rattle.std.specs.Prelude.{◌≡◌, ◌≤◌};
 ghost use Rattle.assembly.specs.Pending.{AreSpelledSoFar};
-ghost use Rattle.assembly.specs.Held.{stream};
-ghost use Rattle.assembly.specs.Onward.{YieldsNext, has_command};
+ghost use Rattle.assembly.specs.Onward.{YieldsCommand, has_command};
+ghost use Rattle.assembly.specs.Unread.{TakesEight};
 
 use crate::contents::Awaited;
 use crate::faults::Fault;
@@ -17,8 +17,8 @@ use std::alloc::Global;
 
 /// Takes frames up to the end of a command. A frame that is a fault, or for which an allocation fails, is not taken.
 ///
-/// Each call of a function clears the slots of the values that it moves. So what reads a whole publish is inlined here, and what handles
-/// any other frame is not.
+/// The functions from here to a channel's content are inlined: each call of a function clears the slots of the values
+/// that it moves. If the functions are inlined, this happens once a command instead of once a frame.
 #[inline(always)]
 pub(crate) fn next_command(
     alloc: Global,
@@ -31,8 +31,7 @@ pub(crate) fn next_command(
     requires max { 4096 ≤ max }
     requires spelled { AreSpelledSoFar contents.old.items }
     ensures spelled { AreSpelledSoFar contents.new.items }
-    ensures answers { YieldsNext (stream false max keeps contents.old.items unread.old.bytes) result
-        (stream false max keeps contents.new.items unread.new.bytes) }
+    ensures answers { YieldsCommand max keeps contents.old.items unread.old.bytes result contents.new.items unread.new.bytes }
 {
     'frames: loop {
         let bytes = unread.bytes();
@@ -69,8 +68,7 @@ fn is_whole(taken: &Result<Option<Command>, Fault>) -> bool
 
 /// Takes eight bytes, or returns `None` if there are fewer.
 pub(crate) fn take_eight(unread: &mut Unread) -> Option<[u8; 8]>
-    ensures { MatchOption result ((length unread.old.bytes < 8) × (unread.new ≡ unread.old))
-        (λ bytes. (unread.old.bytes ≡ bytes ++ unread.new.bytes) × (length bytes ≡ 8)) }
+    ensures { TakesEight unread.old result unread.new }
 {
     let bytes = *unread.bytes().first_chunk::<8>()?;
     unread.take(8);

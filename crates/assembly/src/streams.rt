@@ -49,10 +49,8 @@ impl Drop for Stream {
 }
 
 impl Model for Stream {
-    ghost use Rattle.std.specs.Prelude.{◌≤◌};
-    ghost use Rattle.assembly.specs.Held.{Held, stream};
-    ghost use Rattle.assembly.specs.Onward.{IsBrokenBy};
-    ghost use Rattle.assembly.specs.Pending.{AreSpelledSoFar};
+    ghost use Rattle.assembly.specs.Held.{Held};
+    ghost use Rattle.assembly.specs.Onward.{IsStreamSound};
 
     ghost Value = { Held };
 
@@ -67,8 +65,7 @@ impl Model for Stream {
       fault = s.fault;
     } };
 
-    ghost invariant = { λ s. (4096 ≤ s.max) × AreSpelledSoFar s.contents.items
-        × IsBrokenBy s.fault (stream s.is_new s.max s.keeps s.contents.items s.unread.bytes) };
+    ghost invariant = { λ s. IsStreamSound s.is_new s.max s.keeps s.contents.items s.unread.bytes s.fault };
 }
 
 impl Stream {
@@ -191,7 +188,6 @@ impl Stream {
     }
 
     /// Takes the first eight bytes, or returns `None` if there are fewer.
-    #[inline(never)]
     fn first(&mut self) -> Option<Command>
         requires is_new { self.old.is_new ≡ true }
         requires fault { self.old.fault ≡ None }

@@ -1,17 +1,16 @@
 //! Handles the frame that a channel awaits: method, header or piece of a body.
 
-ghost use Rattle.std.specs.Prelude.{◌≡◌, ◌==◌, true, false, MatchBool, MatchResult, Ok, Err};
-ghost use Rattle.assembly.specs.Faults.{IsFault};
+ghost use Rattle.std.specs.Prelude.{◌≡◌, true, false, Ok};
 ghost use Rattle.model.specs.Commands;
-ghost use Rattle.model.specs.Commands.{Breaks, TakesPayload, awaited, is_too_large as exceeds, kept_publish as kept, taken_method};
-ghost use Rattle.model.specs.Headers.{Header, SaysHeader, size_at};
+ghost use Rattle.model.specs.Commands.{awaited, is_too_large as exceeds, kept_publish as kept, taken_method};
+ghost use Rattle.model.specs.Headers.{size_at};
 ghost use Rattle.model.specs.Grammar.{SaysMethod};
 ghost use Rattle.model.specs.declared.events.Command.TheVariants as command;
 ghost use Rattle.frame.specs.Reading.{seen};
 ghost use Rattle.assembly.specs.Pending.{pending_of, IsSpelledSoFar, HasPublish, IsGathered};
 ghost use Rattle.assembly.specs.declared.contents.Gathering.{Gathering as Begun};
 ghost use Rattle.assembly.specs.declared.contents.Awaited.TheVariants.{Nothing, WantsHeader, WantsBody};
-ghost use Rattle.assembly.specs.Taking.{TakesEffect, TakesFrame, TakesHeader};
+ghost use Rattle.assembly.specs.Taking.{DeclaresSize, TakesEffect, TakesFrame, TakesHeader, TakesIfAwaited};
 ghost use Rattle.assembly.specs.Names.{SpellsPublish};
 
 use crate::bodies::Pieces;
@@ -37,9 +36,7 @@ pub(crate) fn take_awaited(
 ) -> Result<Option<Command>, Fault>
     requires { IsSpelledSoFar pending.old }
     ensures spelled { IsSpelledSoFar pending.new }
-    ensures does { TakesEffect (λ t. MatchBool (frame.now.kind == awaited (pending_of pending.old))
-        (TakesPayload keeps (pending_of pending.old) (seen frame.now) t) (t ≡ Breaks 505))
-        (pending_of pending.old) result (pending_of pending.new) }
+    ensures does { TakesIfAwaited keeps (seen frame.now) pending.old result pending.new }
 {
     if frame.kind != awaited_kind(pending) {
         return Err(Fault::Broken(505));
@@ -237,8 +234,7 @@ fn count_content(
 
 /// Decodes a header, and returns the body size that it declares.
 fn size_of_header(alloc: Global, payload: &[u8]) -> Result<u64, Fault>
-    ensures { MatchResult result (λ size. (h : Header) × SaysHeader payload.now (Ok h) × (size ≡ h.size))
-        (λ fault. IsFault (λ code. SaysHeader payload.now (Err code)) fault) }
+    ensures { DeclaresSize payload.now result }
 {
     match read_header(alloc, payload) {
         Ok(header) => Ok(header.size),

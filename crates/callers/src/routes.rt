@@ -2,6 +2,7 @@
 
 ghost use Rattle.std.specs.Prelude.{IfOk, IfErr};
 ghost use Rattle.topology_drafts.specs.Causes.{IsTopologyRefused};
+ghost use Rattle.exchange_graph.specs.Built.{declared_by};
 ghost use Rattle.exchange_graph.specs.Targets.{AreTargets};
 
 use exchange_graph::{Bad, Topology};
@@ -18,9 +19,8 @@ pub fn ask_route(
     exchange: &[u8],
     key: &[u8],
 ) -> Result<Vec<usize>, Bad>
-    ensures routed { IfOk result (λ targets. AreTargets (record { exchanges = exchanges.items; queues = queues.items; bindings = bindings.items })
-        exchange.now key.now targets.items) }
-    ensures refused { IfErr result (λ bad. IsTopologyRefused bad (record { exchanges = exchanges.items; queues = queues.items; bindings = bindings.items })) }
+    ensures routed { IfOk result (λ targets. AreTargets (declared_by exchanges.items queues.items bindings.items) exchange.now key.now targets.items) }
+    ensures refused { IfErr result (λ bad. IsTopologyRefused bad (declared_by exchanges.items queues.items bindings.items)) }
 {
     let topology = Topology::build(alloc, exchanges, queues, bindings)?;
     let targets = topology.route(alloc, exchange, key)?;

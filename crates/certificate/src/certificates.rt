@@ -2,7 +2,7 @@
 
 ghost use Rattle.std.specs.Prelude.{◌≡◌};
 ghost use Rattle.state_walks.specs.Judged.{states_of};
-ghost use Rattle.certificate.specs.Views.{form_view};
+ghost use Rattle.certificate.specs.Views.{certificate_with, form_view};
 
 use crate::forms::Form;
 use model::Text;
@@ -60,14 +60,7 @@ impl Certificate {
         queue: Text,
         states: Vec<Vec<u64>>,
     ) -> Certificate
-        ensures { result ≡ record {
-          form = form_view form;
-          exchange = exchange;
-          mode = mode;
-          pattern = pattern;
-          queue = queue;
-          states = states_of states.items;
-        } }
+        ensures { result ≡ certificate_with form exchange mode pattern queue states.items }
     {
         Certificate {
             form,

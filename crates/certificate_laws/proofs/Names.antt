@@ -1,6 +1,6 @@
 -- The names that several files of these proofs use.
 pub use Rattle.laws.proofs.Counts.{all_in, in-append, in_back, in_front}
-pub use Rattle.laws.proofs.Joins.{any_matches, any_snoc_is, any_snoc_was, one_snoc, snoc_any, snoc_none, snoc_one, snoc_word, start_bit, word_snoc}
+pub use Rattle.model.proofs.Joins.{any_matches, any_snoc_is, any_snoc_was, one_snoc, snoc_any, snoc_none, snoc_one, snoc_word, start_bit, word_snoc}
 pub use Rattle.model.specs.Certificates.{Accepts, AreChosen, AreClosed, AreIndices, Certificate, Excepting, Form, IsCoveredAt, IsDropped, IsGoodState, IsZeroFirst, KeepsTo, LeadsIn, PatternAnswers, Sliced, Whole, at_indices, possible, sure}
 pub use Rattle.model.specs.Guarantee.{CoversKey, Guarantee, Holds, Keeps}
 pub use Rattle.model.specs.Positions.{BitsAfter, BitsAtStart, ForEach, ForEachPair, Letter, Named, Other, RepresentsByTokens, RepresentsWord, StartsAt, StepsTo, RecordsFrom, RecordsMatches, bit_after, has_bit, is_accepted, letters, named_words, takes_letter, word_of}

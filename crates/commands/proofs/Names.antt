@@ -66,7 +66,7 @@ pub use Rattle.model.specs.declared.topologies.DeclaredQueue.{DeclaredQueue}
 pub use Rattle.reloading.specs.LiveQueues.{ShowsQueues}
 pub use Rattle.replies.specs.Sent.{AreAddressed, return_if, sent_back}
 pub use Rattle.replies.specs.declared.steps.Step.{Step}
-pub use Rattle.std.proofs.Common.{Bool, Err, List, None, Ok, Option, Result, [], ap, arith, cond, drop, false, filter, get_or, inl, inr, map, nat_eq, nat_le, not, refl, replicate, set, subst, suc, sum_by, sym, true, zero, ℕ, ◌++◌, ◌+◌, ◌-◌, ◌<◌, ◌∙◌, ◌∷◌, ◌≡◌, ◌≢◌, ◌≤◌}
+pub use Rattle.std.proofs.Common.{Bool, Bor, Err, List, None, Ok, Option, Result, [], ap, arith, cond, drop, false, filter, get_or, inl, inr, map, nat_eq, nat_le, not, refl, replicate, set, subst, suc, sum_by, sym, true, zero, ℕ, ◌++◌, ◌+◌, ◌-◌, ◌<◌, ◌∙◌, ◌∷◌, ◌≡◌, ◌≢◌, ◌≤◌}
 pub use Rattle.std.proofs.lemmas.Bool.{and_from, and_parts, eq-eqb, eqb-true, false≢true, leb-false, lt-ltb}
 pub use Rattle.std.proofs.lemmas.Bool.Decides.{leb_tells, nat_tests}
 pub use Rattle.std.proofs.lemmas.List.{drop_all, drop_more, length-map, map-append}
@@ -76,6 +76,6 @@ pub use Rattle.std.proofs.lemmas.Result.{IfOk-weaker, err_from_is_err_and}
 pub use Rattle.std.proofs.lemmas.Slice.Eq.{bytes_eq-Decides}
 pub use Rattle.std.specs.List.{All, AllByRecursion, list_any}
 pub use Rattle.std.specs.Option.{option_copied_mut}
-pub use Rattle.std.specs.Prelude.{IfNone, IfOk, IfSome, OnErr, OnOk, is_some, min, option_map, slice_get, slice_index_or, ◌||◌}
+pub use Rattle.std.specs.Prelude.{IfNone, IfOk, IfSome, OnErr, OnOk, is_some, min, option_map, slice_get, slice_index_or, unwrap_or, ◌||◌}
 pub use Rattle.std.specs.Str.{bytes_eq}
 pub use Rattle.std.specs.declared.alloc.AllocError.{AllocError}

@@ -1,15 +1,16 @@
 -- What a publish leaves of its channel and of the queues.
-use Rattle.commands.proofs.Names.{◌≡◌, ◌+◌, ◌++◌, ◌∷◌, [], ◌∙◌, ℕ, List, Bool, true, false, Option, None, refl, ap, is_some, IfSome, Topology, queue_names, Channel, with_pair, IsAddressed, IsPublish, next_of, confirm_sends, confirm_notes, answer_of, return_of, returned_notes, entry_notes, is_none, is_some_full, Content, Publish, Send, Note, open_in, Store, entries_named, Publishes, AreAddressed, return_if, sent_back, Side, Turns, seen, state_of, subst, content_or_none, Commands, BasicPublish, Result, Stop, Step}
+use Rattle.commands.proofs.Names.{Bor, ◌≡◌, ◌+◌, ◌++◌, ◌∷◌, [], ◌∙◌, ℕ, List, Bool, true, false, Option, None, refl, ap, is_some, IfSome, unwrap_or, Topology, queue_names, Channel, with_pair, IsAddressed, IsPublish, content_or_none, next_of, confirm_sends, confirm_notes, answer_of, return_of, returned_notes, entry_notes, is_none, is_some_full, Content, Publish, Send, Note, open_in, Store, entries_named, Publishes, AreAddressed, return_if, sent_back, Side, Turns, seen, state_of}
 use Rattle.std.proofs.Common.{length, ◌&&◌, Some, if◌then◌else◌}
+use Rattle.std.specs.Prelude.{option_copied}
 use Rattle.model.specs.declared.notes.Note.TheVariants.{Published}
 use Rattle.model.specs.declared.notes.Way.TheVariants as way
 use Rattle.channels.specs.Open.{Open}
 use Rattle.depot.specs.declared.depots.Routed.{Routed}
 
--- a publish of the empty content is one without a content
-pub of_nothing : (c h : ℕ) (s s' : Store) (ch ch' : Open) (p : Publish) (content : Content) (result : Result Step Stop) → Commands c h s ch (BasicPublish p) (Some content) result s' ch'
-    → content ≡ content_or_none None → Commands c h s ch (BasicPublish p) None result s' ch'
-of_nothing c h s s' ch ch' p content result done is = subst (λ (x : Content). Commands c h s ch (BasicPublish p) (Some x) result s' ch') is done
+-- the content that a publish uses: its own, or the empty one
+pub content_used : (own : Option (Bor Content)) (empty used : Bor Content) (content : Option Content) → used ≡ unwrap_or own empty → option_copied own ≡ content → empty.now ≡ content_or_none None → used.now ≡ content_or_none content
+content_used None empty used content is own none = ap (λ (x : Bor Content). x.now) is ∙ none ∙ ap content_or_none own
+content_used (Some x) empty used content is own none = ap (λ (y : Bor Content). y.now) is ∙ ap content_or_none own
 
 -- what goes back of a publish goes back where it is mandatory and routed nowhere
 back_sent : (man none : Bool) (s : Send) → sent_back none (if man then Some s else None) ≡ (if man && none then s ∷ [] else [])

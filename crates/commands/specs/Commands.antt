@@ -1,11 +1,11 @@
 -- What a command does to an open channel and to the queues, whatever other connections and channels there are.
-use Rattle.std.specs.Prelude.{◌≡◌, ℕ, Bool, List, Option, Some, None, IsSome, Result, Ok, Err, true, false}
+use Rattle.std.specs.Prelude.{◌≡◌, ◌++◌, ℕ, Bool, List, [], Option, Some, None, IsSome, Result, Ok, Err, true, false}
 use Rattle.std.specs.List.{AllByRecursion}
 use Rattle.model.specs.Words.{Text}
 use Rattle.model.specs.Broker.{Broker, Channel, Connection, with_pair}
 use Rattle.model.specs.Topology.{Topology, queue_names}
 use Rattle.model.specs.Agreement.{IsAgreed}
-use Rattle.model.specs.Deliveries.{Settlement, after_delivery}
+use Rattle.model.specs.Deliveries.{Settlement, Returns, after_delivery, delivery_notes, first_ready}
 use Rattle.model.specs.Grammar.{IsMethod}
 use Rattle.model.specs.Sending.{IsCarried}
 use Rattle.model.specs.Step as step
@@ -20,7 +20,7 @@ use Rattle.model.specs.declared.methods.Method.TheVariants as method
 use Rattle.model.specs.declared.notes.Note.{Note}
 use Rattle.exchange_graph.specs.Marks.{queue_name}
 use Rattle.channels.specs.Open.{Open, open_in}
-use Rattle.depot.specs.Store.{Store, entries_named}
+use Rattle.depot.specs.Store.{Store, entries_named, queue_at}
 use Rattle.channels.specs.Placed.{IsPlaced}
 use Rattle.commands.specs.Judged.{HasChannel, IsQueueIndex, refusal_seen}
 use Rattle.commands.specs.declared.refusals.Refusal.{Refusal}
@@ -29,7 +29,7 @@ use Rattle.commands.specs.declared.refusals.Stop.TheVariants.{Refused, Memory}
 use Rattle.replies.specs.Sent.{AreAddressed}
 use Rattle.replies.specs.declared.steps.Step.{Step}
 use Rattle.commands.specs.State.{Kept, broker_of, topology_kept}
-use Rattle.commands.specs.Picked.{IsPick, DeliversTo}
+use Rattle.commands.specs.Picked.{AddressesTo, IsPick, DeliversTo}
 use Rattle.commands.specs.declared.picks.Pick.{Pick}
 use Rattle.commands.specs.declared.commands.asking.Left as asked
 use Rattle.commands.specs.declared.commands.asking.Left.TheVariants as left
@@ -82,20 +82,46 @@ Commands c h s ch m content result s' ch' = (old new : Side) → Turns c h (seen
     → ComesTo (refusal_of s.topology (state_of s old) (seen s ch) m)
     (λ x. Performs s.topology (state_of s old) c h (seen s ch) m content x.sends.items x.notes.items (state_of s' new)) result
 
+-- `Commands` of a method that carries no content, whatever content came with it
+abbrev pub CommandsPlain : ℕ → ℕ → Store → Open → Method → Result Step Stop → Store → Open → Type 0
+CommandsPlain c h s ch m result s' ch' = (content : Option Content) → Commands c h s ch m content result s' ch'
+
+-- `CommandsPlain` of a method that reads and changes its channel alone, whatever the queues are
+abbrev pub CommandsOnChannel : ℕ → ℕ → Open → Method → Result Step Stop → Open → Type 0
+CommandsOnChannel c h ch m result ch' = (s : Store) → CommandsPlain c h s ch m result s ch'
+
+-- `CommandsPlain` of a method that leaves its channel as it is, whichever open channel that is
+abbrev pub CommandsOnQueues : ℕ → ℕ → Store → Method → Result Step Stop → Store → Type 0
+CommandsOnQueues c h s m result s' = (ch : Open) → CommandsPlain c h s ch m result s' ch
+
 -- the deliveries that `tag` settles are settled as `how` says, with these sends and notes (`Settles` of the model's step)
 abbrev pub SettlesHere : Settlement → ℕ → ℕ → Store → Open → ℕ → Bool → List Send → List Send → List Note → Store → Open → Type 0
 SettlesHere how c h s ch tag multiple wanted sends notes s' ch' = (old new : Side) → Turns c h (seen s ch) (seen s' ch') old new
     → Settles s.topology how (state_of s old) c h (seen s ch) tag multiple wanted sends notes (state_of s' new)
+
+-- the deliveries that `tag` settles are requeued, whatever is sent, and nothing is noted
+abbrev pub RequeuesHere : ℕ → ℕ → Store → Open → ℕ → Bool → Store → Open → Type 0
+RequeuesHere c h s ch tag multiple s' ch' = (sends : List Send) → SettlesHere Returns c h s ch tag multiple sends sends [] s' ch'
 
 -- the first ready message of the queue at this index is given out under the channel's next delivery tag
 abbrev pub GivesHere : ℕ → ℕ → Store → Open → Bool → ℕ → Taker → Store → Open → Type 0
 GivesHere c h s ch no_ack place by s' ch' = (old new : Side) → Turns c h (seen s ch) (seen s' ch') old new
     → Is (after_delivery (state_of s old) c h (seen s ch) no_ack (queue_name s.topology place) by) (state_of s' new)
 
+-- the note of giving out the first ready message of the queue at this index is appended: that it left the queue, if it needs no acknowledgement
+abbrev pub NotesGiving : Store → ℕ → Bool → List Note → List Note → Type 0
+NotesGiving s place no_ack old new = (e : Entry) → first_ready (queue_at s place) ≡ Some e
+    → new ≡ old ++ delivery_notes no_ack e.message.number (queue_name s.topology place)
+
 -- if a delivery to the consumer `p` can be made, it is made, with these sends and notes
 abbrev pub DeliversHere : Pick → Store → Open → List Send → List Note → Store → Open → Type 0
 DeliversHere p s ch sends notes s' ch' = (old new : Side) → Turns p.connection p.channel (seen s ch) (seen s' ch') old new
     → IsPick (state_of s old) p → DeliversTo (state_of s old) p sends notes (state_of s' new)
+
+-- `AddressesTo` of what is sent to the connection of the consumer `p`, whatever other connections and channels there are
+abbrev pub AddressesHere : Pick → Store → Open → List Send → Type 0
+AddressesHere p s ch sends = (side : Side) → side.channel p.connection p.channel ≡ Some (seen s ch)
+    → AddressesTo s.topology (state_of s side) p.connection sends
 
 -- no allocation failed
 abbrev pub WantsNone : {A : Type 0} → Result A Stop → Type 0
@@ -146,6 +172,11 @@ abbrev pub AnswersHere : ℕ → ℕ → ℕ → Store → Open → Method → O
 AnswersHere max c h s ch m content result s' ch' = (old new : Side) (conn : Connection) → conn.channel_max ≡ max → Turns c h (seen s ch) (seen s' ch') old new
     → Answers (refusal s.topology (state_of s old) conn h m (Some (seen s ch))) s.topology (state_of s old) c h (Some (seen s ch)) m content
     result (state_of s' new)
+
+-- `Answers` on channel `h`, which is not open, of any connection whose greatest channel number is `max`
+abbrev pub AnswersUnopened : ℕ → ℕ → Method → Result Done Stop → Type 0
+AnswersUnopened max h m result = (t : Topology) (b new : Broker) (c : ℕ) (conn : Connection) (content : Option Content) → conn.channel_max ≡ max
+    → Answers (refusal t b conn h m None) t b c h None m content result new
 
 -- `Answers` on a connection; `None` if it is not running, and then nothing has changed
 abbrev pub AnswersOn : Kept → ℕ → ℕ → Method → Option Content → Option (Result Done Stop) → Kept → Type 0

@@ -1,18 +1,24 @@
 -- What is decided about a command before it is performed.
-use Rattle.std.specs.Prelude.{◌≡◌, ◌<◌, ◌⊎◌, Bool, true, false, length, ℕ, Option, Some, None, Result, Ok, Err, IsSome, if◌then◌else◌, nat_lt}
+use Rattle.std.specs.Prelude.{◌≡◌, ◌<◌, ◌⊎◌, Bool, true, false, length, ℕ, List, Option, Some, None, Result, Ok, Err, IsSome, if◌then◌else◌, nat_lt}
+use Rattle.std.specs.Prelude.{option_map}
 use Rattle.model.specs.Words.{Text}
-use Rattle.model.specs.Topology.{Topology}
+use Rattle.model.specs.Topology.{Topology, queue_names}
 use Rattle.model.specs.Broker.{Broker, Channel, Connection}
 use Rattle.model.specs.Step as step
-use Rattle.model.specs.Step.{Of_channel, Of_connection, refusal, refusal_of_large, is_of_connection}
+use Rattle.model.specs.Step.{Of_channel, Of_connection, refusal, refusal_of_large, refusal_of_publish, is_of_connection}
+use Rattle.model.specs.declared.methods.Consume.{Consume}
 use Rattle.model.specs.declared.methods.Method.{Method}
 use Rattle.model.specs.declared.methods.Method.TheVariants as method
+use Rattle.model.specs.declared.methods.Publish.{Publish}
 use Rattle.model.specs.declared.events.Event.{Event}
 use Rattle.model.specs.declared.events.Event.TheVariants as event
 use Rattle.channels.specs.declared.consumers.ConsumerRefusal.{ConsumerRefusal}
 use Rattle.channels.specs.declared.consumers.ConsumerRefusal.TheVariants as against
 use Rattle.channels.specs.declared.consumers.ConsumeError.{ConsumeError}
 use Rattle.channels.specs.declared.consumers.ConsumeError.TheVariants as failed
+use Rattle.channels.specs.Open.{Open, open_in}
+use Rattle.channels.specs.RunningConnections.{Running, channel_seen, limits_of}
+use Rattle.depot.specs.Store.{Store}
 use Rattle.exchange_graph.specs.Marks.{queue_name}
 use Rattle.commands.specs.declared.refusals.Refusal.{Refusal}
 use Rattle.commands.specs.declared.refusals.Refusal.TheVariants as refused
@@ -60,6 +66,16 @@ IsLargeIgnored b c h (Some conn) = refusal_of_large conn h (b.channel c h) ≡ s
 -- the refusal of a method on channel `h`, not 0, by its class and by the channel's number; `max` is the greatest number that was agreed on
 abbrev pub refusal_of_number : ℕ → ℕ → Method → Option step.Refusal
 refusal_of_number max h m = if is_of_connection m then Some (Of_connection 503) else if nat_lt max h then Some (Of_connection 504) else None
+
+-- `against` is the refusal of a publish on the open channel `ch`, or `None`; of the broker's other state only the number of publishes matters
+abbrev pub JudgesPublish : Store → Open → Publish → Option step.Refusal → Type 0
+JudgesPublish s ch p against = (b : Broker) → b.published ≡ s.published
+    → against ≡ refusal_of_publish s.topology b (open_in (queue_names s.topology.queues) ch) p
+
+-- `r` is the refusal of a consume on channel `h` of a running connection, or `None`; the broker's other state doesn't matter
+abbrev pub JudgesConsume : Topology → Running → ℕ → Consume → Option Refusal → Type 0
+JudgesConsume t running h consume r = (names : List Text) (b : Broker)
+    → option_map refusal_seen r ≡ refusal t b (limits_of running) h (method.BasicConsume consume) (channel_seen names running h)
 
 -- whether an open channel performs methods of this kind; a method may still be refused for what it asks
 abbrev pub is_taken : Method → Bool

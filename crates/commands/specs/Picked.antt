@@ -1,9 +1,11 @@
 -- Which delivery is made.
 use Rattle.std.specs.Prelude.{◌≡◌, ◌<◌, ◌≤◌, ℕ, List, false, Option, Some, None, length}
-use Rattle.model.specs.Topology.{IsIn}
+use Rattle.model.specs.Topology.{Topology, IsIn}
 use Rattle.model.specs.Broker as seen
 use Rattle.model.specs.Broker.{Broker}
 use Rattle.model.specs.Consuming.{MayTake, CanDeliver}
+use Rattle.model.specs.Naming.{AreNamed}
+use Rattle.model.specs.Sending.{AreCarried}
 use Rattle.model.specs.Step.{IsDelivery}
 use Rattle.model.specs.declared.events.Send.{Send}
 use Rattle.model.specs.declared.notes.Note.{Note}
@@ -11,6 +13,7 @@ use Rattle.exchange_graph.specs.Marks.{queue_name}
 use Rattle.depot.specs.Store.{HasReady}
 use Rattle.channels.specs.Open.{consumer_in}
 use Rattle.channels.specs.declared.consumers.Consumer.{Consumer}
+use Rattle.replies.specs.Sent.{AreAddressed}
 use Rattle.commands.specs.State.{Kept, broker_of, topology_kept, names_of}
 use Rattle.commands.specs.NewConsumers.{consumer_kept, has_consumer}
 use Rattle.commands.specs.declared.picks.Pick.{Pick}
@@ -26,6 +29,10 @@ pub record DeliversTo (old : Broker) (p : Pick) (sends : List Send) (notes : Lis
   pub delivery : IsDelivery old p.connection sends notes new
   pub channel : delivery.made.number ≡ p.channel
   pub consumer : delivery.made.consumer.number ≡ p.number
+
+-- if each message can be encoded (`AreCarried`), and consumers have tags (`AreNamed`), each of `sends` is for `c`, by a method that can be encoded
+abbrev pub AddressesTo : Topology → Broker → ℕ → List Send → Type 0
+AddressesTo t b c sends = AreCarried b → AreNamed t b → AreAddressed c sends
 
 -- A delivery to the consumer `p` can be made from the queue at index `place`.
 pub record IsPickFrom (kept : Kept) (place : ℕ) (p : Pick) : Type 0 where

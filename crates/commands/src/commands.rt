@@ -1,13 +1,9 @@
 //! Performs a command on an open channel. Its connection and its channel were looked up before.
 
-ghost use Rattle.std.specs.Prelude.{◌≡◌, ℕ, Option, None, true};
-ghost use Rattle.model.specs.Broker.{Broker, Connection};
-ghost use Rattle.model.specs.Step.{refusal};
-ghost use Rattle.model.specs.Topology.{Topology as Handed};
-ghost use Rattle.model.specs.declared.contents.Content.{Content as Whole};
+ghost use Rattle.std.specs.Prelude.{◌≡◌, ℕ, true};
 ghost use Rattle.channels.specs.Placed.{IsPlaced};
 ghost use Rattle.commands.specs.Judged.{is_requeueing, opens_or_closes};
-ghost use Rattle.commands.specs.Commands.{CanCommand, Answers, AnswersHere, UnlessPerformed, IsNotPerformed, IsAddressedBy, WantsNone, HasSpelling};
+ghost use Rattle.commands.specs.Commands.{CanCommand, AnswersHere, AnswersUnopened, UnlessPerformed, IsNotPerformed, IsAddressedBy, WantsNone, HasSpelling};
 ghost use Rattle.commands.specs.Commands.{done_of, left_of};
 
 mod asking;
@@ -125,8 +121,7 @@ pub(crate) fn on_channel<'a>(
 /// Decides on a command on a channel that is not open; `channel_max` is the connection's greatest channel number. On channel 0 only a close of
 /// the connection is known, and any other channel can only be opened.
 pub(crate) fn on_none(channel_max: u16, number: u16, method: &Method) -> Result<Done<'_>, Stop>
-    ensures answers { (t : Handed) (b new : Broker) (c : ℕ) (conn : Connection) (content : Option Whole) → conn.channel_max ≡ channel_max
-        → Answers (refusal t b conn number method.now None) t b c number None method.now content result new }
+    ensures answers { AnswersUnopened channel_max number method.now result }
     ensures addressed { (c : ℕ) → IsAddressedBy c result }
     ensures quiet { WantsNone result }
     ensures elsewhere { IsNotPerformed result }

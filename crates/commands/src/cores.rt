@@ -55,20 +55,17 @@ impl Model for Core {
 }
 
 impl Core {
-    ghost use Rattle.std.specs.Prelude.{◌≡◌, true, Option, IsSome, IfSome, IfOk, IsOk, OnErr};
+    ghost use Rattle.std.specs.Prelude.{◌≡◌, true, IsSome, IfSome, IfOk, IsOk, OnErr};
     ghost use Rattle.model.specs.Agreement.{IsAgreed};
-    ghost use Rattle.model.specs.Arrivals.{IsSaid};
     ghost use Rattle.model.specs.Sending.{AreCarried};
     ghost use Rattle.model.specs.Grammar.{IsMethod};
-    ghost use Rattle.model.specs.Step.{Acts, Is, OnConnection, OnLarge};
-    ghost use Rattle.model.specs.declared.contents.Content.{Content as Whole};
-    ghost use Rattle.model.specs.declared.methods.Method.{Method as Seen};
+    ghost use Rattle.model.specs.Step.{Is};
+    ghost use Rattle.model.specs.declared.events.Event.TheVariants as event_is;
     ghost use Rattle.commands.specs.State.{broker_of, topology_kept, nothing};
-    ghost use Rattle.commands.specs.Steps.{PerformsOn};
-    ghost use Rattle.commands.specs.Commands.{AnswersOn, IsAddressedBy, IsNotPerformed, UnlessPerformed, WantsNone};
-    ghost use Rattle.commands.specs.Commands.{AsksLeft, CanFinish};
+    ghost use Rattle.commands.specs.Steps.{ActsWith, AddressesLeft, AddressesOwn, AddressesReplies, FinishesOn, IsIgnoredOn, IsRequeuedOn};
+    ghost use Rattle.commands.specs.Commands.{AnswersOn, CanFinish, IsAddressedBy, IsNotPerformed, UnlessPerformed, WantsNone};
     ghost use Rattle.commands.specs.Ended.{AllRunStill, ReportsConsumers, ReportsConsumersOn, ReportsEnd};
-    ghost use Rattle.commands.specs.Judged.{is_requeueing, opens_or_closes, IsAsked, IsRequeued, IsIgnored, IsLargeIgnored, WantsNoMemory, JudgesLarge};
+    ghost use Rattle.commands.specs.Judged.{is_requeueing, opens_or_closes, IsAsked, IsLargeIgnored, WantsNoMemory, JudgesLarge};
     ghost use Rattle.replies.specs.Sent.{AreAddressed, connection_of_event};
 
     /// Makes a core of `topology`: its queues are empty, and no connection is running. Fails only if an allocation fails.
@@ -143,12 +140,8 @@ impl Core {
         requires runs { IsSome ((broker_of self.old).connection id.connection) }
         requires can { CanFinish (topology_kept self.old) ((broker_of self.old).channel id.connection id.number) left }
         // The promise: the model's step for the method, whose sends go to this connection.
-        ensures ok { IfOk result (λ a. (m : Seen) (content : Option Whole)
-            → AsksLeft (topology_kept self.old) ((broker_of self.old).channel id.connection id.number) m left.entry
-            → PerformsOn self.old id.connection id.number m content a.step.sends.items a.step.notes.items self.new) }
-        ensures addressed { IfOk result (λ a. (m : Seen)
-            → AsksLeft (topology_kept self.old) ((broker_of self.old).channel id.connection id.number) m left.entry
-            → IsMethod m → AreCarried (broker_of self.old) → AreAddressed id.connection a.step.sends.items) }
+        ensures ok { IfOk result (λ a. FinishesOn self.old id.connection id.number left.entry a.step self.new) }
+        ensures addressed { IfOk result (λ a. AddressesLeft self.old id.connection id.number left.entry a.step.sends.items) }
         // What ends.
         ensures ended { IfOk result (λ a. ReportsEnd id.connection a.ends (broker_of self.old) (broker_of self.new)) }
         ensures stay { IfOk result (λ a. ReportsConsumersOn id.connection id.number a.ends (broker_of self.old) (broker_of self.new)) }
@@ -196,15 +189,11 @@ impl Core {
     ) -> Result<Acted, AllocError>
         requires { IsAgreed (broker_of self.old) }
         // The promise: the model's step for the command.
-        ensures ok { IfOk result (λ a. OnConnection (topology_kept self.old) (broker_of self.old) id.connection id.number
-            method.now content.now a.step.sends.items a.step.notes.items (broker_of self.new) ((broker_of self.old).connection id.connection)) }
+        ensures ok { IfOk result (λ a. ActsWith self.old (event_is.Command id.connection id.number method.now content.now) a.step self.new) }
         // A rejection that requeues and an ignored command never fail.
-        ensures requeued { IsRequeued (topology_kept self.old) (broker_of self.old) id.connection id.number method.now
-            ((broker_of self.old).connection id.connection) → IsOk result }
-        ensures ignored { IsIgnored (topology_kept self.old) (broker_of self.old) id.connection id.number method.now
-            ((broker_of self.old).connection id.connection) → IsOk result }
-        ensures addressed { IfOk result (λ a. IsMethod method.now → AreCarried (broker_of self.old)
-            → AreAddressed id.connection a.step.sends.items) }
+        ensures requeued { IsRequeuedOn self.old id.connection id.number method.now → IsOk result }
+        ensures ignored { IsIgnoredOn self.old id.connection id.number method.now → IsOk result }
+        ensures addressed { IfOk result (λ a. AddressesReplies (broker_of self.old) id.connection method.now a.step.sends.items) }
         // What ends.
         ensures ended { IfOk result (λ a. ReportsEnd id.connection a.ends (broker_of self.old) (broker_of self.new)) }
         ensures stay { IfOk result (λ a. ReportsConsumersOn id.connection id.number a.ends (broker_of self.old) (broker_of self.new)) }
@@ -234,8 +223,7 @@ impl Core {
     ) -> Result<Acted, AllocError>
         requires { IsAgreed (broker_of self.old) }
         // The promise: the model's step; an ignored publish never fails.
-        ensures ok { IfOk result (λ a. OnLarge (broker_of self.old) connection channel a.step.sends.items a.step.notes.items
-            (broker_of self.new) ((broker_of self.old).connection connection)) }
+        ensures ok { IfOk result (λ a. ActsWith self.old (event_is.TooLarge connection channel) a.step self.new) }
         ensures ignored { IsLargeIgnored (broker_of self.old) connection channel ((broker_of self.old).connection connection) → IsOk result }
         ensures addressed { IfOk result (λ a. AreAddressed connection a.step.sends.items) }
         // What ends.
@@ -259,10 +247,8 @@ impl Core {
         requires agreed { IsAgreed (broker_of self.old) }
         requires asked { IsAsked event.now }
         // The promise: the model's step, whose sends go to the event's connection.
-        ensures ok { IfOk result (λ a. Acts (topology_kept self.old) (broker_of self.old) event.now
-            a.step.sends.items a.step.notes.items (broker_of self.new)) }
-        ensures addressed { IfOk result (λ a. IsSaid event.now → AreCarried (broker_of self.old)
-            → AreAddressed (connection_of_event event.now) a.step.sends.items) }
+        ensures ok { IfOk result (λ a. ActsWith self.old event.now a.step self.new) }
+        ensures addressed { IfOk result (λ a. AddressesOwn (broker_of self.old) event.now a.step.sends.items) }
         // What ends: whether the event's connection is still running, and whose consumers may be gone.
         ensures ended { IfOk result (λ a. ReportsEnd (connection_of_event event.now) a.ends (broker_of self.old) (broker_of self.new)) }
         ensures stay { IfOk result (λ a. ReportsConsumers event.now a.ends (broker_of self.old) (broker_of self.new)) }

@@ -1,11 +1,8 @@
 //! Delivers a message to a consumer, on the consumer's channel. Source: AMQP 0-9-1, basic.deliver.
 
-ghost use Rattle.std.specs.Prelude.{◌≡◌, [], Some, IfOk, OnErr};
-ghost use Rattle.model.specs.Naming.{AreNamed};
-ghost use Rattle.model.specs.Sending.{AreCarried};
+ghost use Rattle.std.specs.Prelude.{◌≡◌, [], IfOk, OnErr};
 ghost use Rattle.channels.specs.Placed.{IsPlaced};
-ghost use Rattle.replies.specs.Sent.{AreAddressed};
-ghost use Rattle.commands.specs.Commands.{Side, CanCommand, DeliversHere, seen, state_of};
+ghost use Rattle.commands.specs.Commands.{AddressesHere, CanCommand, DeliversHere};
 
 use crate::giving::give_out;
 use crate::picks::Pick;
@@ -27,8 +24,7 @@ pub(crate) fn deliver_on(
     requires { CanCommand pick.connection pick.channel depot.old channel.old }
     // The promise: this delivery, whose send goes to the consumer's connection, or nothing.
     ensures ok { IfOk result (λ s. DeliversHere pick depot.old channel.old s.sends.items s.notes.items depot.new channel.new) }
-    ensures addressed { IfOk result (λ s. (side : Side) → side.channel pick.connection pick.channel ≡ Some (seen depot.old channel.old)
-        → AreCarried (state_of depot.old side) → AreNamed depot.old.topology (state_of depot.old side) → AreAddressed pick.connection s.sends.items) }
+    ensures addressed { IfOk result (λ s. AddressesHere pick depot.old channel.old s.sends.items) }
     ensures none { IfOk result (λ s. s.sends.items ≡ [] → (depot.new ≡ depot.old) × (channel.new ≡ channel.old)) }
     // The frame; a failure changes nothing.
     ensures topology { depot.new.topology ≡ depot.old.topology }

@@ -1,13 +1,11 @@
 //! Gives messages out, to gets and to consumers.
 
-ghost use Rattle.std.specs.Prelude.{◌≡◌, ◌<◌, ◌++◌, Some, true, IsSome, OnOk, OnErr, length};
+ghost use Rattle.std.specs.Prelude.{◌≡◌, ◌<◌, true, IsSome, OnOk, OnErr, length};
 ghost use Rattle.model.specs.Prefetch.{has_tag_left};
-ghost use Rattle.model.specs.Deliveries.{first_ready, delivery_notes};
-ghost use Rattle.model.specs.declared.messages.Entry.{Entry};
-ghost use Rattle.exchange_graph.specs.Marks.{queue_name};
+ghost use Rattle.model.specs.Deliveries.{first_ready};
 ghost use Rattle.depot.specs.Store.{queue_at};
 ghost use Rattle.channels.specs.Placed.{IsPlaced};
-ghost use Rattle.commands.specs.Commands.{CanCommand, GivesHere};
+ghost use Rattle.commands.specs.Commands.{CanCommand, GivesHere, NotesGiving};
 
 use channels::Channel;
 use depot::{Depot, Giving};
@@ -33,8 +31,7 @@ pub(crate) fn give_out(
     requires ready { IsSome (first_ready (queue_at depot.old index)) }
     // The promise, and what is noted.
     ensures gives { OnOk result (GivesHere id.connection id.number depot.old channel.old no_ack index by depot.new channel.new) }
-    ensures notes { OnOk result ((e : Entry) → first_ready (queue_at depot.old index) ≡ Some e → notes.new.items
-        ≡ notes.old.items ++ delivery_notes no_ack e.message.number (queue_name depot.old.topology index)) }
+    ensures notes { OnOk result (NotesGiving depot.old index no_ack notes.old.items notes.new.items) }
     // The frame; a failure changes nothing but the capacity of `notes`.
     ensures topology { depot.new.topology ≡ depot.old.topology }
     ensures placed { IsPlaced depot.old.topology channel.new }

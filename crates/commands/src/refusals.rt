@@ -11,8 +11,7 @@ ghost use Rattle.model.specs.Topology.{Topology as Handed};
 ghost use Rattle.model.specs.Step as said;
 ghost use Rattle.model.specs.Prefetch.{has_tag_left};
 ghost use Rattle.model.specs.declared.messages.Entry.{Entry};
-ghost use Rattle.model.specs.declared.methods.Method.TheVariants.{BasicConsume};
-ghost use Rattle.commands.specs.Judged.{refusal_seen, refused_by, refusal_of_number, is_taken, HasChannel, IsQueueIndex};
+ghost use Rattle.commands.specs.Judged.{refusal_seen, refused_by, refusal_of_number, is_taken, HasChannel, IsQueueIndex, JudgesConsume};
 ghost use Rattle.channels.specs.Open.{open_in};
 ghost use Rattle.channels.specs.RunningConnections.{limits_of, channel_seen};
 
@@ -225,8 +224,7 @@ pub fn judge_consume(
     number: u16,
     consume: &Consume,
 ) -> Option<Refusal>
-    ensures { (names : List Name) (b : Broker) → option_map refusal_seen result
-        ≡ said.refusal topology.now b (limits_of running.now) number (BasicConsume consume.now) (channel_seen names running.now number) }
+    ensures { JudgesConsume topology.now running.now number consume.now result }
 {
     if is_awaiting(running.channel(number)) {
         return Some(Refusal::Ignored);

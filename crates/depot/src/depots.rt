@@ -249,8 +249,7 @@ impl Depot {
         requires ordered { AreByTag (waiting gone.now) }
         requires distinct { IsHeldOnce self.old }
         // The promise; a failure changes neither the store nor the notes.
-        ensures ok { OnOk result
-            (AreSettledBy Rejects self.old id.connection id.number (waiting gone.now)
+        ensures ok { OnOk result (AreSettledBy Rejects self.old id.connection id.number (waiting gone.now)
             notes.old.items notes.new.items self.new) }
         ensures store { OnErr result (self.new ≡ self.old) }
         ensures notes { OnErr result (notes.new.items ≡ notes.old.items) }

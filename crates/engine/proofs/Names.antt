@@ -13,7 +13,6 @@ pub use Rattle.engine.specs.Offered.{JudgesOffered}
 pub use Rattle.engine.specs.Opening.{Numbers, OpenedBy, OpenedNew, OpenedReady}
 pub use Rattle.engine.specs.Performing.{ByBroker, ByPhase, DecidesByPhase, IsAskedBy, PausesOr, Rules, rules_of, session_after}
 pub use Rattle.engine.specs.Pumping.{ConnectionPumped, ConnectionsNotPumped, ConnectionsPumped, IsPump, IsPumpTo, OutputChanges}
-pub use Rattle.engine.specs.Putting.{IsPut, ReportsNotPut, PutMeans}
 pub use Rattle.engine.specs.Reading.{ComesNext, HasCommand, HasMore, IsEventMade, IsKeptEvent, kept_for, kept_of, to_read}
 pub use Rattle.engine.specs.Turning.{ConnectionDid, ConnectionSame, ConnectionStays, ConnectionTook, ConnectionWaits, DidEvent, DidNext, MayTurn, OnIdle, Performed, has_performed}
 pub use Rattle.engine.specs.Waiting.{KeepsPicked, KeepsTurns, PerformsNext, ServesOne, PicksNobody, PicksOne, TurnLeaves}

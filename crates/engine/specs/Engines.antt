@@ -9,6 +9,7 @@ use Rattle.model.specs.Phases.{no_session}
 use Rattle.model.specs.Run.{Happening, notes_of, put_out}
 use Rattle.model.specs.Arrivals.{World, Turns, Waits, IsIdle, is_over, is_paused, is_ended, is_past_bound}
 use Rattle.model.specs.Headline.{KeepsEvents}
+use Rattle.model.specs.Tracing.{AreSafe, NoneSurvived}
 use Rattle.model.specs.Nacks.{Confirms}
 use Rattle.model.specs.declared.notes.Note.{Note}
 use Rattle.assembly.specs.Held.{stream_of}
@@ -139,6 +140,10 @@ pub record Becomes (old : Parts) (l new_l : Connection) (new : Parts) : Type 0 w
   pub given : new.given ≡ old.given
   pub sessions : (d : ℕ) → session_of (connection_in new.connections d) ≡ with_one (λ c. session_of (connection_in old.connections c)) l.number new_l.session d
   pub wires : (d : ℕ) → wire_of (connection_in new.connections d) ≡ with_one (λ c. wire_of (connection_in old.connections c)) l.number (wire_of (Some new_l)) d
+
+-- if no message was in a queue when a reload was done, none is, or can come by dead-lettering, where a guarantee forbids it
+abbrev pub IsSafeUnlessReloaded : World → Type 0
+IsSafeUnlessReloaded w = NoneSurvived w.state.broker → AreSafe w.config.topology w.config.guarantees w.state.broker
 
 -- The next command or fault of connection `c` was performed, and certified delivery's promises hold of what happened.
 pub record IsTurn (old : World) (c : ℕ) (notes : List Note) (new : World) : Type 0 where

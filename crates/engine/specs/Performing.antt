@@ -13,6 +13,8 @@ use Rattle.model.specs.declared.events.Send.{Send}
 use Rattle.model.specs.declared.events.Event.{Event}
 use Rattle.model.specs.declared.events.Event.TheVariants.{First, Command, TooLarge, Fault, Pause, Resume}
 use Rattle.model.specs.declared.notes.Note.{Note}
+use Rattle.broker.specs.Turns.{WithTurn, topology_kept, broker_of}
+use Rattle.replies.specs.declared.steps.Step.{Step}
 
 -- an event that a connection's bytes can ask for: the first eight bytes, a command or a fault of the stream
 abbrev pub IsAskedBy : ℕ → Event → Type 0
@@ -35,6 +37,10 @@ pub record Rules : Type 0 where
 -- the rules of topology `t` and `users`
 abbrev pub rules_of : Topology → List User → Rules
 rules_of t users = record { topology = t; users = users }
+
+-- what is in force: the topology that the broker runs, and `users`
+abbrev pub rules_in : WithTurn → List User → Rules
+rules_in b users = rules_of (topology_kept b) users
 
 -- what a phase other than Running answers to an event that the connection's bytes ask for
 abbrev pub IsAnswerTo : List User → Phase → Session → Event → Move → Type 0
@@ -62,6 +68,15 @@ pub record ByPhase (users : List User) (c : ℕ) (p : Phase) (b : Broker) (s : S
 abbrev pub DecidesByPhase : ℕ → Phase → Rules → Broker → Session → Event → List Send → List Note → Broker → Session → Type 0
 DecidesByPhase c phase.Running r b s e sends notes new_b new_s = ByBroker r.topology b s e sends notes new_b new_s
 DecidesByPhase c p r b s e sends notes new_b new_s = ByPhase r.users c p b s e sends notes new_b new_s
+
+-- `ByPhase`, with the session's phase and with the sends and notes of `step`
+abbrev pub AnswersByPhase : List User → ℕ → WithTurn → Session → Event → Step → WithTurn → Session → Type 0
+AnswersByPhase users c b s e step new_b new_s = ByPhase users c s.phase (broker_of b) s e step.sends.items step.notes.items (broker_of new_b) new_s
+
+-- `DecidesByPhase`, with the session's phase, by the rules in force, and with the sends and notes of `step`
+abbrev pub PerformsByPhase : List User → ℕ → WithTurn → Session → Event → Step → WithTurn → Session → Type 0
+PerformsByPhase users c b s e step new_b new_s =
+    DecidesByPhase c s.phase (rules_in b users) (broker_of b) s e step.sends.items step.notes.items (broker_of new_b) new_s
 
 -- the broker pauses connection c
 pub record IsPause (t : Topology) (c : ℕ) (b new : Broker) : Type 0 where

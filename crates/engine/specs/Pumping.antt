@@ -1,5 +1,5 @@
 -- The effects of a delivery on the broker and on one connection.
-use Rattle.std.specs.Prelude.{◌≡◌, ◌≤◌, ◌<◌, ◌++◌, ℕ, List, length, false, get_or, set}
+use Rattle.std.specs.Prelude.{◌≡◌, ◌≤◌, ◌<◌, ◌++◌, ℕ, List, Option, length, false, get_or, set, MatchOption}
 use Rattle.std.specs.List.{AllByRecursion}
 use Rattle.model.specs.Topology.{Topology}
 use Rattle.model.specs.Broker.{Broker}
@@ -9,6 +9,9 @@ use Rattle.model.specs.Arrivals.{World, Delivers, is_past_bound}
 use Rattle.model.specs.Headline.{KeepsEvents}
 use Rattle.model.specs.declared.events.Send.{Send}
 use Rattle.model.specs.declared.notes.Note.{Note}
+use Rattle.runs.specs.Opened.{Idles}
+use Rattle.runs.specs.declared.delivered.Delivered.{Delivered}
+use Rattle.broker.specs.Turns.{WithTurn, topology_kept, broker_of}
 use Rattle.commands.specs.Picked.{DeliversTo}
 use Rattle.commands.specs.declared.picks.Pick.{Pick}
 use Rattle.engine.specs.Performing.{PausesOr}
@@ -27,6 +30,10 @@ pub record ConnectionPumped (t : Topology) (b : Broker) (to : Pick) (old : Conne
   pub spelled : AllByRecursion (IsSpelled old.session.frame_max) sends
   pub put : new.output.bytes ≡ old.output.bytes ++ spelling old.session.frame_max sends
   pub pauses : PausesOr t to.connection false (is_past_bound new.output.bytes) mid new_b
+
+-- `ConnectionPumped`, from the broker `b` with its turns to `new_b`
+abbrev pub PumpsConnection : WithTurn → Pick → Connection → List Note → WithTurn → Connection → Type 0
+PumpsConnection b to old notes new_b new = ConnectionPumped (topology_kept b) (broker_of b) to old notes (broker_of new_b) new
 
 -- ---- the connections
 
@@ -66,3 +73,7 @@ pub record IsPump (old : World) (connection : ℕ) (notes : List Note) (new : Wo
 pub record IsPumpTo (old : World) (to : Pick) (notes : List Note) (new : World) : Type 0 where
   pub pump : IsPump old to.connection notes new
   pub given : DeliversTo old.state.broker to pump.delivers.puts.h.sends pump.delivers.puts.h.notes pump.delivers.puts.h.after.broker
+
+-- a delivery was made, to the connection and with the notes that `did` has (`IsPump`), or none can be made
+abbrev pub PumpsOrIdles : World → Option Delivered → World → Type 0
+PumpsOrIdles old did new = MatchOption did (Idles old new) (λ d. IsPump old d.connection d.notes.items new)

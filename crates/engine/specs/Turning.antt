@@ -8,12 +8,13 @@ use Rattle.model.specs.Spelling.{receiver, spelling, IsSpelled}
 use Rattle.model.specs.Arrivals.{Reads, SameToCome, IsSaid, is_ended, is_past_bound, under_session}
 use Rattle.model.specs.declared.events.Send.{Send}
 use Rattle.model.specs.declared.events.Event.{Event}
+use Rattle.model.specs.declared.messages.User.{User}
 use Rattle.model.specs.declared.notes.Note.{Note}
 use Rattle.broker.specs.Turns.{WithTurn, broker_of}
 use Rattle.broker.specs.Waiting.{NobodyIsPutBack}
 use Rattle.assembly.specs.Held.{stream_of}
 use Rattle.outputs.specs.Waiting.{HoldsNone}
-use Rattle.engine.specs.Performing.{Rules, DecidesByPhase, PausesOr}
+use Rattle.engine.specs.Performing.{Rules, DecidesByPhase, PausesOr, rules_in}
 use Rattle.engine.specs.Reading.{kept_of, kept_for, to_read}
 use Rattle.engine.specs.declared.connection.Connection.{Connection}
 use Rattle.engine.specs.declared.turning.Turn.{Turn}
@@ -106,6 +107,10 @@ ConnectionTook r b old (turn.Did notes) new_b new = (is_ended old.session.phase 
 ConnectionTook r b old turn.Idle new_b new = (is_ended old.session.phase ≡ false) × ConnectionIdle b old new_b new
 ConnectionTook r b old turn.Paused new_b new = (is_ended old.session.phase ≡ false) × (is_past_bound old.output.bytes ≡ true) × ConnectionSame b old new_b new
 ConnectionTook r b old turn.Over new_b new = (is_ended old.session.phase ≡ true) × ConnectionSame b old new_b new
+
+-- `ConnectionTook`, by the rules in force, from the broker `b` with its turns to `new_b`
+abbrev pub TakesTurn : List User → WithTurn → Connection → Turn → WithTurn → Connection → Type 0
+TakesTurn users b old what new_b new = ConnectionTook (rules_in b users) (broker_of b) old what (broker_of new_b) new
 
 -- `P` holds if nothing was left to perform
 abbrev pub OnIdle : Turn → Type 0 → Type 0

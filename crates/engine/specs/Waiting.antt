@@ -1,5 +1,5 @@
 -- No consumer starves: what an engine's calls do to consumers that wait, and to their order in each queue (own).
-use Rattle.std.specs.Prelude.{◌≡◌, ℕ, List, Some, None}
+use Rattle.std.specs.Prelude.{◌≡◌, ℕ, List, Option, Some, None, MatchOption}
 use Rattle.model.specs.Commands.{Stream}
 use Rattle.model.specs.Arrivals.{Wire, Reads}
 use Rattle.model.specs.declared.events.Event.{Event}
@@ -8,6 +8,7 @@ use Rattle.commands.specs.Picked.{IsPick}
 use Rattle.commands.specs.declared.picks.Pick.{Pick}
 use Rattle.broker.specs.Turns.{WithTurn, topology_kept, broker_of}
 use Rattle.broker.specs.Waiting.{NobodyIsPutBack, NoneIsLater, LinesStay, IsPickedInTurn, ServesSoon}
+use Rattle.runs.specs.declared.delivered.Delivered.{Delivered}
 use Rattle.engine.specs.Pumping.{IsPumpTo}
 use Rattle.engine.specs.World.{Parts, world_of}
 use Rattle.engine.specs.declared.turning.Turn.{Turn}
@@ -68,3 +69,7 @@ pub record PicksNobody (old new : WithTurn) : Type 0 where
   pub turn : new.turn ≡ None
   pub kept : new.kept ≡ old.kept
   pub lines : LinesStay old new
+
+-- a consumer was served in its turn, on the connection and with the notes that `did` has (`ServesOne`), or no consumer is picked
+abbrev pub ServesOrPicksNobody : Parts → Option Delivered → Parts → Type 0
+ServesOrPicksNobody old did new = MatchOption did (PicksNobody old.broker new.broker) (λ d. ServesOne old d.connection d.notes.items new)

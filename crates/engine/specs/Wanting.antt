@@ -45,6 +45,10 @@ AreWithin room sends = (max : ℕ) → 4096 ≤ max → length (spelling max sen
 abbrev pub KeepsLarge : Room → List ℕ → SpareCounts → SpareCounts → Type 0
 KeepsLarge wanted bytes old new = wanted ≡ room.Reply → bytes ≡ [] → 3 < new.contents → old.contents ≤ new.contents
 
+-- `KeepsLarge` with the room that the event's sends need, unless the event is a command with a content
+abbrev pub KeepsLargeFor : Event → List ℕ → SpareCounts → SpareCounts → Type 0
+KeepsLargeFor e bytes old new = brings_message e ≡ false → KeepsLarge (room_wanted e) bytes old new
+
 -- How many unread bytes may be read with memory of the reserve after this event: none after a publish, what two reads of a socket give after
 -- an ack, nack or reject, and otherwise more than a login has (own).
 abbrev pub allowance_after : Event → ℕ

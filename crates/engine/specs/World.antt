@@ -25,6 +25,16 @@ pub record Parts : Type 0 where
   -- in ascending order of their numbers
   pub connections : List Connection
 
+-- the parts of an engine with this broker, these guarantees and users, this last number given and these connections
+abbrev pub parts_of : broker.WithTurn → List Guarantee → List User → ℕ → List Connection → Parts
+parts_of b guarantees users given connections = record {
+  broker = b;
+  guarantees = guarantees;
+  users = users;
+  given = given;
+  connections = connections;
+}
+
 -- the connection with number `c`
 abbrev pub connection_in : List Connection → ℕ → Option Connection
 connection_in [] c = None

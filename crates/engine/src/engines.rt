@@ -3,17 +3,17 @@
 mod obstacles;
 mod putting;
 
-ghost use Rattle.std.specs.Prelude.{◌≡◌, ◌<◌, ℕ, length, true, IfOk, IsOk, OnErr, OnOk, MatchOption, vec_len, vec_capacity};
+ghost use Rattle.std.specs.Prelude.{◌≡◌, ◌<◌, ℕ, length, true, IfOk, IsOk, OnErr, OnOk, vec_len, vec_capacity};
 ghost use Rattle.model.specs.Arrivals.{Same, Waits, new_world, is_over, is_awake};
 ghost use Rattle.model.specs.Consuming.{CanDeliver};
 ghost use Rattle.model.specs.Headline.{IsSound};
-ghost use Rattle.model.specs.Tracing.{AreKept, AreSafe, NoneSurvived};
-ghost use Rattle.runs.specs.Opened.{runs, Hears, Idles, TakesAway, IsLost};
+ghost use Rattle.model.specs.Tracing.{AreKept};
+ghost use Rattle.runs.specs.Opened.{runs, Hears, TakesAway, IsLost};
 ghost use Rattle.engine.specs.World.{world_of};
 ghost use Rattle.engine.specs.Reading.{HasMore};
-ghost use Rattle.engine.specs.Engines.{Turned, OnDid, left_in, room_for};
-ghost use Rattle.engine.specs.Pumping.{IsPump};
-ghost use Rattle.engine.specs.Waiting.{KeepsTurns, TurnLeaves, ServesOne, PicksOne, PicksNobody};
+ghost use Rattle.engine.specs.Engines.{Turned, IsSafeUnlessReloaded, OnDid, left_in, room_for};
+ghost use Rattle.engine.specs.Pumping.{PumpsOrIdles};
+ghost use Rattle.engine.specs.Waiting.{KeepsTurns, TurnLeaves, PicksOne, ServesOrPicksNobody};
 ghost use Rattle.engine.specs.Opening.{Numbers, OpenedNew, OpenedReady};
 ghost use Rattle.engine.specs.InForce.{in_force};
 
@@ -95,25 +95,13 @@ impl Drop for Engine {
 }
 
 impl Model for Engine {
-    ghost use Rattle.engine.specs.World.{Parts, IsEngine};
+    ghost use Rattle.engine.specs.World.{Parts, IsEngine, parts_of};
 
     ghost Value = { Parts };
 
-    ghost view = { λ e. record {
-      broker = e.broker;
-      guarantees = e.guarantees.items;
-      users = e.users.items;
-      given = e.given;
-      connections = e.connections.items;
-    } };
+    ghost view = { λ e. parts_of e.broker e.guarantees.items e.users.items e.given e.connections.items };
 
-    ghost invariant = { λ e. IsEngine (record {
-      broker = e.broker;
-      guarantees = e.guarantees.items;
-      users = e.users.items;
-      given = e.given;
-      connections = e.connections.items;
-    }) };
+    ghost invariant = { λ e. IsEngine (parts_of e.broker e.guarantees.items e.users.items e.given e.connections.items) };
 }
 
 impl Engine {
@@ -236,11 +224,9 @@ impl Engine {
     /// it still can take a message.
     pub fn pump(&mut self, alloc: Global) -> Result<Option<Delivered>, AllocError>
         // One delivery that keeps certified delivery's promises, or none if none can be made.
-        ensures ok { IfOk result (λ did. MatchOption did (Idles (world_of self.old) (world_of self.new))
-            (λ d. IsPump (world_of self.old) d.connection d.notes.items (world_of self.new))) }
+        ensures ok { IfOk result (λ did. PumpsOrIdles (world_of self.old) did (world_of self.new)) }
         // The delivery goes to the consumer whose turn it is, and no other that waits is put back.
-        ensures in_turn { IfOk result (λ did. MatchOption did (PicksNobody self.old.broker self.new.broker)
-            (λ d. ServesOne self.old d.connection d.notes.items self.new)) }
+        ensures in_turn { IfOk result (λ did. ServesOrPicksNobody self.old did self.new) }
         // A failure delivers nothing, leaves the picked consumer picked, and occurs only if a delivery can be made.
         ensures err { OnErr result (Same (world_of self.old) (world_of self.new)) }
         ensures picked { OnErr result (PicksOne self.old.broker self.new.broker) }
@@ -339,8 +325,7 @@ impl Engine {
     /// message is in a queue that is forbidden to it.
     pub fn ghost_is_safe(&self)
         ensures kept { AreKept (world_of self.now).config (world_of self.now).state.broker }
-        ensures safe { NoneSurvived (world_of self.now).state.broker
-            → AreSafe (world_of self.now).config.topology (world_of self.now).config.guarantees (world_of self.now).state.broker }
+        ensures safe { IsSafeUnlessReloaded (world_of self.now) }
     {
         // Borrowing a field brings the invariant of an engine into scope.
         let _connections = &self.connections;

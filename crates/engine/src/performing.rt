@@ -8,7 +8,7 @@ ghost use Rattle.model.specs.Arrivals.{IsSaid};
 ghost use Rattle.model.specs.Sending.{AreCarried, AreOwn};
 ghost use Rattle.broker.specs.Turns.{topology_kept, broker_of};
 ghost use Rattle.broker.specs.Waiting.{NobodyIsPutBack, NoneIsLater};
-ghost use Rattle.engine.specs.Performing.{IsAskedBy, session_after, rules_of, IsAnswerTo, ByPhase, DecidesByPhase, PausesOr};
+ghost use Rattle.engine.specs.Performing.{IsAskedBy, session_after, AnswersByPhase, IsAnswerTo, PausesOr, PerformsByPhase};
 ghost use Rattle.engine.specs.Wanting.{brings_message as brings, AreWithin, room_wanted};
 ghost use Rattle.outputs.specs.Storages.{IsReleased, IsWhole};
 
@@ -39,8 +39,7 @@ fn sends_of(
     event: &Event,
 ) -> Result<Vec<Send>, AllocError>
     requires { IsAskedBy c event.now }
-    ensures answered { IfOk result (λ sends. IsAnswerTo users.now session.old.phase session.old event.now
-        (record { sends = sends.items; next = session.new })) }
+    ensures answered { IfOk result (λ s. IsAnswerTo users.now session.old.phase session.old event.now (record { sends = s.items; next = session.new })) }
     ensures own { IfOk result (λ sends. AreOwn c sends.items) }
 {
     match event {
@@ -82,8 +81,7 @@ pub(crate) fn by_phase(
 ) -> Result<Step, AllocError>
     requires asked { IsAskedBy c event.now }
     // The promise: what the phase answers, all of it for this connection.
-    ensures ok { IfOk result (λ d. ByPhase users.now c session.old.phase (broker_of broker.old)
-        session.old event.now d.sends.items d.notes.items (broker_of broker.new) session.new) }
+    ensures ok { IfOk result (λ d. AnswersByPhase users.now c broker.old session.old event.now d broker.new session.new) }
     ensures own { IfOk result (λ d. AreOwn c d.sends.items) }
     // A failure changes nothing.
     ensures broker_kept { OnErr result (broker.new ≡ broker.old) }
@@ -120,8 +118,7 @@ pub(crate) fn perform(
     requires said { IsSaid event.now }
     requires carried { AreCarried (broker_of broker.old) }
     // The promise: the model's step for this phase, whose sends all go to this connection.
-    ensures ok { IfOk result (λ d. DecidesByPhase c session.old.phase (rules_of (topology_kept broker.old) users.now)
-        (broker_of broker.old) session.old event.now d.sends.items d.notes.items (broker_of broker.new) session.new) }
+    ensures ok { IfOk result (λ d. PerformsByPhase users.now c broker.old session.old event.now d broker.new session.new) }
     ensures own { IfOk result (λ d. AreOwn c d.sends.items) }
     ensures size { IfOk result (λ d. AreWithin (room_wanted event.now) d.sends.items) }
     // A failure changes nothing.

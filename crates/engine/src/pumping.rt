@@ -6,7 +6,7 @@ ghost use Rattle.model.specs.Sending.{AreCarried};
 ghost use Rattle.broker.specs.Turns.{topology_kept, broker_of};
 ghost use Rattle.broker.specs.Waiting.{NoneIsLater, ServesSoon};
 ghost use Rattle.commands.specs.Picked.{IsPick};
-ghost use Rattle.engine.specs.Pumping.{ConnectionPumped};
+ghost use Rattle.engine.specs.Pumping.{PumpsConnection};
 ghost use Rattle.outputs.specs.Waiting.{HoldsNone};
 
 use crate::connection::Connection;
@@ -32,8 +32,7 @@ pub(crate) fn pump_connection(
     requires carried { AreCarried (broker_of broker.old) }
     requires named { AreNamed (topology_kept broker.old) (broker_of broker.old) }
     // The promise: this delivery is made, and its frames are appended to the connection's output.
-    ensures ok { IfOk result (λ notes. ConnectionPumped (topology_kept broker.old) (broker_of broker.old)
-        pick connection.old notes.items (broker_of broker.new) connection.new) }
+    ensures ok { IfOk result (λ notes. PumpsConnection broker.old pick connection.old notes.items broker.new connection.new) }
     ensures rest { connection.new ≡ record connection.old { output = connection.new.output } }
     // A failure delivers nothing.
     ensures broker_kept { OnErr result (broker.new ≡ broker.old) }

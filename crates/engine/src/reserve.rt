@@ -5,19 +5,17 @@
 //! within its allowance: so publishers that keep sending don't take the memory that others need to empty their queues.
 
 ghost use Rattle.std.specs.Prelude.{◌≡◌, ◌≤◌, ◌<◌, ◌+◌, if◌then◌else◌, [], None, IsOk, IfOk, OnOk, OnErr, length, true, false};
-ghost use Rattle.model.specs.Arrivals.{IsSaid};
 ghost use Rattle.model.specs.Commands.{heard};
-ghost use Rattle.model.specs.Naming.{AreNamed};
-ghost use Rattle.model.specs.Sending.{AreCarried, AreOwn};
+ghost use Rattle.model.specs.Sending.{AreOwn};
 ghost use Rattle.model.specs.Step.{Acts};
 ghost use Rattle.assembly.specs.Held.{stream_of};
 ghost use Rattle.assembly.specs.Onward.{YieldsNext, broken_by};
-ghost use Rattle.broker.specs.Turns.{topology_kept, broker_of};
+ghost use Rattle.broker.specs.Turns.{topology_kept, broker_of, AddressesTo};
 ghost use Rattle.broker.specs.Waiting.{NobodyIsPutBack, NoneIsLater, ServesSoon};
 ghost use Rattle.commands.specs.Judged.{IsAsked};
 ghost use Rattle.commands.specs.Picked.{IsPick, DeliversTo};
-ghost use Rattle.replies.specs.Sent.{AreAddressed, connection_of_event};
-ghost use Rattle.engine.specs.Performing.{IsAskedBy, ByPhase};
+ghost use Rattle.commands.specs.Steps.{AddressesOwn};
+ghost use Rattle.engine.specs.Performing.{AnswersByPhase, IsAskedBy};
 ghost use Rattle.engine.specs.Wanting.{brings_message as brings, allowance_after as allowed, room_wanted as wants, KeepsLarge};
 ghost use Rattle.outputs.specs.Storages.{IsReleased, IsWhole, room_of, spare_for};
 ghost use Rattle.outputs.specs.declared.room.Room.TheVariants as room;
@@ -143,19 +141,12 @@ pub(crate) fn next(
 {
     let unread = stream.unread();
     match stream.next() {
-        Err(Fault::Memory) if unread <= allowance => next_again(spares, stream),
+        Err(Fault::Memory) if unread <= allowance => {
+            spares.release();
+            stream.next()
+        }
         next => next,
     }
-}
-
-/// Frees the reserve, and reads the next command of `stream` again. Not inlined, so that only one copy of the reader is on the usual path.
-#[inline(never)]
-fn next_again(spares: &mut Spares, stream: &mut Stream) -> Result<Option<Command>, Fault>
-    ensures yields { YieldsNext (stream_of stream.old) result (stream_of stream.new) }
-    ensures keeps { stream.new.fault ≡ broken_by result }
-{
-    spares.release();
-    stream.next()
 }
 
 /// Returns what `event` needs room for: a content for a get, a publish that may be returned and a delivery, a reply for any other.
@@ -221,8 +212,7 @@ pub(crate) fn pump(
     requires { IsPick (broker_of broker.old) pick }
     // The promise: this delivery, whose send goes to the consumer's connection.
     ensures ok { IfOk result (λ s. DeliversTo (broker_of broker.old) pick s.sends.items s.notes.items (broker_of broker.new)) }
-    ensures addressed { IfOk result (λ s. AreCarried (broker_of broker.old)
-        → AreNamed (topology_kept broker.old) (broker_of broker.old) → AreAddressed pick.connection s.sends.items) }
+    ensures addressed { IfOk result (λ s. AddressesTo broker.old pick.connection s.sends.items) }
     // The turn is over, no consumer is put back, and those that wait were passed over by few deliveries.
     ensures over { OnOk result (broker.new.turn ≡ None) }
     ensures later { OnOk result (NoneIsLater broker.old broker.new) }
@@ -252,7 +242,7 @@ pub(crate) fn step(
     requires asked { IsAsked event.now }
     // The promise: the model's step, whose sends go to the event's connection.
     ensures ok { IfOk result (λ s. Acts (topology_kept broker.old) (broker_of broker.old) event.now s.sends.items s.notes.items (broker_of broker.new)) }
-    ensures addressed { IfOk result (λ s. IsSaid event.now → AreCarried (broker_of broker.old) → AreAddressed (connection_of_event event.now) s.sends.items) }
+    ensures addressed { IfOk result (λ s. AddressesOwn (broker_of broker.old) event.now s.sends.items) }
     // The frame: the topology and the picked consumer are unchanged, and no consumer is put back.
     ensures topology { topology_kept broker.new ≡ topology_kept broker.old }
     ensures turn { broker.new.turn ≡ broker.old.turn }
@@ -274,7 +264,6 @@ pub(crate) fn step(
 
 /// Answers an event of the connection `c`, which does not run, if necessary with the memory of the reserve. If that fails, nothing has
 /// changed, and the reserve was freed. A command with a content leaves the reserve alone.
-#[inline(never)]
 pub(crate) fn by_phase(
     c: u64,
     alloc: Global,
@@ -286,8 +275,7 @@ pub(crate) fn by_phase(
 ) -> Result<Step, AllocError>
     requires asked { IsAskedBy c event.now }
     // The promise: what the phase answers, all of it for this connection.
-    ensures ok { IfOk result (λ d. ByPhase users.now c session.old.phase (broker_of broker.old)
-        session.old event.now d.sends.items d.notes.items (broker_of broker.new) session.new) }
+    ensures ok { IfOk result (λ d. AnswersByPhase users.now c broker.old session.old event.now d broker.new session.new) }
     ensures own { IfOk result (λ d. AreOwn c d.sends.items) }
     // A failure changes neither the broker nor the session.
     ensures broker_kept { OnErr result (broker.new ≡ broker.old) }

@@ -10,9 +10,9 @@ ghost use Rattle.broker.specs.Turns.{topology_kept, broker_of};
 ghost use Rattle.broker.specs.Waiting.{NoneIsLater};
 ghost use Rattle.assembly.specs.Held.{stream_of};
 ghost use Rattle.engine.specs.Reading.{IsKeptEvent, HasMore, kept_of};
-ghost use Rattle.engine.specs.Performing.{IsAskedBy, PausesOr, rules_of};
-ghost use Rattle.engine.specs.Turning.{has_performed as performs, Performed, DidNext, ConnectionStays, ConnectionTook, ConnectionWaits, MayTurn, OnIdle};
-ghost use Rattle.engine.specs.Wanting.{brings_message as brings, allowance_after, room_wanted, KeepsLarge};
+ghost use Rattle.engine.specs.Performing.{IsAskedBy, PausesOr, rules_in};
+ghost use Rattle.engine.specs.Turning.{has_performed as performs, Performed, DidNext, ConnectionStays, ConnectionWaits, MayTurn, OnIdle, TakesTurn};
+ghost use Rattle.engine.specs.Wanting.{brings_message as brings, allowance_after, KeepsLarge, KeepsLargeFor};
 ghost use Rattle.outputs.specs.Storages.{AreAtMost, IsWhole, room_of, spare_for};
 ghost use Rattle.engine.specs.World.{wire_in};
 ghost use Rattle.engine.specs.Waiting.{TurnLeaves};
@@ -92,8 +92,7 @@ fn do_next(
     requires next { IfSome connection.old.kept (λ e. IsAskedBy connection.old.number e × IsSaid e) }
     requires carried { AreCarried (broker_of broker.old) }
     // The promise: the pending event is performed.
-    ensures ok { IfOk result (λ t. DidNext (rules_of (topology_kept broker.old) users.now) broker.old
-        connection.old connection.old.kept t broker.new connection.new) }
+    ensures ok { IfOk result (λ t. DidNext (rules_in broker.old users.now) broker.old connection.old connection.old.kept t broker.new connection.new) }
     // A failure needs a pending event, and changes nothing.
     ensures wants { OnErr result (IsSome connection.old.kept) }
     ensures broker_kept { OnErr result (broker.new ≡ broker.old) }
@@ -105,8 +104,7 @@ fn do_next(
     ensures whole { OnOk result (IfSome connection.old.kept (λ e. brings e ≡ true → IsWhole spares.new)) }
     ensures after { OnOk result (IfSome connection.old.kept (λ e. connection.new.allowance ≡ allowance_after e)) }
     ensures last { OnErr result (IfSome connection.old.kept (λ e. brings e ≡ false → AreAtMost 9 3 spares.new)) }
-    ensures large { OnOk result (IfSome connection.old.kept (λ e. brings e ≡ false
-        → KeepsLarge (room_wanted e) connection.old.output.bytes spares.old spares.new)) }
+    ensures large { OnOk result (IfSome connection.old.kept (λ e. KeepsLargeFor e connection.old.output.bytes spares.old spares.new)) }
 {
     let Some(event) = &connection.kept else {
         spares.take_back(&mut connection.output);
@@ -205,8 +203,7 @@ pub(crate) fn turn_connection(
     requires kept { IsKeptEvent connection.old.number connection.old.kept connection.old.stream.fault }
     requires carried { AreCarried (broker_of broker.old) }
     // The promise, for each result; a failure performs nothing, and comes only for a connection that is awake and has something to perform.
-    ensures ok { IfOk result (λ t. ConnectionTook (rules_of (topology_kept broker.old) users.now) (broker_of broker.old)
-        connection.old t (broker_of broker.new) connection.new) }
+    ensures ok { IfOk result (λ t. TakesTurn users.now broker.old connection.old t broker.new connection.new) }
     ensures err { OnErr result (ConnectionWaits (broker_of broker.old) connection.old (broker_of broker.new) connection.new) }
     ensures awake { OnErr result (MayTurn connection.old) }
     ensures more { OnErr result (HasMore (kept_of connection.old.kept) (stream_of connection.old.stream)) }

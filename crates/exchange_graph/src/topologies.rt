@@ -59,14 +59,13 @@ impl Drop for Topology {
 
 impl Model for Topology {
     ghost use Rattle.model.specs.Topology.{Topology as Handed};
-    ghost use Rattle.exchange_graph.specs.Built.{IsBuilt};
+    ghost use Rattle.exchange_graph.specs.Built.{IsBuilt, declared_by};
 
     ghost Value = { Handed };
 
     ghost view = { λ t. record { exchanges = t.exchanges.items; queues = t.queues.items; bindings = t.bindings.items } };
 
-    ghost invariant = { λ t. IsBuilt (record { exchanges = t.exchanges.items; queues = t.queues.items; bindings = t.bindings.items })
-        t.fans.items t.exchange_names t.queue_names };
+    ghost invariant = { λ t. IsBuilt (declared_by t.exchanges.items t.queues.items t.bindings.items) t.fans.items t.exchange_names t.queue_names };
 }
 
 /// Returns copies of the names of the exchanges at the indices `places`. Fails only if an allocation fails.

@@ -1,5 +1,5 @@
 -- What can be encoded, part by part. Source: AMQP 0-9-1, section 4.2.5.5, "Field Tables".
-use Rattle.std.specs.Prelude.{◌<◌, ◌^◌, ℕ, List, ◌∷◌, ◌++◌, length}
+use Rattle.std.specs.Prelude.{◌≡◌, ◌<◌, ◌^◌, ℕ, List, ◌∷◌, ◌++◌, Option, MatchOption, length}
 use Rattle.model.specs.Tables.{Values, Pairs, letter, content, values_bytes, pairs_bytes, IsValue, AreValues, ArePairs}
 use Rattle.field_table.specs.View.{Named}
 
@@ -21,3 +21,7 @@ pub record IsEntry (depth : ℕ) (e : Named) : Type 0 where
 -- a pair's encoding: the name's length in one byte, the name, the type letter, and the value after it
 abbrev pub entry_bytes : Named → List ℕ
 entry_bytes e = (length e.name ∷ e.name) ++ (letter e.value ∷ content e.value)
+
+-- `GivesLength Fits bytes len`: `len` is the length of the encoding `bytes` if `Fits` holds, which says that there is one, and `None` if it doesn't
+abbrev pub GivesLength : Type 0 → List ℕ → Option ℕ → Type 0
+GivesLength Fits bytes len = MatchOption len (Fits → ⊥) (λ n. Fits × (n ≡ length bytes))

@@ -1,9 +1,9 @@
 //! Computes encoded lengths, and finds out whether a value can be encoded at all.
 
-ghost use Rattle.std.specs.Prelude.{◌≡◌, ◌<◌, ◌≤◌, ◌+◌, ◌^◌, ◌∷◌, ◌++◌, length, MatchOption, IfSome};
+ghost use Rattle.std.specs.Prelude.{◌≡◌, ◌<◌, ◌≤◌, ◌+◌, ◌^◌, ◌∷◌, ◌++◌, MatchOption, IfSome};
 ghost use Rattle.model.specs.Tables.{letter, content, values_bytes, pairs_bytes, IsValue};
 ghost use Rattle.field_table.specs.View.{field_view, entry_view, array_view, pairs_view};
-ghost use Rattle.field_table.specs.Writing.{AreValuesWithin, ArePairsWithin, IsEntry, entry_bytes};
+ghost use Rattle.field_table.specs.Writing.{AreValuesWithin, ArePairsWithin, GivesLength, IsEntry, entry_bytes};
 
 use crate::fields::{Field, TableEntry};
 
@@ -13,8 +13,7 @@ const LIMIT: usize = 0x1_0000_0000;
 /// Returns the encoded length in bytes of a table's pairs, or `None` if they can't be encoded with at most `depth` levels inside.
 #[cycle(measure)]
 pub(crate) fn pairs_len(entries: &[TableEntry], depth: usize) -> Option<usize>
-    ensures cases { MatchOption result (ArePairsWithin depth (pairs_view entries.now) → ⊥)
-        (λ n. ArePairsWithin depth (pairs_view entries.now) × (n ≡ length (pairs_bytes (pairs_view entries.now)))) }
+    ensures cases { GivesLength (ArePairsWithin depth (pairs_view entries.now)) (pairs_bytes (pairs_view entries.now)) result }
     ensures bound { IfSome result (λ n. n < 2 ^ 32) }
 {
     let mut len = 0;
@@ -30,8 +29,7 @@ pub(crate) fn pairs_len(entries: &[TableEntry], depth: usize) -> Option<usize>
 /// Returns the encoded length in bytes of a name with its value, or `None` if they can't be encoded.
 #[cycle(measure)]
 fn entry_len(entry: &TableEntry, depth: usize) -> Option<usize>
-    ensures cases { MatchOption result (IsEntry depth (entry_view entry.now) → ⊥)
-        (λ n. IsEntry depth (entry_view entry.now) × (n ≡ length (entry_bytes (entry_view entry.now)))) }
+    ensures cases { GivesLength (IsEntry depth (entry_view entry.now)) (entry_bytes (entry_view entry.now)) result }
     ensures bound { IfSome result (λ n. n < 2 ^ 34) }
 {
     let name = entry.name.len();
@@ -45,8 +43,7 @@ fn entry_len(entry: &TableEntry, depth: usize) -> Option<usize>
 /// Returns the encoded length in bytes of an array's values, or `None` if they can't be encoded with at most `depth` levels inside.
 #[cycle(measure)]
 pub(crate) fn values_len(values: &[Field], depth: usize) -> Option<usize>
-    ensures cases { MatchOption result (AreValuesWithin depth (array_view values.now) → ⊥)
-        (λ n. AreValuesWithin depth (array_view values.now) × (n ≡ length (values_bytes (array_view values.now)))) }
+    ensures cases { GivesLength (AreValuesWithin depth (array_view values.now)) (values_bytes (array_view values.now)) result }
     ensures bound { IfSome result (λ n. n < 2 ^ 32) }
 {
     let mut len = 0;
@@ -62,9 +59,7 @@ pub(crate) fn values_len(values: &[Field], depth: usize) -> Option<usize>
 /// Returns the encoded length in bytes of a value with its type letter, or `None` if it can't be encoded.
 #[cycle(measure)]
 fn field_len(field: &Field, depth: usize) -> Option<usize>
-    ensures cases { MatchOption result (IsValue depth (field_view field.now) → ⊥)
-        (λ n. IsValue depth (field_view field.now)
-        × (n ≡ length (letter (field_view field.now) ∷ content (field_view field.now)))) }
+    ensures cases { GivesLength (IsValue depth (field_view field.now)) (letter (field_view field.now) ∷ content (field_view field.now)) result }
     ensures bound { IfSome result (λ n. n < 2 ^ 33) }
 {
     match field {

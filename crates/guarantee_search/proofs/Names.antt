@@ -8,7 +8,7 @@ pub use Rattle.certificate_laws.proofs.Certificates.{letter_of, named_from, name
 pub use Rattle.certificate_laws.proofs.Onces.{from_map, in_map, once_from}
 pub use Rattle.guarantee_search.specs.Spellings.{IsFilled, IsNoDot, SpellsLetters, followed_by, spelled_key}
 pub use Rattle.guarantee_search.specs.Walked.{AreSorted, AreTried, IsWalkOf, first_form, indices_from, slice_form}
-pub use Rattle.model.specs.Certificates.{Accepts, AreChosen, AreIndices, Ascend, Certificate, Excepting, Form, IsDropped, IsGoodState, IsShort, IsZeroFirst, LeadsIn, Sliced, Suits, Whole, at_indices, mode_name}
+pub use Rattle.model.specs.Certificates.{Accepts, AreChosen, AreIndices, Ascend, Certificate, Excepting, Form, IsDropped, IsGoodState, IsShort, IsZeroFirst, LeadsIn, Sliced, Suits, Whole, at_indices}
 pub use Rattle.model.specs.Guarantee.{CoversKey, Guarantee, Keeps}
 pub use Rattle.model.specs.Positions.{FitsEach, IsStartState, IsStateOf, IsStepOf, Letter, Named, Other, RepresentsWord, RecordsMatches, has_bit, letters, named_words, word_of}
 pub use Rattle.model.specs.Refutations.{Breaks, Refutation, Refutes}

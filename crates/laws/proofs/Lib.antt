@@ -1,5 +1,4 @@
 pub mod Names
-pub mod Joins
 pub mod Counts
 pub mod Keys
 pub mod Leaving

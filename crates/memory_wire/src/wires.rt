@@ -1,16 +1,14 @@
 //! The wire in memory, and serving over it.
 
-ghost use Rattle.std.specs.Prelude.{◌≡◌, ◌≤◌, ◌<◌, [], true, false, ℕ, List, length, nat_lt, Some, is_some};
+ghost use Rattle.std.specs.Prelude.{◌≡◌, ◌≤◌, ◌<◌, [], false, ℕ, List, length, nat_lt, Some, is_some};
 ghost use Rattle.serving.specs.Wire.{is_failed};
 ghost use Rattle.serving.specs.Answered.{accept_call, read_call, write_call};
 ghost use Rattle.serving.specs.declared.wire.Accept.TheVariants as accept;
 ghost use Rattle.serving.specs.declared.wire.Read.TheVariants as read;
 ghost use Rattle.serving.specs.declared.wire.Write.TheVariants as write;
-ghost use Rattle.model.specs.Arrivals.{new_world};
-ghost use Rattle.model.specs.State.{Config};
 ghost use Rattle.serving.specs.Story.{served};
 ghost use Rattle.memory_wire.specs.Logs.{logged_calls};
-ghost use Rattle.memory_wire.specs.Served.{LogsBytes};
+ghost use Rattle.memory_wire.specs.Served.{LogsFromNew};
 
 use crate::clients::Client;
 use crate::logs::{Log, Logged, logged_accept, logged_read, logged_write};
@@ -139,9 +137,7 @@ pub fn serve_in_memory<M: Machine>(
     turns: u64,
 ) -> bool
     ensures whole { result ≡ is_some (logged_calls wire.new.log) }
-    ensures logs { (f : Config) → M.world server.old.machine ≡ new_world f → server.old.peers ≡ []
-        → logged_calls wire.old.log ≡ Some [] → result ≡ true
-        → LogsBytes M.lacks f (logged_calls wire.new.log) (M.world server.new.machine) }
+    ensures logs { LogsFromNew M.lacks M.world server.old wire.old.log server.new wire.new.log result }
 {
     ghost_new_is_served(server, wire);
     serve(alloc, server, wire, turns);

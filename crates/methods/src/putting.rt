@@ -1,9 +1,10 @@
 //! Computes the encoded length of arguments, and appends them.
 
-ghost use Rattle.std.specs.Prelude.{◌≡◌, ◌+◌, ◌≤◌, ◌<◌, ◌^◌, [], ◌∷◌, ◌++◌, length, vec_len, vec_capacity, MatchOption, IfSome};
+ghost use Rattle.std.specs.Prelude.{◌≡◌, ◌+◌, ◌≤◌, ◌<◌, ◌^◌, [], ◌∷◌, ◌++◌, length, vec_len, vec_capacity, IfSome};
 ghost use Rattle.model.specs.Grammar.{octet as octet_of};
 ghost use Rattle.model.specs.Headers.{value_of, IsValue};
 ghost use Rattle.model.specs.Tables.{with_length};
+ghost use Rattle.field_table.specs.Writing.{GivesLength};
 ghost use Rattle.methods.specs.Pieces.{piece_seen};
 ghost use Rattle.methods.specs.Putting.{pieces_bytes, AreSpelled};
 
@@ -12,7 +13,7 @@ use field_table::{is_table, put_bytes};
 
 /// Returns the encoded length of `pieces` in bytes, or `None` if a text is too long or the pairs of a table aren't pairs.
 pub fn pieces_len(pieces: &Pieces<'_>) -> Option<usize>
-    ensures cases { MatchOption result (AreSpelled pieces.now → ⊥) (λ n. AreSpelled pieces.now × (n ≡ length (pieces_bytes pieces.now))) }
+    ensures cases { GivesLength (AreSpelled pieces.now) (pieces_bytes pieces.now) result }
     ensures bound { IfSome result (λ n. n < 2 ^ 36) }
 {
     let first = piece_len(&pieces.first)?;
@@ -25,8 +26,7 @@ pub fn pieces_len(pieces: &Pieces<'_>) -> Option<usize>
 
 // Returns the encoded length of `piece` in bytes, or `None` if it can't be encoded.
 fn piece_len(piece: &Piece<'_>) -> Option<usize>
-    ensures cases { MatchOption result (IsValue (piece_seen piece.now) → ⊥)
-        (λ n. IsValue (piece_seen piece.now) × (n ≡ length (value_of (piece_seen piece.now)))) }
+    ensures cases { GivesLength (IsValue (piece_seen piece.now)) (value_of (piece_seen piece.now)) result }
     ensures bound { IfSome result (λ n. n < 2 ^ 33) }
 {
     match piece {

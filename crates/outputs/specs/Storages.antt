@@ -1,6 +1,7 @@
 -- How much an output may have to hold, and which storages wait for outputs (own). Start with `SpareCounts`.
 use Rattle.std.specs.Prelude.{◌≡◌, ◌≢◌, ◌≤◌, ◌+◌, ◌-◌, ◌==◌, if◌then◌else◌, ℕ, List, length}
 use Rattle.model.specs.Sending.{most_sent}
+use Rattle.outputs.specs.Waiting.{WaitingBytes}
 use Rattle.outputs.specs.declared.room.Room.{Room}
 use Rattle.outputs.specs.declared.room.Room.TheVariants.{Reply, Content}
 
@@ -81,6 +82,10 @@ pub record TakesIn (bytes : ℕ) (old new : SpareCounts) : Type 0 where
   pub reply : bytes ≡ storage_of Reply → ComesBack old.replies new.replies × (new.contents ≡ old.contents)
   pub content : bytes ≡ storage_of Content → ComesBack old.contents new.contents × (new.replies ≡ old.replies)
   pub other : bytes ≢ storage_of Reply → bytes ≢ storage_of Content → new ≡ old
+
+-- The bytes of the output move to a storage with room for `wanted`: one was given out, if one was spare, and that of the output came back.
+abbrev pub MovesBytes : Room → WaitingBytes → SpareCounts → SpareCounts → Type 0
+MovesBytes wanted output old new = TakesIn output.storage (without_one (kind_for wanted output.bytes) old) new
 
 -- ---- one storage, and those of one size
 

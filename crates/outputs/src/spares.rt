@@ -1,7 +1,7 @@
 //! Storages that no output holds: the reserve, and those of outputs that were emptied, for the next outputs that get bytes.
 
 ghost use Rattle.std.specs.Prelude.{◌≡◌, ◌≢◌, ◌≤◌, ◌<◌, ◌+◌, [], length, vec_capacity, IfOk, IsOk, OnOk, OnErr};
-ghost use Rattle.outputs.specs.Storages.{IsReleased, IsWhole, TakesIn, kind_for, room_of, spare_for, storage_of, without_one};
+ghost use Rattle.outputs.specs.Storages.{IsReleased, IsWhole, MovesBytes, TakesIn, room_of, spare_for, storage_of, without_one};
 ghost use Rattle.outputs.specs.Waiting.{HoldsNone};
 
 use crate::Output;
@@ -83,8 +83,7 @@ impl Spares {
         ensures err { OnErr result ((output.new ≡ output.old) × (self.new ≡ self.old)) }
         // The spare storages: one is given out before a new one is allocated, and the smaller one comes back.
         ensures spent { output.old.storage ≡ 0 → self.new ≡ without_one wanted self.old }
-        ensures back { output.old.room < room_of wanted → length output.old.bytes ≤ 65536
-            → OnOk result (TakesIn output.old.storage (without_one (kind_for wanted output.old.bytes) self.old) self.new) }
+        ensures back { output.old.room < room_of wanted → length output.old.bytes ≤ 65536 → OnOk result (MovesBytes wanted output.old self.old self.new) }
         ensures grows { 65536 < length output.old.bytes → self.new ≡ self.old }
     {
         if output.room() >= wanted.bytes() {

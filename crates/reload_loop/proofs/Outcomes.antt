@@ -2,7 +2,7 @@
 use Rattle.reload_loop.proofs.Imports.{◌≡◌, Bool, false, Decides, Option, Some, None, refl, subst, sym, Ok, Err, Text, Config, World, Same, engine_lacks, Known, Holds, Absent, Unknown, AreKept, HasText, FileNames, OutputStream, change, Found, Snap, AllRead, AreHeld, AreSame, IsHeld, IsReadFrom, IsSameText, IsSlotOf, WasRead, IsFaultReported, IsFound, IsFoundAgain, IsOffered, IsWhyNotPut, JudgesOffer, Looks, WasFound, done, refused, stopped, wanting}
 use Rattle.std.proofs.Common.{true}
 use Rattle.std.specs.Io.KnownBytes.{Keeps}
-use Rattle.runs.specs.Reloaded.{IsPutInForce, ReportsReload, IsMemory, wanting as wanting_is}
+use Rattle.runs.specs.Reloaded.{IsPutInForce}
 use Rattle.model.specs.declared.obstacles.Obstacle.{Obstacle}
 use Rattle.model.specs.declared.obstacles.Obstacle.TheVariants as obstacle
 use Rattle.runs.specs.Faults.{obstacle_in}
@@ -110,14 +110,7 @@ pub judged_look : (holds : Text → Known) (names : FileNames) (err : OutputStre
     → JudgesOffer w force (Err fault) → IsFaultReported err fault whole → Looks holds names err kept w kept w whole
 judged_look holds names err kept read w force fault whole from f judged report = fault_look holds names err kept read w w force fault whole from f judged (same_world w) report
 
--- and where it was tried
-not_put : (a b : World) (force : Config) (fault : ReloadFault) → ReportsReload a force (Err fault) b → (IsMemory (Err fault) → engine_lacks a (To_reload force)) → IsWhyNotPut a force (obstacle_in fault) × Same a b
-not_put a b force (InUse q) t wants = t
-not_put a b force (Breaks q key number) t wants = t
-not_put a b force Memory t wants = (wants wanting_is, t)
-
-pub tried_look : (holds : Text → Known) (names : FileNames) (err : OutputStream) (kept read : Snap) (a b : World) (force : Config) (fault : ReloadFault) (whole : Bool) → IsReadFrom holds names read → IsOffered names kept read force
-    → ReportsReload a force (Err fault) b → (IsMemory (Err fault) → engine_lacks a (To_reload force)) → IsFaultReported err fault whole → Looks holds names err kept a kept b whole
-tried_look holds names err kept read a b force fault whole from f t wants report =
-    let n = not_put a b force fault t wants in
-    fault_look holds names err kept read a b force fault whole from f n.0 n.1 report
+-- and where an allocation failed
+pub unput_look : (holds : Text → Known) (names : FileNames) (err : OutputStream) (kept read : Snap) (a b : World) (force : Config) (whole : Bool) → IsReadFrom holds names read → IsOffered names kept read force
+    → engine_lacks a (To_reload force) → Same a b → IsFaultReported err Memory whole → Looks holds names err kept a kept b whole
+unput_look holds names err kept read a b force whole from f lacks same report = fault_look holds names err kept read a b force Memory whole from f lacks same report

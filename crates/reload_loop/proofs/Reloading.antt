@@ -1,9 +1,12 @@
 -- What comes of serving with looks at the files.
-use Rattle.reload_loop.proofs.Imports.{◌≡◌, ℕ, Bool, List, [], Option, Some, ap, subst, asked_once, Text, Config, new_world, engine_lacks, Known, AreKept, FileNames, Served, IsServed, OutputStream, change, Snap, IsReadFrom, known_in, ServesOn, BetweenRounds, between_rounds, AsksToServe, IsEvery, IsNotServe, ServesReloading}
+use Rattle.reload_loop.proofs.Imports.{◌≡◌, ℕ, Bool, List, [], Option, Some, None, ap, subst, sym, asked_once, Text, Config, new_world, engine_lacks, Known, AreKept, FileNames, Served, IsServed, OutputStream, change, Snap, IsReadFrom, known_in, ServesOn, BetweenRounds, between_rounds, AsksToServe, IsEvery, IsNotServe, ServesReloading, reloading}
 use Rattle.std.proofs.Common.{true}
 use Rattle.command_line.specs.CommandLine.{Wanted, Serve, AsksFor}
 use Rattle.serving.specs.Wire.{Traffic}
 use Rattle.server.specs.Clients.{Begins, IsTurns, Openings}
+use Rattle.server.specs.Streams.{status_after}
+use Rattle.std.specs.Prelude.{IfNone, IfSome, option_map}
+use Rattle.reload_loop.specs.Program.{ReloadsEnd}
 use Rattle.reload_loop.proofs.Outcomes.{same_holds}
 
 -- a broker that was just started by what was read, and then this number of rounds
@@ -28,6 +31,15 @@ serves_reloading holds names turns every may out before said after first last st
   serves = subst (λ (v : Served). ServesOn holds names step count (between_rounds v first said true) (between_rounds end last after whole)) b.is serves;
   kept = subst (λ (t : Traffic). IsServed engine_lacks b.force t end) (ap (λ (v : Served). v.traffic) b.is) (kept b.force (ap (λ (v : Served). v.world) b.is) (ap (λ (v : Served). v.peers) b.is));
 }
+
+-- what is said of a service that was returned, and what if none was, is how `serve --reload` ends
+pub reload_ends : {S : Type 0} (holds : Text → Known) (names : FileNames) (turns : Option Text) (every : Text) (Unasked : Type 0) (may : Openings) (out err : OutputStream) (state_of : S → Served) (service : Option S) (status : ℕ)
+    → IfNone service (ReloadsEnd holds names turns every Unasked may out err None status)
+    → IfSome service (λ s. (whole : Bool) × ServesReloading holds names turns every may out err (state_of s) whole × (status ≡ status_after whole 0))
+    → ReloadsEnd holds names turns every Unasked may out err (option_map state_of service) status
+reload_ends holds names turns every Unasked may out err state_of None status none some = none
+reload_ends holds names turns every Unasked may out err state_of (Some s) status none some =
+    subst (λ (n : ℕ). ReloadsEnd holds names turns every Unasked may out err (Some (state_of s)) n) (sym some.2) (reloading some.1)
 
 -- what is done over files that were kept is done over the files before
 pub serves_kept : (a b : Text → Known) (names : FileNames) (every turns : ℕ) (old new : BetweenRounds) → AreKept a b → ServesOn b names every turns old new → ServesOn a names every turns old new

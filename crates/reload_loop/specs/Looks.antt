@@ -3,22 +3,25 @@ use Rattle.std.specs.Prelude.{◌≡◌, ◌++◌, Bool, true, Option, Some, Non
 use Rattle.model.specs.Words.{Text}
 use Rattle.model.specs.State.{Config}
 use Rattle.model.specs.Arrivals.{World, Same}
-use Rattle.model.specs.Reloading.{IsObstacle, HasNoObstacle}
+use Rattle.model.specs.Reloading.{IsObstacle}
 use Rattle.model.specs.declared.obstacles.Obstacle.{Obstacle}
-use Rattle.runs.specs.Reloaded.{IsPutInForce}
+use Rattle.runs.specs.Reloaded.{IsPutInForce, NothingHinders}
 use Rattle.runs.specs.Faults.{obstacle_in}
 use Rattle.runs.specs.Wants.{To_reload}
 use Rattle.engine.specs.Wanting.{engine_lacks}
 use Rattle.runs.specs.declared.faults.ReloadFault.{ReloadFault}
+use Rattle.engine.specs.World.{Parts, world_of}
+use Rattle.serving.specs.Serving.{Serving}
 use Rattle.server.specs.Files.{Known}
 use Rattle.scripts.specs.FileNames.{FileNames}
 use Rattle.scripts.specs.Transcript.{obstacle_line}
 use Rattle.server.specs.declared.refusals.CommandRefusal.{CommandRefusal}
-use Rattle.server.specs.Program.{FailsOver, IsInForceBy, WritesLine, out_of_memory, refusal_line}
+use Rattle.server.specs.Program.{FailsBy, IsInForceBy, WritesLine, out_of_memory, refusal_line}
 use Rattle.server.specs.Streams.{OutputStream, GetsNothing, PutsOut}
 use Rattle.reload_loop.specs.declared.found.Found.{Found}
 use Rattle.reload_loop.specs.declared.found.Found.TheVariants.{Nothing, Refused, Admitted}
-use Rattle.reload_loop.specs.Snapshots.{Snap, AreHeld, IsOther, IsReadFrom, known_in}
+use Rattle.reload_loop.specs.declared.snapshots.Names.{Names}
+use Rattle.reload_loop.specs.Snapshots.{Snap, AreHeld, IsOther, IsReadFrom, known_in, names_of}
 
 -- the line that reports an obstacle: `warren: ` and the line of the note
 abbrev pub obstacle_message : Obstacle → Text
@@ -39,7 +42,7 @@ IsStated names read force = IsInForceBy (known_in names read) names force
 
 -- by the texts that were read, `file` names the file or certificate that is refused, and `why` is the reason
 abbrev pub IsWhyRefused : FileNames → Snap → Text → CommandRefusal → Type 0
-IsWhyRefused names read file why = FailsOver (known_in names read) (Some names.definitions) (Some names.guarantees) (Some names.certificates) file why
+IsWhyRefused names read file why = FailsBy (known_in names read) names file why
 
 -- A file or a certificate is refused, by the texts that were read, and the refusal is reported: its whole line, or else a prefix of it.
 pub record IsRefused (names : FileNames) (read : Snap) (err : OutputStream) (whole : Bool) : Type 0 where
@@ -87,7 +90,7 @@ IsWhyNotPut old offered None = engine_lacks old (To_reload offered)
 
 -- there is no obstacle to `offered`, or the result says why it is not put in force
 abbrev pub JudgesOffer : World → Config → Result Unit ReloadFault → Type 0
-JudgesOffer old offered (Ok x) = HasNoObstacle old.config.topology offered old.state.broker
+JudgesOffer old offered (Ok x) = NothingHinders old offered
 JudgesOffer old offered (Err fault) = IsWhyNotPut old offered (obstacle_in fault)
 
 -- ---- a look
@@ -114,3 +117,20 @@ pub data Looks (holds : Text → Known) (names : FileNames) (err : OutputStream)
       → IsReadFrom holds names read → IsOther read kept → IsStated names read force
       → engine_lacks old (To_reload force) → Same old new
       → PutsOut err out_of_memory whole → Looks holds names err kept old kept new whole
+
+-- ---- a look, by the server whose broker it reloads
+
+-- a look at the files `names`, which leads from the texts `kept` and the server `old` to `kept'` and `new`
+abbrev pub LooksFrom : (Text → Known) → Names → OutputStream → Snap → Serving Parts → Snap → Serving Parts → Bool → Type 0
+LooksFrom holds names err kept old kept' new whole = Looks holds (names_of names) err kept (world_of old.machine) kept' (world_of new.machine) whole
+
+-- a look at any files in which it finds `found`
+abbrev pub ActsOnFound : Found → OutputStream → Snap → Serving Parts → Snap → Serving Parts → Bool → Type 0
+ActsOnFound found err kept old kept' new whole = (holds : Text → Known) (names : FileNames) → IsFound holds names kept found
+    → Looks holds names err kept (world_of old.machine) kept' (world_of new.machine) whole
+
+-- a look at any files from which `read` was read, and by which it offers `force`
+abbrev pub PutsOffer : Snap → Config → OutputStream → Snap → Serving Parts → Snap → Serving Parts → Bool → Type 0
+PutsOffer read force err kept old kept' new whole = (holds : Text → Known) (names : FileNames)
+    → IsReadFrom holds names read → IsOffered names kept read force
+    → Looks holds names err kept (world_of old.machine) kept' (world_of new.machine) whole

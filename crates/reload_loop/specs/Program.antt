@@ -1,5 +1,5 @@
 -- The program that serves through sockets, and may read its files again while it serves (own).
-use Rattle.std.specs.Prelude.{◌≡◌, ◌<◌, ◌≤◌, ◌^◌, ℕ, Bool, true, List, [], Option, Some, None, ⊤}
+use Rattle.std.specs.Prelude.{◌≡◌, ◌<◌, ◌≤◌, ◌^◌, ℕ, Bool, true, List, [], Option, Some, None, IfSome, IfNone, ⊤}
 use Rattle.std.specs.Str.Parse.{IsNumeral, digits_value, without_leading_plus}
 use Rattle.model.specs.Words.{Text}
 use Rattle.model.specs.State.{Config}
@@ -12,10 +12,12 @@ use Rattle.command_line.specs.CommandLine.{Wanted, Check, Verify, Replay, Serve,
 use Rattle.server.specs.Files.{Known, AreKept}
 use Rattle.server.specs.Stated.{file_named}
 use Rattle.scripts.specs.FileNames.{FileNames}
-use Rattle.server.specs.Streams.{OutputStream, TriesPut, change, status_after}
+use Rattle.server.specs.Streams.{OutputStream, TriesPut, change, gain, status_after}
+use Rattle.server.specs.declared.clients.Ended.{Ended}
 use Rattle.server.specs.declared.clients.ServeArguments.{ServeArguments}
 use Rattle.server.specs.Program.{IsInForceBy, RunsAs, out_of_memory}
-use Rattle.server.specs.Clients.{CanCome, EndsUnserved, IsTurns, Openings, ServeEnds}
+use Rattle.server.specs.Clients.{CanCome, EndsUnserved, IsTurns, Openings, ServeEnds, service_state}
+use Rattle.reload_loop.specs.declared.program.ReloadArguments.{ReloadArguments}
 use Rattle.reload_loop.specs.Snapshots.{Snap, IsReadFrom, known_in}
 use Rattle.reload_loop.specs.ServesOn.{ServesOn, between_rounds}
 
@@ -77,6 +79,30 @@ pub data ReloadsEnd (holds : Text → Known) (names : FileNames) (turns : Option
       → ReloadsEnd holds names turns every Unasked may out err None status
   reloading : {end : Served} {whole : Bool} → ServesReloading holds names turns every may out err end whole
       → ReloadsEnd holds names turns every Unasked may out err (Some end) (status_after whole 0)
+
+-- the names of the files of `serve --reload`
+abbrev pub names_reloaded : ReloadArguments → FileNames
+names_reloaded asked = names_in asked.arguments
+
+-- the outcomes that opening sockets for `serve --reload` may have; `listens` says what a listener does with an address
+abbrev pub openings_for : {L : Type 0} → (L → Text → Openings) → L → ReloadArguments → Openings
+openings_for listens listener asked = listens listener asked.arguments.listen.now
+
+-- If a service is returned, clients were served as `asked`, with looks at the files, and the status says whether each line of a look was taken whole.
+-- A function before one state or two says what is known in it: of files, of a listener, of standard output, of standard error, and of sockets.
+abbrev pub ReloadSome : {F L O E W : Type 0} → (F → Text → Known) → F → ReloadArguments → (L → Text → Openings) → L
+    → (O → Option Text) → O → O → (E → Option Text) → E → E → (W → Traffic) → Ended W → Type 0
+ReloadSome holds files asked listens listener sees out out' reads err err' past ended = IfSome ended.service (λ service.
+    (whole : Bool) × ServesReloading (holds files) (names_reloaded asked) (file_named asked.arguments.turns) asked.every.now
+    (openings_for listens listener asked) (gain sees out out') (gain reads err err') (service_state past service) whole
+    × (ended.status ≡ status_after whole 0))
+
+-- if no service is returned, no client was served
+abbrev pub ReloadNone : {F L O E W : Type 0} → (F → Text → Known) → F → ReloadArguments → (L → Text → Openings) → L → L
+    → (O → Option Text) → O → O → (E → Option Text) → E → E → Ended W → Type 0
+ReloadNone holds files asked listens listener listener' sees out out' reads err err' ended = IfNone ended.service (
+    ReloadsEnd (holds files) (names_reloaded asked) (file_named asked.arguments.turns) asked.every.now (listener' ≡ listener)
+    (openings_for listens listener asked) (gain sees out out') (gain reads err err') None ended.status)
 
 -- How a call ends that can open sockets; `may` has the outcomes that opening them at an address may have, and `Unasked` says that none were asked for.
 pub data RunsWithSockets (words : List Text) (before after : Text → Known) (Unasked : Type 0)

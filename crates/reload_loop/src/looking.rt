@@ -1,18 +1,15 @@
 //! One look at the files.
 
 ghost use Rattle.std.specs.Prelude.{◌≡◌, is_ok, true, MatchResult};
-ghost use Rattle.model.specs.State.{Config};
 ghost use Rattle.engine.specs.World.{world_of};
 ghost use Rattle.engine.specs.Wanting.{engine_lacks};
-ghost use Rattle.model.specs.Words.{Text};
-ghost use Rattle.server.specs.Files.{AreKept, Known};
+ghost use Rattle.runs.specs.Reloaded.{NothingHinders};
 ghost use Rattle.scripts.specs.FileNames.{FileNames};
-ghost use Rattle.serving.specs.Wire as wire;
-ghost use Rattle.serving.specs.Story.{served};
-ghost use Rattle.serving.specs.Whole.{IsServed};
-ghost use Rattle.server.specs.Streams.{change};
-ghost use Rattle.reload_loop.specs.Snapshots.{IsReadFrom, names_of};
-ghost use Rattle.reload_loop.specs.Looks.{IsFound, IsFoundAgain, IsOffered, IsStated, IsWhyRefused, JudgesOffer, Looks, WasFound};
+ghost use Rattle.server.specs.Files.{AreKept};
+ghost use Rattle.serving.specs.Whole.{KeepsServed};
+ghost use Rattle.server.specs.Streams.{gain};
+ghost use Rattle.reload_loop.specs.Snapshots.{names_of};
+ghost use Rattle.reload_loop.specs.Looks.{ActsOnFound, IsFound, IsFoundAgain, IsStated, IsWhyRefused, JudgesOffer, LooksFrom, PutsOffer, WasFound};
 
 use crate::found::Found;
 use crate::reporting::put_fault;
@@ -21,7 +18,7 @@ use engine::{Engine, Setup};
 use runs::ReloadFault;
 use server::{BrokerFiles, CommandRefusal, Files, Report, in_force, put_refusal};
 use serving::Server;
-use std::alloc::Global;
+use std::alloc::{AllocError, Global};
 use std::io::Write;
 use std::{io, mem};
 
@@ -112,7 +109,8 @@ fn judge(alloc: Global, engine: &Engine, setup: &Setup) -> Result<(), ReloadFaul
     Ok(())
 }
 
-/// Puts `setup` in force, and keeps `read`, by which it was judged. If it can't, writes one line to `err` and changes nothing else.
+/// Puts `setup` in force, to which there is no obstacle, and keeps `read`, by which it was judged. If an allocation fails, writes one line to `err` and
+/// changes nothing else.
 fn put_in_force<E: Write>(
     alloc: Global,
     server: &mut Server<Engine>,
@@ -121,20 +119,17 @@ fn put_in_force<E: Write>(
     setup: Setup,
     err: &mut E,
 ) -> io::Result<()>
-    ensures looks { (holds : Text → Known) (names : FileNames) → IsReadFrom holds names read → IsOffered names kept.old read setup
-        → Looks holds names (change (E.contents err.old) (E.contents err.new)) kept.old
-        (world_of server.old.machine) kept.new (world_of server.new.machine) (is_ok result) }
+    requires nothing { NothingHinders (world_of server.old.machine) setup }
+    ensures looks { PutsOffer read setup (gain E.contents err.old err.new) kept.old server.old kept.new server.new (is_ok result) }
     ensures peers { server.new.peers ≡ server.old.peers }
-    ensures served { (f : Config) (traffic now : wire.Traffic)
-        → IsServed engine_lacks f traffic (served (world_of server.old.machine) server.old.peers now)
-        → IsServed engine_lacks f traffic (served (world_of server.new.machine) server.new.peers now) }
+    ensures served { KeepsServed engine_lacks world_of server.old server.new }
 {
-    match server.reload(alloc, setup) {
+    match server.put_in_force(alloc, setup) {
         Ok(()) => {
             *kept = read;
             Ok(())
         }
-        Err(fault) => put_fault(alloc, err, fault),
+        Err(AllocError) => put_fault(alloc, err, ReloadFault::Memory),
     }
 }
 
@@ -147,14 +142,10 @@ fn act<'a, E: Write>(
     found: &mut Found<'a>,
     err: &mut E,
 ) -> io::Result<()>
-    ensures looks { (holds : Text → Known) (names : FileNames) → IsFound holds names kept.old found.old
-        → Looks holds names (change (E.contents err.old) (E.contents err.new)) kept.old
-        (world_of server.old.machine) kept.new (world_of server.new.machine) (is_ok result) }
+    ensures looks { ActsOnFound found.old (gain E.contents err.old err.new) kept.old server.old kept.new server.new (is_ok result) }
     ensures found { (names : FileNames) → WasFound names kept.old found.old → WasFound names kept.new found.new }
     ensures peers { server.new.peers ≡ server.old.peers }
-    ensures served { (f : Config) (traffic now : wire.Traffic)
-        → IsServed engine_lacks f traffic (served (world_of server.old.machine) server.old.peers now)
-        → IsServed engine_lacks f traffic (served (world_of server.new.machine) server.new.peers now) }
+    ensures served { KeepsServed engine_lacks world_of server.old server.new }
 {
     match mem::replace(found, Found::Nothing) {
         Found::Nothing => Ok(()),
@@ -188,15 +179,11 @@ pub(crate) fn look<'a, F: Files, E: Write>(
 ) -> io::Result<()>
     requires { WasFound (names_of names) kept.old found.old }
     // The promise: what a look does.
-    ensures looks { Looks (F.holds files.old) (names_of names.entry)
-        (change (E.contents err.old) (E.contents err.new)) kept.old (world_of server.old.machine)
-        kept.new (world_of server.new.machine) (is_ok result) }
+    ensures looks { LooksFrom (F.holds files.old) names.entry (gain E.contents err.old err.new) kept.old server.old kept.new server.new (is_ok result) }
     // What is remembered; the peers and the files are unchanged, and `IsServed` is kept.
     ensures found { WasFound (names_of names.entry) kept.new found.new }
     ensures peers { server.new.peers ≡ server.old.peers }
-    ensures served { (f : Config) (traffic now : wire.Traffic)
-        → IsServed engine_lacks f traffic (served (world_of server.old.machine) server.old.peers now)
-        → IsServed engine_lacks f traffic (served (world_of server.new.machine) server.new.peers now) }
+    ensures served { KeepsServed engine_lacks world_of server.old server.new }
     ensures files { AreKept (F.holds files.old) (F.holds files.new) }
 {
     find_again(alloc, names, &*kept, found, files);

@@ -2,12 +2,11 @@
 
 ghost use Rattle.std.specs.Prelude.{◌≡◌, None, option_map, IfSome, map};
 ghost use Rattle.command_line.specs.CommandLine.{wanted_of};
-ghost use Rattle.engine.specs.World.{world_of};
 ghost use Rattle.server.specs.Files.{AreKept};
 ghost use Rattle.server.specs.Stated.{file_named};
-ghost use Rattle.serving.specs.Story.{served};
-ghost use Rattle.server.specs.Streams.{change, status_after};
-ghost use Rattle.reload_loop.specs.Program.{IsEvery, IsNotServe, ReloadsEnd, RunsWithSockets, asked_by, names_in};
+ghost use Rattle.server.specs.Clients.{service_state};
+ghost use Rattle.server.specs.Streams.{gain, status_after};
+ghost use Rattle.reload_loop.specs.Program.{IsEvery, IsNotServe, ReloadNone, ReloadSome, RunsWithSockets, asked_by};
 
 use crate::serving_on::serve_and_reload;
 use crate::snapshots::{Names, Reading, Snapshot};
@@ -27,6 +26,14 @@ struct AskedToServe<'a> {
     arguments: ServeArguments<'a>,
     /// The number of rounds between two looks at the files, if they are looked at.
     every: Option<&'a str>,
+}
+
+/// The arguments of `serve` with `--reload`.
+#[derive(Clone, Copy, Drop)]
+struct ReloadArguments<'a> {
+    arguments: ServeArguments<'a>,
+    /// The number of rounds between two looks at the files, as text.
+    every: &'a str,
 }
 
 /// Returns the arguments of `serve`, if `asked` is that command.
@@ -80,20 +87,17 @@ fn status_of(whole: bool) -> u8
 /// status is 4 if standard error did not take each line whole.
 fn serve_reloading<L: Listener, F: Files, O: Write, E: Write>(
     alloc: Global,
-    arguments: ServeArguments<'_>,
-    every: &str,
+    asked: ReloadArguments<'_>,
     listener: &mut L,
     files: &mut F,
     out: &mut O,
     err: &mut E,
 ) -> Ended<L::Sockets>
-    ensures ends { ReloadsEnd (F.holds files.old) (names_in arguments.entry) (file_named arguments.entry.turns)
-        every.now (listener.new ≡ listener.old) (L.listens listener.old arguments.entry.listen.now)
-        (change (O.contents out.old) (O.contents out.new)) (change (E.contents err.old) (E.contents err.new))
-        (option_map (λ s. served (world_of s.server.machine) s.server.peers (L.Sockets.past s.sockets))
-        result.service) result.status }
+    ensures some { ReloadSome F.holds files.old asked.entry L.listens listener.old O.contents out.old out.new E.contents err.old err.new L.Sockets.past result }
+    ensures none { ReloadNone F.holds files.old asked.entry L.listens listener.old listener.new O.contents out.old out.new E.contents err.old err.new result }
     ensures files { AreKept (F.holds files.old) (F.holds files.new) }
 {
+    let ReloadArguments { arguments, every } = asked;
     let names = Names {
         definitions: arguments.definitions,
         guarantees: arguments.guarantees,
@@ -144,10 +148,8 @@ pub fn program_with_sockets<S: AsStr, L: Listener, F: Files, O: Write, E: Write>
     err: &mut E,
 ) -> Ended<L::Sockets>
     ensures { RunsWithSockets (map S.text words.now) (F.holds files.old) (F.holds files.new)
-        (listener.new ≡ listener.old) (L.listens listener.old) (change (O.contents out.old) (O.contents out.new))
-        (change (E.contents err.old) (E.contents err.new))
-        (option_map (λ s. served (world_of s.server.machine) s.server.peers (L.Sockets.past s.sockets))
-        result.service) result.status }
+        (listener.new ≡ listener.old) (L.listens listener.old) (gain O.contents out.old out.new) (gain E.contents err.old err.new)
+        (option_map (service_state L.Sockets.past) result.service) result.status }
 {
     let asked = match command(alloc, words) {
         Ok(asked) => asked,
@@ -158,7 +160,10 @@ pub fn program_with_sockets<S: AsStr, L: Listener, F: Files, O: Write, E: Write>
         None => return Ended::without_clients(answer_asked(alloc, asked, files, out, err)),
     };
     match every {
-        Some(every) => serve_reloading(alloc, arguments, every, listener, files, out, err),
+        Some(every) => {
+            let asked = ReloadArguments { arguments, every };
+            serve_reloading(alloc, asked, listener, files, out, err)
+        }
         None => serve_clients(alloc, arguments, listener, files, out, err),
     }
 }

@@ -1,13 +1,11 @@
 //! Serves, with looks at the files between rounds.
 
-ghost use Rattle.std.specs.Prelude.{◌≡◌, ◌≤◌, true};
-ghost use Rattle.model.specs.State.{Config};
+ghost use Rattle.std.specs.Prelude.{◌≤◌, true};
 ghost use Rattle.engine.specs.World.{world_of};
 ghost use Rattle.engine.specs.Wanting.{engine_lacks};
 ghost use Rattle.server.specs.Files.{AreKept};
-ghost use Rattle.serving.specs.Wire.{Traffic};
-ghost use Rattle.serving.specs.Story.{served};
-ghost use Rattle.serving.specs.Whole.{IsServed};
+ghost use Rattle.serving.specs.Serving.{server_state};
+ghost use Rattle.serving.specs.Whole.{StaysServed};
 ghost use Rattle.reload_loop.specs.Snapshots.{names_of};
 ghost use Rattle.reload_loop.specs.ServesOn.{ServesOn, between_rounds};
 
@@ -39,14 +37,10 @@ pub fn serve_and_reload<W: Wire, F: Files, E: Write>(
 ) -> bool
     requires { 1 ≤ every }
     ensures serves { ServesOn (F.holds files.old) (names_of names.entry) every turns
-        (between_rounds (served (world_of server.old.machine) server.old.peers (W.past sockets.old))
-        kept.old (E.contents err.old) true)
-        (between_rounds (served (world_of server.new.machine) server.new.peers (W.past sockets.new))
-        kept.new (E.contents err.new) result) }
+        (between_rounds (server_state world_of W.past server.old sockets.old) kept.old (E.contents err.old) true)
+        (between_rounds (server_state world_of W.past server.new sockets.new) kept.new (E.contents err.new) result) }
     // `IsServed` is kept: it has all that arrived since the server was new, reloads included, and certified delivery's promises of it.
-    ensures served { (f : Config) (traffic : Traffic)
-        → IsServed engine_lacks f traffic (served (world_of server.old.machine) server.old.peers (W.past sockets.old))
-        → IsServed engine_lacks f traffic (served (world_of server.new.machine) server.new.peers (W.past sockets.new)) }
+    ensures served { StaysServed engine_lacks (server_state world_of W.past server.old sockets.old) (server_state world_of W.past server.new sockets.new) }
     ensures files { AreKept (F.holds files.old) (F.holds files.new) }
 {
     let mut found = Found::Nothing;

@@ -1,7 +1,7 @@
 //! The three files of a broker, as they were read.
 
-ghost use Rattle.std.specs.Prelude.{◌≡◌, Decides, MatchResult, true};
-ghost use Rattle.server.specs.Files.{AreKept, IsFileRead, IsUnread};
+ghost use Rattle.std.specs.Prelude.{◌≡◌, Decides, true};
+ghost use Rattle.server.specs.Files.{AreKept, GivesBytes};
 ghost use Rattle.reload_loop.specs.Snapshots.{AllRead, AreHeld, AreSame, IsReadFrom, IsSameText, IsSlotOf, known_in, known_of, names_of};
 
 use model::limits;
@@ -96,9 +96,7 @@ impl Snapshot {
 
     /// Returns a copy of the bytes of the file `name`, which is one of the three.
     fn copy_of(&self, alloc: Global, names: Names<'_>, name: &str) -> Result<Vec<u8>, Unread>
-        ensures { MatchResult result
-            (λ bytes. IsFileRead (known_in (names_of names.entry) self.now name.now) bytes.items)
-            (λ why. IsUnread (known_in (names_of names.entry) self.now name.now) why) }
+        ensures { GivesBytes (known_in (names_of names.entry) self.now name.now) result }
     {
         if name == names.definitions {
             return copied(alloc, &self.definitions);
@@ -149,7 +147,7 @@ fn is_found_in<F: Files>(
 
 /// Returns a copy of the bytes of one file.
 fn copied(alloc: Global, slot: &Result<Vec<u8>, Unread>) -> Result<Vec<u8>, Unread>
-    ensures { MatchResult result (λ bytes. IsFileRead (known_of slot.now) bytes.items) (λ why. IsUnread (known_of slot.now) why) }
+    ensures { GivesBytes (known_of slot.now) result }
 {
     match slot {
         Ok(bytes) => {

@@ -9,6 +9,7 @@ use Rattle.model.specs.declared.messages.Entry.{Entry}
 use Rattle.model.specs.declared.obstacles.Obstacle.TheVariants.{InUse}
 use Rattle.model.specs.declared.topologies.Mode.TheVariants.{Never}
 use Rattle.reloading.specs.First.{ReportsFirst}
+use Rattle.reloading.specs.LiveQueues.{ShowsQueues}
 use Rattle.reloading.specs.Obstacles.{ReportsQueue}
 
 -- a name of more than 22 bytes: putting it into a report may fail to allocate; a shorter one is copied without an allocation
@@ -32,3 +33,7 @@ pub record HasNever (gs : List Guarantee) : Type 0 where
   pub guarantee : Guarantee
   pub there : slice_get gs place ≡ Some guarantee
   pub never : guarantee.mode ≡ Never
+
+-- For each broker with these queues: if all that are in use are declared in the new topology, one of the guarantees is a `never`.
+abbrev pub HasNeverIfKept : Topology → (ℕ → List Entry) → (ℕ → Bool) → Topology → List Guarantee → Type 0
+HasNeverIfKept old entries consumed new gs = (b : Broker) → ShowsQueues old entries consumed b → NoneIsOrphaned old new b → HasNever gs

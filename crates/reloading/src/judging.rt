@@ -4,8 +4,7 @@ ghost use Rattle.std.specs.Prelude.{IfOk, OnErr};
 ghost use Rattle.model.specs.Broker.{Broker};
 ghost use Rattle.reloading.specs.Obstacles.{JudgesReload};
 ghost use Rattle.reloading.specs.LiveQueues.{ShowsQueues};
-ghost use Rattle.model.specs.Reloading.{NoneIsOrphaned};
-ghost use Rattle.reloading.specs.Wanting.{HasNever, MayWant};
+ghost use Rattle.reloading.specs.Wanting.{HasNeverIfKept, MayWant};
 
 use crate::breaches::first_breach;
 use crate::live_queues::LiveQueues;
@@ -31,8 +30,7 @@ pub fn obstacle<S: LiveQueues>(
     ensures reported { IfOk result (JudgesReload old.now (S.entries live.now) (S.consumed live.now) topology.now guarantees.now) }
     // When it may fail to allocate: as `MayWant` says, and, if each queue in use is still declared, only with a `never` guarantee.
     ensures wants { OnErr result ((b : Broker) → ShowsQueues old.now (S.entries live.now) (S.consumed live.now) b → MayWant old.now topology.now b) }
-    ensures never { OnErr result ((b : Broker) → ShowsQueues old.now (S.entries live.now) (S.consumed live.now) b
-        → NoneIsOrphaned old.now topology.now b → HasNever guarantees.now) }
+    ensures never { OnErr result (HasNeverIfKept old.now (S.entries live.now) (S.consumed live.now) topology.now guarantees.now) }
 {
     match first_orphaned(live, old, topology)? {
         Some(orphaned) => Ok(Some(orphaned)),

@@ -9,9 +9,13 @@ use Rattle.runs.specs.Faults.{obstacle_in}
 use Rattle.runs.specs.declared.faults.ReloadFault.{ReloadFault}
 use Rattle.runs.specs.declared.faults.ReloadFault.TheVariants.{Memory}
 
+-- There is no obstacle to putting `offered` in force.
+abbrev pub NothingHinders : World → Config → Type 0
+NothingHinders w offered = HasNoObstacle w.config.topology offered w.state.broker
+
 -- The reload was done, as there was no obstacle: `offered` is in force, each message is marked as one that the reload found, and nothing else changed.
 pub record IsPutInForce (old : World) (offered : Config) (new : World) : Type 0 where
-  pub nothing : HasNoObstacle old.config.topology offered old.state.broker
+  pub nothing : NothingHinders old offered
   pub config : new.config ≡ offered
   pub broker : Is (with_all_survived old.state.broker) new.state.broker
   pub session : (c : ℕ) → new.state.session c ≡ old.state.session c

@@ -17,12 +17,12 @@ struct Shut<'a> {
 impl<'a> Machine for Shut<'a> {
     type Setup = ();
 
-    ghost use Rattle.std.specs.Prelude.{[]};
     ghost use Rattle.model.specs.Arrivals.{new_world};
+    ghost use Rattle.scenarios.specs.Setup.{empty_config};
 
-    ghost world = { λ s. new_world (record { topology = record { exchanges = []; queues = []; bindings = [] }; guarantees = []; users = [] }) };
+    ghost world = { λ s. new_world empty_config };
 
-    ghost config = { λ u. record { topology = record { exchanges = []; queues = []; bindings = [] }; guarantees = []; users = [] } };
+    ghost config = { λ u. empty_config };
 
     ghost left = { λ s. 0 };
 
@@ -78,21 +78,23 @@ impl<'a> Machine for Shut<'a> {
     ghost use Rattle.model.specs.Headline.{IsSound};
 
     fn ghost_offers_sound(_setup: &())
-        ensures { IsSound (record { topology = record { exchanges = []; queues = []; bindings = [] }; guarantees = []; users = [] }) }
+        ensures { IsSound empty_config }
     {}
 
     ghost use Rattle.std.specs.Prelude.{◌≡◌, IfOk};
 
     fn copied(_alloc: Global, _setup: &()) -> Result<(), AllocError>
-        ensures { IfOk result (λ copy.
-            (new_world (record { topology = record { exchanges = []; queues = []; bindings = [] }; guarantees = []; users = [] })).config
-            ≡ (new_world (record { topology = record { exchanges = []; queues = []; bindings = [] }; guarantees = []; users = [] })).config) }
+        ensures { IfOk result (λ copy. (new_world empty_config).config ≡ (new_world empty_config).config) }
     {
         Ok(())
     }
 
     fn reload(&mut self, _alloc: Global, _setup: ()) -> Result<(), ReloadFault> {
         Err(ReloadFault::Memory)
+    }
+
+    fn put_in_force(&mut self, _alloc: Global, _setup: ()) -> Result<(), AllocError> {
+        Err(AllocError)
     }
 }
 

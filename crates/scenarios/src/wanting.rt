@@ -114,4 +114,8 @@ impl<'a, M: Machine> Machine for Wanting<'a, M> {
     fn reload(&mut self, alloc: Global, setup: M::Setup) -> Result<(), ReloadFault> {
         self.machine.reload(alloc, setup)
     }
+
+    fn put_in_force(&mut self, alloc: Global, setup: M::Setup) -> Result<(), AllocError> {
+        self.machine.put_in_force(alloc, setup)
+    }
 }

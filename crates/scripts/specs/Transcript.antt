@@ -67,6 +67,10 @@ abbrev pub obstacle_line : Obstacle → Text
 obstacle_line (InUse queue) = line (codes "reload refused in-use" ∷ name_word queue ∷ [])
 obstacle_line (Breaks queue key guarantee) = line (codes "reload refused breaks" ∷ name_word queue ∷ hex_word key ∷ decimal guarantee ∷ [])
 
+-- the line of a publish: its number, its connection and its channel, and then `rest`
+abbrev pub publish_line : ℕ → ℕ → ℕ → Text → Text
+publish_line n c h rest = codes "published" ++ 32 ∷ (decimal n ++ 32 ∷ (decimal c ++ 32 ∷ (decimal h ++ 32 ∷ rest)))
+
 -- the line of a note
 abbrev pub note_line : Note → Text
 note_line (Published n c h exchange key confirm) = line (codes "published" ∷ decimal n ∷ decimal c ∷ decimal h

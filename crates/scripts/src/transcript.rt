@@ -2,7 +2,7 @@
 
 ghost use Rattle.std.specs.Prelude.{◌≡◌, ◌++◌, ◌∷◌, [], codes, decimal, IfOk, string_bytes, OnErr, OnOk};
 ghost use Rattle.scripts.specs.Transcript.{hex_word, name_word, confirm_word, answer_word, way_word, cause_word, line, obstacle_line, note_line};
-ghost use Rattle.scripts.specs.Transcript.{over_line, shown_lines, shown_from, note_lines, transcript_text};
+ghost use Rattle.scripts.specs.Transcript.{over_line, publish_line, shown_lines, shown_from, note_lines, transcript_text};
 
 use model::{Answer, Cause, Note, Obstacle, Way};
 use runs::{Shown, Transcript};
@@ -90,8 +90,7 @@ fn publish_line(
     channel: u16,
     rest: &str,
 ) -> Result<String, AllocError>
-    ensures { IfOk result (λ text. string_bytes text ≡ codes "published"
-        ++ 32 ∷ (decimal number ++ 32 ∷ (decimal connection ++ 32 ∷ (decimal channel ++ 32 ∷ rest.now)))) }
+    ensures { IfOk result (λ text. string_bytes text ≡ publish_line number connection channel rest.now) }
 {
     format!(in alloc; "published {number} {connection} {channel} {rest}")
 }

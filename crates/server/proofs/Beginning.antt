@@ -7,6 +7,8 @@ use Rattle.serving.specs.Story.{Served, served}
 use Rattle.serving.specs.Rounds.{Rounds}
 use Rattle.serving.specs.Whole.{IsServed}
 use Rattle.serving.specs.declared.peers.Peer.{Peer}
+use Rattle.std.specs.Prelude.{IfNone, IfSome, option_map}
+use Rattle.server.specs.Clients.{EndsUnserved, ServeEnds}
 
 -- ---- the line
 
@@ -43,6 +45,14 @@ serves_clients holds d g c turns may out err start end count b counted turns_are
   rounds = subst (λ (v : Served). Rounds engine_lacks count v end) b.is turns_are;
   kept = subst (λ (t : Traffic). IsServed engine_lacks b.force t end) (ap (λ (v : Served). v.traffic) b.is) (kept b.force (ap (λ (v : Served). v.world) b.is) (ap (λ (v : Served). v.peers) b.is));
 }
+
+-- what is said of a service that was returned, and what if none was, is how `serve` ends
+pub serve_ends : {S : Type 0} (holds : Text → Known) (d g c : Text) (turns : Option Text) (Unasked : Type 0) (may : Openings) (out err : OutputStream) (state_of : S → Served) (service : Option S) (status : ℕ)
+    → IfNone service (EndsUnserved holds d g c Unasked may out err status)
+    → IfSome service (λ s. ServesClients holds d g c turns may out err (state_of s) × (status ≡ 0))
+    → ServeEnds holds d g c turns Unasked may out err (option_map state_of service) status
+serve_ends holds d g c turns Unasked may out err state_of None status none some = none
+serve_ends holds d g c turns Unasked may out err state_of (Some s) status none some = some
 
 -- ---- the words
 

@@ -1,5 +1,6 @@
 -- Files by name, and what a read of one returns (own).
-use Rattle.std.specs.Prelude.{◌≡◌, ◌<◌, ◌≤◌, ℕ, Bool, true, false, Option, Some, None, length, ⊤}
+use Rattle.std.specs.Prelude.{◌≡◌, ◌<◌, ◌≤◌, ℕ, Bool, true, false, Option, Some, None, Result, MatchResult, length, ⊤}
+use Rattle.std.specs.Global.{Vec}
 use Rattle.model.specs.Words.{Text}
 use Rattle.server.specs.declared.storage.Unread.{Unread}
 use Rattle.server.specs.declared.storage.Unread.TheVariants as unread
@@ -67,3 +68,7 @@ IsUnread known unread.Failed = IsUnreadable known
 IsUnread known unread.NoDescriptor = IsUnreadable known
 IsUnread known unread.TooLong = IsTooLong known
 IsUnread known unread.Memory = ⊤
+
+-- the whole text of the file, or why it could not be read
+abbrev pub GivesBytes : Known → Result (Vec ℕ) Unread → Type 0
+GivesBytes known result = MatchResult result (λ bytes. IsFileRead known bytes.items) (λ why. IsUnread known why)

@@ -2,6 +2,7 @@ pub mod Routes
 pub mod Streams
 pub mod Refusals
 pub mod Program
+pub mod Performing
 pub mod Clients
 pub mod Verdicts
 pub mod Outcomes

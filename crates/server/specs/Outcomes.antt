@@ -67,11 +67,15 @@ abbrev pub letter_word : Option Text → Text
 letter_word None = codes "other"
 letter_word (Some word) = name_word word
 
+-- the line of fault 2: the letter `word` leads from state `at` to one that is neither listed nor left out
+abbrev pub open_line : ℕ → ℕ → Option Text → Text
+open_line number at word = line (decimal number ∷ codes "fault 2 state" ∷ decimal at ∷ codes "letter" ∷ letter_word word ∷ [])
+
 -- the line of the outcome of certificate `number`
 abbrev pub outcome_line : ℕ → Outcome → Text
 outcome_line number (Ok u) = line (decimal number ∷ codes "ok" ∷ [])
 outcome_line number (Err Start) = line (decimal number ∷ codes "fault 1" ∷ [])
-outcome_line number (Err (Open at word)) = line (decimal number ∷ codes "fault 2 state" ∷ decimal at ∷ codes "letter" ∷ letter_word word ∷ [])
+outcome_line number (Err (Open at word)) = open_line number at word
 outcome_line number (Err (Missed at)) = line (decimal number ∷ codes "fault 3 state" ∷ decimal at ∷ [])
 outcome_line number (Err (Forbidden at)) = line (decimal number ∷ codes "fault 4 state" ∷ decimal at ∷ [])
 outcome_line number (Err Form) = line (decimal number ∷ codes "fault 5" ∷ [])

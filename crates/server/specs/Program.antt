@@ -350,16 +350,20 @@ pub data FailsOver (holds : Text → Known) (definitions guarantees certificates
   -- an allocation failed
   no_memory : {file : Text} → FailsOver holds definitions guarantees certificates file Memory
 
+-- why the files of a reload put nothing in force
+abbrev pub FailsBy : (Text → Known) → FileNames → Text → CommandRefusal → Type 0
+FailsBy holds names file why = FailsOver holds (Some names.definitions) (Some names.guarantees) (Some names.certificates) file why
+
 -- why an event of a script is refused: the files of its reload are refused, or an allocation failed
 abbrev pub IsWhyNotSetUp : (Text → Known) → ScriptArrival → Text → CommandRefusal → Type 0
-IsWhyNotSetUp holds (arrival.Reload names) file why = FailsOver holds (Some names.definitions) (Some names.guarantees) (Some names.certificates) file why
+IsWhyNotSetUp holds (arrival.Reload names) file why = FailsBy holds names file why
 IsWhyNotSetUp holds said file why = why ≡ Memory
 
 -- Why the events of a script are refused: the files of one reload are refused, while those of all reloads before it are accepted; or an allocation failed.
 pub data FailsToReload (holds : Text → Known) (said : List ScriptArrival) : Text → CommandRefusal → Type 0 where
   at : {file : Text} {why : CommandRefusal} (place : ℕ) (names : FileNames) (before : List (Arrival Config))
       → slice_get said place ≡ Some (arrival.Reload names)
-      → AreSetUp holds (take place said) before → FailsOver holds (Some names.definitions) (Some names.guarantees) (Some names.certificates) file why
+      → AreSetUp holds (take place said) before → FailsBy holds names file why
       → FailsToReload holds said file why
   no_room : {file : Text} → FailsToReload holds said file Memory
 

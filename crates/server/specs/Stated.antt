@@ -1,10 +1,12 @@
 -- What the files that a command names state, and why one of them is refused (own).
-use Rattle.std.specs.Prelude.{◌≡◌, ◌⊎◌, ℕ, List, [], ◌∷◌, Option, Some, None, false, Ok, Err, codes, ⊤, option_map}
+use Rattle.std.specs.Prelude.{◌≡◌, ◌⊎◌, ℕ, List, [], ◌∷◌, Option, Some, None, false, Result, Ok, Err, MatchResult, codes, ⊤, option_map}
 use Rattle.std.specs.Borrow.{Bor}
+use Rattle.std.specs.Global.{Vec}
 use Rattle.model.specs.Words.{Text}
 use Rattle.model.specs.Topology.{Topology}
 use Rattle.model.specs.Guarantee.{Guarantee}
 use Rattle.model.specs.Certificates.{Certificate}
+use Rattle.model.specs.declared.messages.User.{User}
 use Rattle.model.specs.declared.topologies.ExchangeKind.TheVariants.{Direct}
 use Rattle.model.specs.declared.topologies.Destination.TheVariants as destination
 use Rattle.json_file.specs.declared.causes.FileCause.{FileCause}
@@ -14,6 +16,8 @@ use Rattle.guarantees.specs.Reads.{AreAccepted, IsFirstAgainst}
 use Rattle.certificate.specs.Reads.{IsCertificatesFile, ReadsCertificateFile}
 use Rattle.server.specs.declared.file_refusals.FileRefusal.{FileRefusal}
 use Rattle.server.specs.declared.file_refusals.FileRefusal.TheVariants.{Refused, TooLong, Unread, NoDescriptor, Memory}
+use Rattle.server.specs.declared.file_refusals.RefusedFile.{RefusedFile}
+use Rattle.server.specs.declared.stated.Setup.{Setup}
 use Rattle.server.specs.Files.{Known, HasText, IsTooLong, IsUnreadable}
 
 -- the name of a file, if one is given
@@ -125,3 +129,40 @@ pub data FailsToSetUp (holds : Text → Known) (definitions guarantees : Option 
   -- the definitions are accepted, and the guarantees are refused
   unpromised : (stated : Stated) → StatesAt holds definitions stated
       → FailsToPromise holds guarantees stated.topology file why → FailsToSetUp holds definitions guarantees file why
+
+-- ---- results
+
+-- what the definitions of the file `name` state, or why this file is refused
+abbrev pub GivesStated : (Text → Known) → Text → Result Stated RefusedFile → Type 0
+GivesStated holds name (Ok stated) = States (holds name) stated
+GivesStated holds name (Err refused) = (refused.file.now ≡ name) × IsWhyUnstated refused.why (holds name)
+
+-- the topology and the users that the named definitions state, or why there are none
+abbrev pub GivesTopologyAt : (Text → Known) → Option Text → Result (Topology × Vec User) RefusedFile → Type 0
+GivesTopologyAt holds named result = MatchResult result
+    (λ stated. StatesAt holds named (record { topology = stated.0; users = stated.1.items }))
+    (λ refused. FailsToState holds named refused.file.now refused.why)
+
+-- the guarantees of a file for this topology, or why it is refused
+abbrev pub ReadsPromises : Known → Topology → Result (Vec Guarantee) FileRefusal → Type 0
+ReadsPromises known t result = MatchResult result (λ gs. Promises known t gs.items) (λ why. IsWhyUnpromised t why known)
+
+-- the guarantees of the named file for this topology, or why there are none
+abbrev pub GivesGuaranteesAt : (Text → Known) → Option Text → Topology → Result (Vec Guarantee) RefusedFile → Type 0
+GivesGuaranteesAt holds named t (Ok gs) = PromisesAt holds named t gs.items
+GivesGuaranteesAt holds named t (Err refused) = FailsToPromise holds named t refused.file.now refused.why
+
+-- the certificates of a file, or why it is refused
+abbrev pub ReadsCertificates : Known → Result (Vec Certificate) FileRefusal → Type 0
+ReadsCertificates known result = MatchResult result (λ cs. HoldsCertificates known cs.items) (λ why. IsWhyUncertified why known)
+
+-- the certificates of the named file, or why there are none
+abbrev pub GivesCertificatesAt : (Text → Known) → Option Text → Result (Vec Certificate) RefusedFile → Type 0
+GivesCertificatesAt holds named (Ok cs) = CertifiesAt holds named cs.items
+GivesCertificatesAt holds named (Err refused) = FailsToCertify holds named refused.file.now refused.why
+
+-- what the named definitions and guarantees state together, or why one of the two files is refused
+abbrev pub GivesSetup : (Text → Known) → Option Text → Option Text → Result Setup RefusedFile → Type 0
+GivesSetup holds definitions guarantees (Ok s) =
+    SetsUp holds definitions guarantees (record { topology = s.topology; users = s.users.items }) s.guarantees.items
+GivesSetup holds definitions guarantees (Err refused) = FailsToSetUp holds definitions guarantees refused.file.now refused.why

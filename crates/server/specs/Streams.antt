@@ -12,6 +12,10 @@ pub record OutputStream : Type 0 where
 abbrev pub change : Option Text → Option Text → OutputStream
 change before after = record { before = before; after = after }
 
+-- a stream before and after a call; `contents` says what bytes are known of it in a state, and the call leads from `old` to `new`
+abbrev pub gain : {S : Type 0} → (S → Option Text) → S → S → OutputStream
+gain contents old new = change (contents old) (contents new)
+
 -- nothing was written to the stream
 abbrev pub GetsNothing : OutputStream → Type 0
 GetsNothing s = Keeps s.before s.after

@@ -1,13 +1,13 @@
 //! The program without sockets. Start with [`program`]: it decides a command's answer first, and then prints it.
 
-ghost use Rattle.std.specs.Prelude.{◌≡◌, List, Some, map, option_map, MatchResult};
-ghost use Rattle.model.specs.Words.{Text};
+ghost use Rattle.std.specs.Prelude.{map};
 ghost use Rattle.clap.specs.Words.{kind_of};
-ghost use Rattle.command_line.specs.CommandLine.{AsksFor, Check, Route, Verify, wanted_of};
+ghost use Rattle.command_line.specs.CommandLine.{Check, wanted_of};
 ghost use Rattle.server.specs.Files.{AreKept};
-ghost use Rattle.server.specs.Stated.{FailsToState, file_named};
-ghost use Rattle.server.specs.Streams.{GetsNothing, change};
-ghost use Rattle.server.specs.Program.{AnswersBut, RunsAs, Fails, IsNotAnswered, IsRouted, IsVerified, IsWhyReported, ListsFile, PutsBoth, ShowsError};
+ghost use Rattle.server.specs.Stated.{file_named};
+ghost use Rattle.server.specs.Streams.{gain};
+ghost use Rattle.server.specs.Program.{RunsAs, ShowsError};
+ghost use Rattle.server.specs.Performing.{AnswersOrNot, AnswersOrReports, AnswersRoute, AnswersVerify, GivesRoutes, PutsAnswer, RunsAsked};
 
 use crate::file_refusals::RefusedFile;
 use crate::filing::{draft_for, write_out};
@@ -55,11 +55,7 @@ fn check<'a, F: Files>(
     out: Option<&'a str>,
     files: &mut F,
 ) -> Result<Answered<'a>, Report<'a>>
-    ensures { MatchResult result
-        (λ a. AnswersBut (F.holds files.old) (F.holds files.new)
-        (Check definitions.now guarantees.now (file_named out.entry)) a.output.text.items a.output.status a.unwritten)
-        (λ report. IsNotAnswered (F.holds files.old) (F.holds files.new)
-        (Check definitions.now guarantees.now (file_named out.entry)) report.file.now report.why) }
+    ensures { AnswersOrNot (F.holds files.old) (F.holds files.new) (Check definitions.now guarantees.now (file_named out.entry)) result }
 {
     let setup = match set_up(alloc, Some(definitions), Some(guarantees), files) {
         Ok(setup) => setup,
@@ -87,10 +83,7 @@ fn verify_files<'a, F: Files>(
     certificates: &'a str,
     files: &mut F,
 ) -> Result<Output, Report<'a>>
-    ensures answers { MatchResult result
-        (λ o. IsVerified (F.holds files.old) definitions.now guarantees.now certificates.now o.text.items o.status)
-        (λ report. Fails (F.holds files.old) (Verify definitions.now guarantees.now certificates.now)
-        report.file.now report.why) }
+    ensures answers { AnswersVerify (F.holds files.old) definitions.now guarantees.now certificates.now result }
     ensures files { AreKept (F.holds files.old) (F.holds files.new) }
 {
     let setup = match set_up(alloc, Some(definitions), Some(guarantees), files) {
@@ -121,9 +114,7 @@ fn routed_file<'a, F: Files>(
     key: &str,
     files: &mut F,
 ) -> Result<Option<Vec<u8>>, RefusedFile<'a>>
-    ensures lists { MatchResult result
-        (λ listed. ListsFile (F.holds files.old file.now) exchange.now key.now (option_map (λ t. t.items) listed))
-        (λ refused. FailsToState (F.holds files.old) (Some file.now) refused.file.now refused.why) }
+    ensures lists { GivesRoutes (F.holds files.old) file.now exchange.now key.now result }
     ensures files { AreKept (F.holds files.old) (F.holds files.new) }
 {
     let definitions = match definitions_of(alloc, file, files) {
@@ -149,9 +140,7 @@ fn route<'a, F: Files>(
     key: &str,
     files: &mut F,
 ) -> Result<Output, Report<'a>>
-    ensures answers { MatchResult result
-        (λ o. IsRouted (F.holds files.old) definitions.now exchange.now key.now o.text.items o.status)
-        (λ report. Fails (F.holds files.old) (Route definitions.now exchange.now key.now) report.file.now report.why) }
+    ensures answers { AnswersRoute (F.holds files.old) definitions.now exchange.now key.now result }
     ensures files { AreKept (F.holds files.old) (F.holds files.new) }
 {
     match routed_file(alloc, definitions, exchange, key, files) {
@@ -172,12 +161,7 @@ fn answer<'a, F: Files, E: Write>(
     files: &mut F,
     err: &mut E,
 ) -> Result<Answered<'a>, u8>
-    ensures { MatchResult result
-        (λ a. AnswersBut (F.holds files.old) (F.holds files.new) (wanted_of asked.entry)
-        a.output.text.items a.output.status a.unwritten
-        × GetsNothing (change (E.contents err.old) (E.contents err.new)))
-        (λ status. IsWhyReported (F.holds files.old) (F.holds files.new) (wanted_of asked.entry)
-        (change (E.contents err.old) (E.contents err.new)) status) }
+    ensures { AnswersOrReports (F.holds files.old) (F.holds files.new) (wanted_of asked.entry) (gain E.contents err.old err.new) result }
 {
     match asked {
         Asked::Check {
@@ -234,9 +218,7 @@ fn put_answer<O: Write, E: Write>(
     out: &mut O,
     err: &mut E,
 ) -> u8
-    ensures { PutsBoth (change (O.contents out.old) (O.contents out.new))
-        (change (E.contents err.old) (E.contents err.new)) answered.entry.output.text.items answered.entry.output.status
-        answered.entry.unwritten result }
+    ensures { PutsAnswer (gain O.contents out.old out.new) (gain E.contents err.old err.new) answered.entry result }
 {
     let Answered { output, unwritten } = answered;
     let status = status_after(put(out, output.text.as_slice()), output.status);
@@ -248,7 +230,7 @@ fn put_answer<O: Write, E: Write>(
 
 /// Reports why a command line is refused, and returns the exit status.
 pub fn refuse_words<E: Write>(err: &mut E, error: &Error) -> u8
-    ensures { ShowsError (kind_of error.now) (change (E.contents err.old) (E.contents err.new)) result }
+    ensures { ShowsError (kind_of error.now) (gain E.contents err.old err.new) result }
 {
     match error.kind() {
         ErrorKind::OutOfMemory => refuse_memory(err),
@@ -264,9 +246,7 @@ pub fn answer_asked<F: Files, O: Write, E: Write>(
     out: &mut O,
     err: &mut E,
 ) -> u8
-    ensures { (words : List Text) → AsksFor words (wanted_of asked.entry)
-        → RunsAs words (F.holds files.old) (F.holds files.new) (change (O.contents out.old) (O.contents out.new))
-        (change (E.contents err.old) (E.contents err.new)) result }
+    ensures { RunsAsked asked.entry (F.holds files.old) (F.holds files.new) (gain O.contents out.old out.new) (gain E.contents err.old err.new) result }
 {
     match answer(alloc, asked, files, err) {
         Ok(answered) => put_answer(alloc, answered, out, err),
@@ -289,8 +269,7 @@ pub fn program<S: AsStr, F: Files, O: Write, E: Write>(
     out: &mut O,
     err: &mut E,
 ) -> u8
-    ensures { RunsAs (map S.text words.now) (F.holds files.old) (F.holds files.new)
-        (change (O.contents out.old) (O.contents out.new)) (change (E.contents err.old) (E.contents err.new)) result }
+    ensures { RunsAs (map S.text words.now) (F.holds files.old) (F.holds files.new) (gain O.contents out.old out.new) (gain E.contents err.old err.new) result }
 {
     let asked = match command(alloc, words) {
         Ok(asked) => asked,

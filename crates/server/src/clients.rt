@@ -2,15 +2,12 @@
 //!
 //! Start with [`serve_clients`].
 
-ghost use Rattle.std.specs.Prelude.{◌≡◌, [], option_map, IfOk, MatchResult, string_bytes};
-ghost use Rattle.engine.specs.World.{world_of};
+ghost use Rattle.std.specs.Prelude.{◌≡◌, IfOk, string_bytes};
 ghost use Rattle.server.specs.Files.{AreKept};
 ghost use Rattle.server.specs.Stated.{file_named};
-ghost use Rattle.serving.specs.Story.{served};
-ghost use Rattle.server.specs.Program.{IsStarted};
-ghost use Rattle.server.specs.Clients.{Begins, CanCome, EndsUnserved, FailsToStart, IsTaken, IsReported, IsTurns, IsUnreported, NobodyComes, ServeEnds};
+ghost use Rattle.server.specs.Clients.{BeginsErr, BeginsOk, EndsNone, EndsSome, IsTaken, IsTurns, OpensSockets, ReportsAddress, StartsServer};
 ghost use Rattle.server.specs.Clients.{listening_line};
-ghost use Rattle.server.specs.Streams.{change};
+ghost use Rattle.server.specs.Streams.{gain};
 
 use crate::refusals::{CommandRefusal, Report, refuse, refuse_memory};
 use crate::starting::started;
@@ -102,7 +99,7 @@ fn line_of(alloc: Global, address: &str) -> Result<String, AllocError>
 
 /// Writes `text` to `out` and flushes it. Returns whether both succeeded.
 fn put_at_once<O: Write>(out: &mut O, text: &[u8]) -> bool
-    ensures { IsTaken (change (O.contents out.old) (O.contents out.new)) text.now result }
+    ensures { IsTaken (gain O.contents out.old out.new) text.now result }
 {
     if put(out, text).is_err() {
         return false;
@@ -117,11 +114,7 @@ fn report_address<O: Write, E: Write>(
     out: &mut O,
     err: &mut E,
 ) -> Result<(), u8>
-    ensures { MatchResult result
-        (λ _. IsReported address.now (change (O.contents out.old) (O.contents out.new))
-        (change (E.contents err.old) (E.contents err.new)))
-        (λ status. IsUnreported address.now (change (O.contents out.old) (O.contents out.new))
-        (change (E.contents err.old) (E.contents err.new)) status) }
+    ensures { ReportsAddress address.now (gain O.contents out.old out.new) (gain E.contents err.old err.new) result }
 {
     let Ok(line) = line_of(alloc, address) else {
         return Err(refuse_memory(err));
@@ -141,11 +134,7 @@ fn open_sockets<L: Listener, O: Write, E: Write>(
     out: &mut O,
     err: &mut E,
 ) -> Result<L::Sockets, u8>
-    ensures { MatchResult result
-        (λ sockets. CanCome (L.listens listener.old address.now) (L.Sockets.past sockets)
-        (change (O.contents out.old) (O.contents out.new)) (change (E.contents err.old) (E.contents err.new)))
-        (λ status. NobodyComes (L.listens listener.old address.now) (change (O.contents out.old) (O.contents out.new))
-        (change (E.contents err.old) (E.contents err.new)) status) }
+    ensures { OpensSockets (L.listens listener.old address.now) L.Sockets.past (gain O.contents out.old out.new) (gain E.contents err.old err.new) result }
 {
     let Some(Listening { sockets, address }) = listener.listen(alloc, address) else {
         let why = CommandRefusal::NotListening;
@@ -163,11 +152,7 @@ fn new_server<'a, F: Files>(
     asked: ServeArguments<'a>,
     files: &mut F,
 ) -> Result<Server<Engine>, Report<'a>>
-    ensures starts { MatchResult result
-        (λ s. IsStarted (F.holds files.old) asked.entry.definitions.now asked.entry.guarantees.now
-        asked.entry.certificates.now (world_of s.machine) × (s.peers ≡ []))
-        (λ report. FailsToStart (F.holds files.old) asked.entry.definitions.now asked.entry.guarantees.now
-        asked.entry.certificates.now report.file.now report.why) }
+    ensures starts { StartsServer (F.holds files.old) asked.entry result }
     ensures files { AreKept (F.holds files.old) (F.holds files.new) }
 {
     let engine = match started(
@@ -198,15 +183,8 @@ pub fn begin<L: Listener, F: Files, O: Write, E: Write>(
     out: &mut O,
     err: &mut E,
 ) -> Result<Service<L::Sockets>, u8>
-    ensures ready { MatchResult result
-        (λ s. Begins (F.holds files.old) asked.entry.definitions.now asked.entry.guarantees.now
-        asked.entry.certificates.now (L.listens listener.old asked.entry.listen.now)
-        (change (O.contents out.old) (O.contents out.new)) (change (E.contents err.old) (E.contents err.new))
-        (served (world_of s.server.machine) s.server.peers (L.Sockets.past s.sockets)))
-        (λ status. EndsUnserved (F.holds files.old) asked.entry.definitions.now asked.entry.guarantees.now
-        asked.entry.certificates.now (listener.new ≡ listener.old)
-        (L.listens listener.old asked.entry.listen.now) (change (O.contents out.old) (O.contents out.new))
-        (change (E.contents err.old) (E.contents err.new)) status) }
+    ensures ok { BeginsOk F.holds files.old asked.entry L.listens listener.old O.contents out.old out.new E.contents err.old err.new L.Sockets.past result }
+    ensures err { BeginsErr F.holds files.old asked.entry L.listens listener.old listener.new O.contents out.old out.new E.contents err.old err.new result }
     ensures files { AreKept (F.holds files.old) (F.holds files.new) }
 {
     let server = match new_server(alloc, asked, files) {
@@ -230,12 +208,8 @@ pub fn serve_clients<L: Listener, F: Files, O: Write, E: Write>(
     out: &mut O,
     err: &mut E,
 ) -> Ended<L::Sockets>
-    ensures ends { ServeEnds (F.holds files.old) asked.entry.definitions.now asked.entry.guarantees.now
-        asked.entry.certificates.now (file_named asked.entry.turns) (listener.new ≡ listener.old)
-        (L.listens listener.old asked.entry.listen.now) (change (O.contents out.old) (O.contents out.new))
-        (change (E.contents err.old) (E.contents err.new))
-        (option_map (λ s. served (world_of s.server.machine) s.server.peers (L.Sockets.past s.sockets))
-        result.service) result.status }
+    ensures some { EndsSome F.holds files.old asked.entry L.listens listener.old O.contents out.old out.new E.contents err.old err.new L.Sockets.past result }
+    ensures none { EndsNone F.holds files.old asked.entry L.listens listener.old listener.new O.contents out.old out.new E.contents err.old err.new result }
     ensures files { AreKept (F.holds files.old) (F.holds files.new) }
 {
     let Service {

@@ -1,12 +1,11 @@
 //! Writes the certificates that `check` found to a file. Start with [`write_out`].
 
-ghost use Rattle.std.specs.Prelude.{◌≡◌, [], List, MatchResult, Some};
+ghost use Rattle.std.specs.Prelude.{[], List, MatchResult};
 ghost use Rattle.certificate.specs.Drafts.{IsDraft};
-ghost use Rattle.guarantee_search.specs.declared.verdicts.Verdict.{Verdict};
 ghost use Rattle.model.specs.Certificates.{Certificate as Shown};
 ghost use Rattle.server.specs.Stated.{file_named};
-ghost use Rattle.server.specs.Program.{Drafts, IsFiled, IsUnfiled, IsUnwritten, ReadsBack, WritesOut};
-ghost use Rattle.server.specs.Verdicts.{certificates_in, status_of_verdicts};
+ghost use Rattle.server.specs.Program.{Drafts, IsUnwritten, ReadsBack};
+ghost use Rattle.server.specs.Performing.{FilesDraft, FilesVerdicts};
 
 use crate::refusals::{CommandRefusal, Report};
 use crate::storage::Files;
@@ -37,10 +36,7 @@ fn text_of(draft: Draft) -> Result<Vec<u8>, CommandRefusal>
 
 /// Writes a drafted file. Fails if its text can't be made, or if the write fails.
 fn write_file<F: Files>(file: &str, draft: Draft, files: &mut F) -> Result<(), CommandRefusal>
-    ensures { (cs : List Shown) → IsDraft draft cs
-        → MatchResult result
-        (λ _. IsFiled (F.holds files.old) (F.holds files.new) file.now cs)
-        (λ why. IsUnfiled (F.holds files.old) (F.holds files.new) file.now why) }
+    ensures { FilesDraft (F.holds files.old) (F.holds files.new) file.now draft result }
 {
     let text = match text_of(draft) {
         Ok(text) => text,
@@ -59,12 +55,7 @@ pub fn write_out<'a, F: Files>(
     draft: Option<Draft>,
     files: &mut F,
 ) -> Result<(), Report<'a>>
-    ensures { (verdicts : List Verdict) → status ≡ status_of_verdicts verdicts
-        → Drafts (file_named out.entry) draft (certificates_in verdicts)
-        → MatchResult result
-        (λ _. WritesOut (F.holds files.old) (F.holds files.new) (file_named out.entry) verdicts)
-        (λ report. (file_named out.entry ≡ Some report.file.now) × (status ≡ 0)
-        × IsUnfiled (F.holds files.old) (F.holds files.new) report.file.now report.why) }
+    ensures { FilesVerdicts (F.holds files.old) (F.holds files.new) (file_named out.entry) status draft result }
 {
     let file = match out {
         Some(file) => file,

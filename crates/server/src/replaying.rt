@@ -1,15 +1,13 @@
 //! The command `replay`, and what its files put in force. Start with [`replay`] and [`in_force`].
 
-ghost use Rattle.std.specs.Prelude.{◌≡◌, ◌≤◌, length, IfOk, MatchResult, Ok, Some};
-ghost use Rattle.certificate.specs.Certified.{AreCertified};
-ghost use Rattle.command_line.specs.CommandLine.{Replay};
+ghost use Rattle.std.specs.Prelude.{◌≡◌, ◌≤◌, length, IfOk, MatchResult, Ok};
 ghost use Rattle.engine.specs.InForce.{in_force};
 ghost use Rattle.server.specs.Files.{AreKept};
 ghost use Rattle.server.specs.Outcomes.{fault_number};
-ghost use Rattle.server.specs.Program.{AreSetUp, FailsOver, FailsToReload, IsInForce, IsInForceBy, IsRefusalOf, IsReplayed, IsSetUp, IsWhyNotSetUp};
-ghost use Rattle.server.specs.Program.{IsWhyOfFile, IsWhyReported, IsWhyUnadmitted, IsUnplayed, OverNamed, PrintsFile, PrintsRun, ReadsScript};
+ghost use Rattle.server.specs.Performing.{AdmitsAll, GivesArrival, GivesArrivals, GivesForce, GivesForceBy, GivesScript, PlaysFile, ReplaysOver};
+ghost use Rattle.server.specs.Program.{IsRefusalOf, PrintsRun};
 ghost use Rattle.scripts.specs.Script.{script};
-ghost use Rattle.server.specs.Streams.{GetsNothing, change};
+ghost use Rattle.server.specs.Streams.{gain};
 
 use crate::judging::Output;
 use crate::refusals::{CommandRefusal, Report, refuse, refuse_memory, report_of};
@@ -46,10 +44,7 @@ fn admitted(
     certificates: &[Certificate],
 ) -> Result<Checked, CommandRefusal>
     requires { length promised.items ≤ 64 }
-    ensures { MatchResult result
-        (λ checked. (checked ≡ record { topology = topology; guarantees = promised.items })
-        × AreCertified topology promised.items certificates.now)
-        (λ why. IsWhyUnadmitted topology promised.items certificates.now why) }
+    ensures { AdmitsAll topology promised.items certificates.now result }
 {
     match admit(alloc, topology, promised, certificates) {
         Ok(checked) => Ok(checked),
@@ -76,10 +71,7 @@ pub fn in_force<'a, F: Files>(
     named: BrokerFiles<'a>,
     files: &mut F,
 ) -> Result<(Checked, Vec<User>), Report<'a>>
-    ensures force { MatchResult result
-        (λ force. OverNamed (λ d g c. IsInForce (F.holds files.old) d g c (in_force force.0 force.1.items))
-        named.entry)
-        (λ report. OverNamed (λ d g c. FailsOver (F.holds files.old) d g c report.file.now report.why) named.entry) }
+    ensures force { GivesForce (F.holds files.old) named.entry result }
     ensures files { AreKept (F.holds files.old) (F.holds files.new) }
 {
     let stated::Setup {
@@ -117,9 +109,7 @@ fn script_of<F: Files>(
     script: &str,
     files: &mut F,
 ) -> Result<Vec<scripts::Arrival>, CommandRefusal>
-    ensures said { MatchResult result
-        (λ said. ReadsScript (F.holds files.old script.now) said.items)
-        (λ refusal. IsWhyOfFile refusal (F.holds files.old script.now)) }
+    ensures said { GivesScript (F.holds files.old script.now) result }
     ensures files { AreKept (F.holds files.old) (F.holds files.new) }
 {
     let text = files.read(alloc, script)?;
@@ -132,10 +122,7 @@ fn setup_of<'a, F: Files>(
     names: &'a ReloadFiles,
     files: &mut F,
 ) -> Result<Setup, Report<'a>>
-    ensures force { MatchResult result
-        (λ force. IsInForceBy (F.holds files.old) names.now force)
-        (λ report. FailsOver (F.holds files.old) (Some names.now.definitions) (Some names.now.guarantees)
-        (Some names.now.certificates) report.file.now report.why) }
+    ensures force { GivesForceBy (F.holds files.old) names.now result }
     ensures files { AreKept (F.holds files.old) (F.holds files.new) }
 {
     let named = BrokerFiles {
@@ -155,9 +142,7 @@ fn arrival_of<'a, F: Files>(
     said: &'a scripts::Arrival,
     files: &mut F,
 ) -> Result<Arrival<Setup>, Report<'a>>
-    ensures set_up { MatchResult result
-        (λ arrival. IsSetUp (F.holds files.old) said.now arrival)
-        (λ report. IsWhyNotSetUp (F.holds files.old) said.now report.file.now report.why) }
+    ensures set_up { GivesArrival (F.holds files.old) said.now result }
     ensures files { AreKept (F.holds files.old) (F.holds files.new) }
 {
     match said {
@@ -183,9 +168,7 @@ fn arrivals_of<'a, F: Files>(
     said: &'a [scripts::Arrival],
     files: &mut F,
 ) -> Result<Vec<Arrival<Setup>>, Report<'a>>
-    ensures set_up { MatchResult result
-        (λ arrivals. AreSetUp (F.holds files.old) said.now arrivals.items)
-        (λ report. FailsToReload (F.holds files.old) said.now report.file.now report.why) }
+    ensures set_up { GivesArrivals (F.holds files.old) said.now result }
     ensures files { AreKept (F.holds files.old) (F.holds files.new) }
 {
     let mut arrivals = Vec::new(alloc);
@@ -223,11 +206,7 @@ fn played_file<F: Files, E: Write>(
     files: &mut F,
     err: &mut E,
 ) -> Result<Vec<u8>, u8>
-    ensures plays { MatchResult result
-        (λ text. PrintsFile (F.holds files.old) script.now (in_force checked users.items) text.items
-        × GetsNothing (change (E.contents err.old) (E.contents err.new)))
-        (λ status. IsUnplayed (F.holds files.old) script.now
-        (change (E.contents err.old) (E.contents err.new)) status) }
+    ensures plays { PlaysFile (F.holds files.old) script.now (in_force checked users.items) (gain E.contents err.old err.new) result }
     ensures files { AreKept (F.holds files.old) (F.holds files.new) }
 {
     let said = match script_of(alloc, script, files) {
@@ -256,11 +235,7 @@ pub fn replay<F: Files, E: Write>(
     files: &mut F,
     err: &mut E,
 ) -> Result<Output, u8>
-    ensures answers { MatchResult result
-        (λ o. OverNamed (λ d g c. IsReplayed (F.holds files.old) script.now d g c o.text.items o.status) named.entry
-        × GetsNothing (change (E.contents err.old) (E.contents err.new)))
-        (λ status. OverNamed (λ d g c. IsWhyReported (F.holds files.old) (F.holds files.new) (Replay script.now d g c)
-        (change (E.contents err.old) (E.contents err.new)) status) named.entry) }
+    ensures answers { ReplaysOver (F.holds files.old) (F.holds files.new) script.now named.entry (gain E.contents err.old err.new) result }
     ensures files { AreKept (F.holds files.old) (F.holds files.new) }
 {
     let (checked, users) = match in_force(alloc, named, files) {

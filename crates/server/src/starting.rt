@@ -1,10 +1,7 @@
 //! Starts the broker of `serve`.
 
-ghost use Rattle.std.specs.Prelude.{MatchResult};
-ghost use Rattle.engine.specs.World.{world_of};
 ghost use Rattle.server.specs.Files.{AreKept};
-ghost use Rattle.server.specs.Program.{IsStarted};
-ghost use Rattle.server.specs.Clients.{FailsToStart};
+ghost use Rattle.server.specs.Clients.{StartsBroker};
 
 use crate::refusals::Report;
 use crate::replaying::{BrokerFiles, in_force};
@@ -21,10 +18,7 @@ pub fn started<'a, F: Files>(
     certificates: &'a str,
     files: &mut F,
 ) -> Result<Engine, Report<'a>>
-    ensures started { MatchResult result
-        (λ e. IsStarted (F.holds files.old) definitions.now guarantees.now certificates.now (world_of e))
-        (λ report. FailsToStart (F.holds files.old) definitions.now guarantees.now certificates.now
-        report.file.now report.why) }
+    ensures started { StartsBroker (F.holds files.old) definitions.now guarantees.now certificates.now result }
     ensures files { AreKept (F.holds files.old) (F.holds files.new) }
 {
     let named = BrokerFiles {

@@ -1,9 +1,9 @@
 //! Reads the files that a command names. Start with [`set_up`].
 
-ghost use Rattle.std.specs.Prelude.{◌≡◌, MatchResult};
+ghost use Rattle.std.specs.Prelude.{MatchResult};
 ghost use Rattle.server.specs.Files.{AreKept};
-ghost use Rattle.server.specs.Stated.{HoldsCertificates, CertifiesAt, FailsToCertify, FailsToPromise, FailsToSetUp, FailsToState, IsWhyUncertified};
-ghost use Rattle.server.specs.Stated.{IsWhyUnpromised, IsWhyUnstated, Promises, PromisesAt, SetsUp, States, StatesAt, file_named};
+ghost use Rattle.server.specs.Stated.{GivesCertificatesAt, GivesGuaranteesAt, GivesSetup, GivesStated, GivesTopologyAt, IsWhyUnstated};
+ghost use Rattle.server.specs.Stated.{ReadsCertificates, ReadsPromises, States, file_named};
 
 use crate::builtin::builtin;
 use crate::file_refusals::{FileRefusal, RefusedFile};
@@ -45,9 +45,7 @@ pub(crate) fn definitions_of<'a, F: Files>(
     file: &'a str,
     files: &mut F,
 ) -> Result<Definitions, RefusedFile<'a>>
-    ensures states { MatchResult result
-        (λ stated. States (F.holds files.old file.now) stated)
-        (λ refused. (refused.file.now ≡ file.now) × IsWhyUnstated refused.why (F.holds files.old file.now)) }
+    ensures states { GivesStated (F.holds files.old) file.now result }
     ensures files { AreKept (F.holds files.old) (F.holds files.new) }
 {
     match read_definitions_of(alloc, file, files) {
@@ -63,9 +61,7 @@ fn read_guarantees_of<F: Files>(
     topology: &Topology,
     files: &mut F,
 ) -> Result<Vec<Guarantee>, FileRefusal>
-    ensures states { MatchResult result
-        (λ gs. Promises (F.holds files.old file.now) topology.now gs.items)
-        (λ why. IsWhyUnpromised topology.now why (F.holds files.old file.now)) }
+    ensures states { ReadsPromises (F.holds files.old file.now) topology.now result }
     ensures files { AreKept (F.holds files.old) (F.holds files.new) }
 {
     let text = files.read(alloc, file)?;
@@ -79,10 +75,7 @@ fn guarantees_of<'a, F: Files>(
     topology: &Topology,
     files: &mut F,
 ) -> Result<Vec<Guarantee>, RefusedFile<'a>>
-    ensures states { MatchResult result
-        (λ gs. PromisesAt (F.holds files.old) (file_named file.entry) topology.now gs.items)
-        (λ refused. FailsToPromise (F.holds files.old) (file_named file.entry)
-        topology.now refused.file.now refused.why) }
+    ensures states { GivesGuaranteesAt (F.holds files.old) (file_named file.entry) topology.now result }
     ensures files { AreKept (F.holds files.old) (F.holds files.new) }
 {
     let file = match file {
@@ -101,10 +94,7 @@ fn topology_of<'a, F: Files>(
     file: Option<&'a str>,
     files: &mut F,
 ) -> Result<(Topology, Vec<User>), RefusedFile<'a>>
-    ensures states { MatchResult result
-        (λ stated. StatesAt (F.holds files.old) (file_named file.entry)
-        (record { topology = stated.0; users = stated.1.items }))
-        (λ refused. FailsToState (F.holds files.old) (file_named file.entry) refused.file.now refused.why) }
+    ensures states { GivesTopologyAt (F.holds files.old) (file_named file.entry) result }
     ensures files { AreKept (F.holds files.old) (F.holds files.new) }
 {
     match file {
@@ -124,11 +114,7 @@ pub(crate) fn set_up<'a, F: Files>(
     guarantees: Option<&'a str>,
     files: &mut F,
 ) -> Result<Setup, RefusedFile<'a>>
-    ensures states { MatchResult result
-        (λ s. SetsUp (F.holds files.old) (file_named definitions.entry) (file_named guarantees.entry)
-        (record { topology = s.topology; users = s.users.items }) s.guarantees.items)
-        (λ refused. FailsToSetUp (F.holds files.old) (file_named definitions.entry) (file_named guarantees.entry)
-        refused.file.now refused.why) }
+    ensures states { GivesSetup (F.holds files.old) (file_named definitions.entry) (file_named guarantees.entry) result }
     ensures files { AreKept (F.holds files.old) (F.holds files.new) }
 {
     let (topology, users) = match topology_of(alloc, definitions, files) {
@@ -151,9 +137,7 @@ fn read_certificates_of<F: Files>(
     file: &str,
     files: &mut F,
 ) -> Result<Vec<Certificate>, FileRefusal>
-    ensures states { MatchResult result
-        (λ cs. HoldsCertificates (F.holds files.old file.now) cs.items)
-        (λ why. IsWhyUncertified why (F.holds files.old file.now)) }
+    ensures states { ReadsCertificates (F.holds files.old file.now) result }
     ensures files { AreKept (F.holds files.old) (F.holds files.new) }
 {
     let text = files.read(alloc, file)?;
@@ -166,9 +150,7 @@ pub(crate) fn certificates_of<'a, F: Files>(
     file: Option<&'a str>,
     files: &mut F,
 ) -> Result<Vec<Certificate>, RefusedFile<'a>>
-    ensures states { MatchResult result
-        (λ cs. CertifiesAt (F.holds files.old) (file_named file.entry) cs.items)
-        (λ refused. FailsToCertify (F.holds files.old) (file_named file.entry) refused.file.now refused.why) }
+    ensures states { GivesCertificatesAt (F.holds files.old) (file_named file.entry) result }
     ensures files { AreKept (F.holds files.old) (F.holds files.new) }
 {
     let file = match file {

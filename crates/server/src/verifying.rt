@@ -1,10 +1,10 @@
 //! The outcomes of `verify`, as lines. Start with [`verify`].
 
-ghost use Rattle.std.specs.Prelude.{◌≡◌, ◌++◌, ◌∷◌, [], codes, decimal, IfOk, IfSome, OnOk, string_bytes};
+ghost use Rattle.std.specs.Prelude.{◌≡◌, ◌++◌, IfOk, IfSome, OnOk, string_bytes};
 ghost use Rattle.std.specs.List.{list_any};
 ghost use Rattle.paths.specs.Deaths.{AreDeaths};
-ghost use Rattle.scripts.specs.Transcript.{line};
-ghost use Rattle.server.specs.Outcomes.{AreOutcomes, is_fault, letter_word, outcome_line, outcome_lines, status_of_outcomes, ReturnsOutcome, Verifies};
+ghost use Rattle.server.specs.Outcomes.{AreOutcomes, is_fault, letter_word, open_line, outcome_line, outcome_lines, status_of_outcomes, ReturnsOutcome};
+ghost use Rattle.server.specs.Outcomes.{Verifies};
 ghost use Rattle.server.specs.Verdicts.{EachWith};
 
 use crate::judging::Output;
@@ -114,8 +114,7 @@ fn open_line(
     state: usize,
     word: &Option<Text>,
 ) -> Result<String, AllocError>
-    ensures { IfOk result (λ text. string_bytes text
-        ≡ line (decimal number ∷ codes "fault 2 state" ∷ decimal state ∷ codes "letter" ∷ letter_word word.now ∷ [])) }
+    ensures { IfOk result (λ text. string_bytes text ≡ open_line number state word.now) }
 {
     let letter = letter_word(alloc, word)?;
     format!(in alloc; "{number} fault 2 state {state} letter {letter}\n")

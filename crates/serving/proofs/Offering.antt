@@ -1,9 +1,9 @@
 -- A reload between two calls that serve: what is offered is decided, or memory was refused, and no slot and no output is different.
-use Rattle.serving.proofs.Names.{◌≡◌, ℕ, List, [], Bool, Option, refl, ◌∙◌, arith, Result, Ok, Err, Config, Occurrence, IsSound, World, Reloads, Same, Lacks, To_reload, Traffic, whole, short, served, Reload_decided, Reload_undecided, IsServerKept, IsServed, Peer}
+use Rattle.serving.proofs.Names.{◌≡◌, ℕ, List, [], Bool, Option, refl, ◌∙◌, arith, Result, Ok, Err, OnOk, OnErr, Config, Occurrence, IsSound, World, Reloads, Same, Lacks, To_reload, Traffic, whole, short, served, Reload_decided, Reload_undecided, IsServerKept, IsServed, Peer}
 use Rattle.model.specs.declared.events.Arrival.TheVariants as arrival
 use Rattle.model.specs.declared.obstacles.Obstacle.TheVariants as obstacle
 use Rattle.slab.specs.Slab.{Slab}
-use Rattle.runs.specs.Reloaded.{ReportsReload, IsMemory, wanting}
+use Rattle.runs.specs.Reloaded.{IsPutInForce, ReportsReload, IsMemory, wanting}
 use Rattle.runs.specs.declared.faults.ReloadFault.{ReloadFault}
 use Rattle.runs.specs.declared.faults.ReloadFault.TheVariants.{InUse, Breaks, Memory}
 use Rattle.runs.proofs.Reloads.{put_reloads, refused_reloads}
@@ -34,6 +34,21 @@ went_reload a b ps traffic offered (Err Memory) sound p wants = undecided a b ps
 pub served_reloaded : {L : Lacks} (f : Config) (traffic now : Traffic) (a b : World) (ps : List (Option Peer)) (offered : Config) (r : Result Unit ReloadFault) → IsSound offered → ReportsReload a offered r b → (IsMemory r → L a (To_reload offered))
     → IsServed L f traffic (served a ps now) → IsServed L f traffic (served b ps now)
 served_reloaded f traffic now a b ps offered r sound p wants was = went_on f traffic (served a ps now) (served b ps now) (went_reload a b ps now offered r sound p wants) was
+
+-- ---- a configuration that is put in force without an obstacle
+
+-- as a reload, it was done, or an allocation failed
+abbrev pub as_reload : {E : Type 0} → Result Unit E → Result Unit ReloadFault
+as_reload (Ok x) = Ok x
+as_reload (Err e) = Err Memory
+
+pub reports_reload : {E : Type 0} (a b : World) (offered : Config) (r : Result Unit E) → OnOk r (IsPutInForce a offered b) → OnErr r (Same a b) → ReportsReload a offered (as_reload r) b
+reports_reload a b offered (Ok x) done same = done
+reports_reload a b offered (Err e) done same = same
+
+pub lacks_reload : {E : Type 0} (L : Lacks) (a : World) (offered : Config) (r : Result Unit E) → OnErr r (L a (To_reload offered)) → IsMemory (as_reload r) → L a (To_reload offered)
+lacks_reload L a offered (Ok x) wants memory = elim memory [ ]
+lacks_reload L a offered (Err e) wants memory = wants
 
 -- ---- what stays
 

@@ -1,11 +1,12 @@
 //! The server, and its rounds.
 
-ghost use Rattle.std.specs.Prelude.{◌≡◌, IfOk, []};
+ghost use Rattle.std.specs.Prelude.{◌≡◌, IfOk, OnErr, OnOk, []};
+ghost use Rattle.model.specs.Arrivals.{Same};
 ghost use Rattle.model.specs.Headline.{IsSound};
 ghost use Rattle.serving.specs.Serving.{server_state};
 ghost use Rattle.serving.specs.Rounds.{IsRound, Rounds};
 ghost use Rattle.serving.specs.Whole.{GoesOnServed, IsServedIfNew, KeepsServed, StaysServed};
-ghost use Rattle.runs.specs.Reloaded.{IsMemory, ReportsReload};
+ghost use Rattle.runs.specs.Reloaded.{IsMemory, IsPutInForce, NothingHinders, ReportsReload};
 ghost use Rattle.runs.specs.Wants.{To_reload};
 
 use crate::offers::Offers;
@@ -117,6 +118,21 @@ impl<M: Machine> Server<M> {
     {
         M::ghost_offers_sound(&setup);
         self.machine.reload(alloc, setup)
+    }
+
+    /// Puts `setup` in force, as [`Server::reload`] does, without looking for an obstacle: there is none. Fails only if an allocation fails; nothing
+    /// has changed then.
+    pub fn put_in_force(&mut self, alloc: Global, setup: M::Setup) -> Result<(), AllocError>
+        requires nothing { NothingHinders (M.world self.old.machine) (M.config setup) }
+        ensures ok { OnOk result (IsPutInForce (M.world self.old.machine) (M.config setup) (M.world self.new.machine)) }
+        ensures err { OnErr result (Same (M.world self.old.machine) (M.world self.new.machine)) }
+        ensures wants { OnErr result (M.lacks (M.world self.old.machine) (To_reload (M.config setup))) }
+        ensures peers { self.new.peers ≡ self.old.peers }
+        // `IsServed` is kept, whatever the wire knew.
+        ensures served { KeepsServed M.lacks M.world self.old self.new }
+    {
+        M::ghost_offers_sound(&setup);
+        self.machine.put_in_force(alloc, setup)
     }
 
     /// Shows that what the machine has in force is sound: the topology is well formed, and its guarantees hold.

@@ -1,11 +1,9 @@
 //! Counts the bytes that sockets gave and took, by the index in a socket's name.
 
-ghost use Rattle.std.specs.Prelude.{◌≡◌, ◌≤◌, ◌%◌, ℕ, List, length, Some, IfSome};
+ghost use Rattle.std.specs.Prelude.{◌≡◌, ◌%◌, ℕ, List, length, Some, IfSome};
 ghost use Rattle.serving.specs.Wire.{Accepted, Got, Took, Totals as Traffic, with_got, with_taken};
-ghost use Rattle.serving.specs.Answered.{accept_call, read_call, write_call};
-ghost use Rattle.serving.specs.declared.wire.Read.TheVariants as read;
-ghost use Rattle.serving.specs.declared.wire.Write.TheVariants as write;
-ghost use Rattle.sockets.specs.Counts.{Counts, totals_of, totals_in};
+ghost use Rattle.serving.specs.Answered.{accept_call};
+ghost use Rattle.sockets.specs.Counts.{Counts, CountsRead, CountsWrite, totals_of, totals_in};
 ghost use Rattle.sockets.specs.Traffic.{seen};
 
 use serving::{Accept, Read, Write};
@@ -114,8 +112,7 @@ pub(crate) fn count_accept(counts: &mut Vec<Option<Count>>, answer: Accept)
 
 /// Counts the bytes that a read of `socket` got, if any.
 pub(crate) fn count_read(counts: &mut Vec<Option<Count>>, socket: u64, answer: Read)
-    ensures { (room : ℕ) (buffer : List ℕ) → ((n : ℕ) → answer ≡ read.Got n → n ≤ length buffer)
-        → Counts counts.old.items (read_call socket room answer buffer) counts.new.items }
+    ensures { CountsRead counts.old.items socket answer counts.new.items }
 {
     match answer {
         Read::Got(n) => count_got(counts, socket, n),
@@ -127,8 +124,7 @@ pub(crate) fn count_read(counts: &mut Vec<Option<Count>>, socket: u64, answer: R
 
 /// Counts the bytes that a write to `socket` took, if any.
 pub(crate) fn count_write(counts: &mut Vec<Option<Count>>, socket: u64, answer: Write)
-    ensures { (offered : List ℕ) → ((n : ℕ) → answer ≡ write.Took n → n ≤ length offered)
-        → Counts counts.old.items (write_call socket answer offered) counts.new.items }
+    ensures { CountsWrite counts.old.items socket answer counts.new.items }
 {
     match answer {
         Write::Took(n) => count_taken(counts, socket, n),

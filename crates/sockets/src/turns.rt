@@ -2,6 +2,7 @@
 
 ghost use Rattle.std.specs.Prelude.{◌≡◌, ◌≢◌, ◌≤◌, ◌<◌, ◌+◌, ◌/◌, ◌%◌, ℕ, Some, None, cond, true, false};
 ghost use Rattle.serving.specs.declared.wire.Write.TheVariants as write;
+ghost use Rattle.sockets.specs.Turns.{AsksIfDue};
 ghost use Rattle.sockets.specs.declared.turns.Voice.TheVariants as voices;
 
 use serving::Write;
@@ -372,8 +373,7 @@ impl Rounds {
     /// Returns whether a read of a socket is answered in this round without asking the system: the socket is silent, and it is not its turn.
     pub(crate) fn passes(&mut self, voice: Voice) -> bool
         ensures only { result ≡ true → (since : ℕ) × (voice ≡ voices.Silent since) }
-        ensures due { (since : ℕ) → voice ≡ voices.Silent since → self.old.is_turn ≡ true
-            → since + self.old.silent.length / 8 < self.old.turn → self.old.silent.asked < 8 → result ≡ false }
+        ensures due { (s : ℕ) → voice ≡ voices.Silent s → AsksIfDue self.old.silent.length self.old.silent.asked self.old.is_turn self.old.turn s result }
         ensures silent { self.new.silent.asked ≡ self.old.silent.asked }
         ensures full { self.new.full ≡ self.old.full }
     {
@@ -430,8 +430,7 @@ impl Rounds {
 
     /// Returns whether a write to a socket is answered in this round without asking the system: the socket was not full, or it is not due.
     pub(crate) fn passes_write(&mut self, since: Option<u64>) -> bool
-        ensures due { (s : ℕ) → since ≡ Some s → self.old.is_turn ≡ true
-            → s + self.old.full.length / 8 < self.old.turn → self.old.full.asked < 8 → result ≡ false }
+        ensures due { (s : ℕ) → since ≡ Some s → AsksIfDue self.old.full.length self.old.full.asked self.old.is_turn self.old.turn s result }
         ensures full { self.new.full.asked ≡ self.old.full.asked }
         ensures silent { self.new.silent ≡ self.old.silent }
     {

@@ -14,6 +14,7 @@ use Rattle.model.specs.declared.topologies.Binding.{Binding}
 use Rattle.model.specs.declared.topologies.Destination.{Destination}
 use Rattle.model.specs.declared.topologies.Destination.TheVariants as destination
 use Rattle.model.specs.declared.topologies.ExchangeKind.TheVariants.{Direct}
+use Rattle.paths.specs.Leading.{AreLeading}
 use Rattle.paths.specs.declared.reach.Hop.{Hop}
 use Rattle.state_routes.specs.declared.gates.Gate.{Gate}
 use Rattle.state_routes.specs.declared.gates.Test.TheVariants.{Pattern}
@@ -92,6 +93,11 @@ IsEnd t q last end = GoOn t q last.dead_letter_exchange last.dead_letter_key end
 -- `new` is `old` followed by the gates into the queue `last`, each leading on to the node where the dead letters of `last` go (by `Ends`)
 abbrev pub AreMore : Topology → List Tracked → (DeclaredQueue → Option ℕ → Type 0) → DeclaredQueue → List Gate → List Gate → Type 0
 AreMore t ps Ends last old new = (end : Option ℕ) × Ends last end × (new ≡ old ++ entries_through t.exchanges ps last.name t.bindings end)
+
+-- `new` is `old` followed by the gates into the queue `last`, each leading on to the node where the dead letters of `last` go; `marks` says which dead
+-- letters matter to the queue that a promise is about (`AreLeading`), whichever that queue is
+abbrev pub AddsDeaths : Topology → List Bool → List Tracked → DeclaredQueue → List Gate → List Gate → Type 0
+AddsDeaths t marks ps last old new = (q : Text) → AreLeading t q marks → AreMore t ps (IsEnd t q) last old new
 
 -- The gates that matter to a promise of this mode: those of the topology, and those for dead letters.
 abbrev pub AreGates : Topology → Mode → Text → List Tracked → List Gate → Type 0

@@ -1,5 +1,5 @@
 -- What leads on from each node (own).
-use Rattle.std.specs.Prelude.{◌≡◌, ◌<◌, ◌==◌, ℕ, List, [], ◌∷◌, ◌++◌, Bool, length, slice_index_or}
+use Rattle.std.specs.Prelude.{◌≡◌, ◌<◌, ◌==◌, ℕ, List, [], ◌∷◌, ◌++◌, Bool, length, slice_index_or, slice_set}
 use Rattle.std.specs.List.{filter}
 use Rattle.model.specs.Topology.{IsIn}
 use Rattle.model.specs.declared.topologies.Mode.{Mode}
@@ -34,6 +34,10 @@ pub record AreExits (gs : List Gate) (ls : List Hop) (n : ℕ) (exits : List Exi
   pub gates : (p : ℕ) → (exit_at exits p).gates ≡ gates_from p gs
   pub alternates : (p : ℕ) → (exit_at exits p).alternates ≡ links_from p ls
 
+-- the links that are open from node `p`; `acc` says which patterns accept the key
+abbrev pub open_from : Mode → List Exit → ℕ → List Bool → List Hop
+open_from m exits p acc = open_ways m (exit_at exits p).gates (exit_at exits p).alternates acc
+
 -- the links that are open from any node; `acc` says which patterns accept the key
 abbrev pub open_through : Mode → List Exit → List Bool → List Hop
 open_through m [] acc = []
@@ -59,6 +63,14 @@ pub record IsBounded (exits : List Exit) (start : ℕ) : Type 0 where
 pub record AreEmpty (n : ℕ) (exits : List Exit) : Type 0 where
   pub size : length exits ≡ n
   pub none : (p : ℕ) → exit_at exits p ≡ no_exit
+
+-- the exits with the gate added to that of the node where it starts
+abbrev pub with_gate : Gate → List Exit → List Exit
+with_gate g exits = slice_set exits g.link.from (record (exit_at exits g.link.from) { gates = (exit_at exits g.link.from).gates ++ g ∷ [] })
+
+-- the exits with the link to an alternate exchange added to that of the node where it starts
+abbrev pub with_alternate : Hop → List Exit → List Exit
+with_alternate l exits = slice_set exits l.from (record (exit_at exits l.from) { alternates = (exit_at exits l.from).alternates ++ l ∷ [] })
 
 -- `new` is `old` with the gates `gs` added, each to the exit of the node where it starts
 pub record AddsGates (gs : List Gate) (old new : List Exit) : Type 0 where

@@ -1,8 +1,8 @@
 //! What leads on from each node. Start with `exits_of`.
 
-ghost use Rattle.std.specs.Prelude.{◌≡◌, ◌<◌, ◌++◌, ◌∷◌, [], length, IfOk, OnOk, slice_set};
+ghost use Rattle.std.specs.Prelude.{◌≡◌, ◌<◌, ◌++◌, ◌∷◌, [], length, IfOk, OnOk};
 ghost use Rattle.model.specs.Topology.{IsIn};
-ghost use Rattle.state_routes.specs.Exits.{AddsAlternates, AddsGates, AreEmpty, AreExits, exit_at, no_exit};
+ghost use Rattle.state_routes.specs.Exits.{AddsAlternates, AddsGates, AreEmpty, AreExits, no_exit, with_alternate, with_gate};
 
 use crate::gates::Gate;
 use paths::Hop;
@@ -77,9 +77,7 @@ fn no_exits(alloc: Global, count: usize) -> Result<Vec<Exits>, AllocError>
 /// Adds `gate` to the exit of the node where it starts. Fails only if an allocation fails.
 fn put_gate(exits: &mut Vec<Exits>, gate: Gate) -> Result<(), AllocError>
     requires { gate.link.from < length exits.old.items }
-    ensures { OnOk result (exits.new.items ≡ slice_set exits.old.items gate.link.from
-        (record (exit_at exits.old.items gate.link.from)
-        { gates = (exit_at exits.old.items gate.link.from).gates ++ gate ∷ [] })) }
+    ensures { OnOk result (exits.new.items ≡ with_gate gate exits.old.items) }
 {
     exits[gate.link.from].add_gate(gate)
 }
@@ -87,9 +85,7 @@ fn put_gate(exits: &mut Vec<Exits>, gate: Gate) -> Result<(), AllocError>
 /// Adds `link`, to an alternate exchange, to the exit of the node where it starts. Fails only if an allocation fails.
 fn put_alternate(exits: &mut Vec<Exits>, link: Hop) -> Result<(), AllocError>
     requires { link.from < length exits.old.items }
-    ensures { OnOk result (exits.new.items ≡ slice_set exits.old.items link.from
-        (record (exit_at exits.old.items link.from)
-        { alternates = (exit_at exits.old.items link.from).alternates ++ link ∷ [] })) }
+    ensures { OnOk result (exits.new.items ≡ with_alternate link exits.old.items) }
 {
     exits[link.from].add_alternate(link)
 }

@@ -2,8 +2,8 @@
 
 ghost use Rattle.std.specs.Prelude.{◌≡◌, ◌<◌, ◌∷◌, [], length, replicate, false, IfOk, OnOk};
 ghost use Rattle.model.specs.Topology.{IsIn};
-ghost use Rattle.state_routes.specs.Gates.{open_alternates, open_links, open_ways};
-ghost use Rattle.state_routes.specs.Exits.{IsBounded, LeadFrom, exit_at, open_through};
+ghost use Rattle.state_routes.specs.Gates.{open_alternates, open_links};
+ghost use Rattle.state_routes.specs.Exits.{IsBounded, LeadFrom, exit_at, open_from, open_through};
 ghost use Rattle.state_routes.specs.Following.{Enters, Spreads};
 ghost use Rattle.paths.specs.Reach.{AreReached};
 
@@ -117,8 +117,7 @@ fn leave(
     requires place { place < length exits.now }
     requires size { length marks.old ≡ length exits.now }
     requires bounded { LeadFrom (length exits.now) place (exit_at exits.now place) }
-    ensures { OnOk result (Enters (open_ways mode (exit_at exits.now place).gates
-        (exit_at exits.now place).alternates accepted.now) marks.old rest.old.items marks.new rest.new.items) }
+    ensures { OnOk result (Enters (open_from mode exits.now place accepted.now) marks.old rest.old.items marks.new rest.new.items) }
 {
     let exit = &exits[place];
     let gates = exit.gates();

@@ -1,17 +1,12 @@
 //! Decides whether a promise is kept in a state. Start with [`Routes`].
 
 ghost use Rattle.std.specs.Prelude.{◌≡◌, IfOk, IfSome, Decides};
-ghost use Rattle.model.specs.Words.{Text};
-ghost use Rattle.model.specs.Topology.{Topology as Shown};
-ghost use Rattle.model.specs.declared.topologies.Mode.{Mode as Promise};
-ghost use Rattle.model.specs.Certificates.{KeepsTo};
 ghost use Rattle.model.specs.Positions.{FitsEach};
 ghost use Rattle.state_routes.specs.Gates.{accepted};
 ghost use Rattle.state_routes.specs.Exits.{IsBounded, open_through};
 ghost use Rattle.paths.specs.Deaths.{AreDeaths};
 ghost use Rattle.paths.specs.Reach.{Chain};
-ghost use Rattle.certificate_laws.specs.Soundness.{AreOnce};
-ghost use Rattle.state_routes.specs.Known.{IsKeptBy, IsKnown, LeadsBy, keeps};
+ghost use Rattle.state_routes.specs.Known.{DecidesPromise, IsKeptBy, IsKnown, LeadsBy, keeps};
 
 use crate::deaths::all_gates;
 use crate::exits::{Exits, exits_of};
@@ -142,9 +137,7 @@ impl Routes {
     ) -> Result<bool, AllocError>
         requires { FitsEach letters.now state.now }
         ensures links { IfOk result (λ yes. Decides yes (IsKeptBy letters.now self.now state.now)) }
-        ensures promise { IfOk result (λ yes. (t : Shown) (m : Promise) (x q : Text)
-            → IsKnown t m x q letters.now self.now → AreOnce letters.now
-            → Decides yes (KeepsTo m t x q letters.now state.now)) }
+        ensures promise { IfOk result (λ yes. DecidesPromise letters.now self.now state.now yes) }
     {
         let yes = self.keeps(alloc, letters, state)?;
         Ok(yes)

@@ -4,25 +4,7 @@ use Rattle.std.specs.Prelude.{◌⊎◌}
 use Rattle.std.proofs.lemmas.Bool.Decides.{Decides-and, Decides-or}
 use Rattle.std.proofs.lemmas.List.{get_or-take, length-take-le, take_all, take_more, take_more_set}
 use Rattle.std.specs.Str.{bytes_eq}
-use Rattle.topic_match.proofs.Joins.{Parts, split, word_matches, one_matches, snoc_word, word_snoc, snoc_one, one_snoc, snoc_any, any_snoc_was, any_snoc_is, no_last}
-
-first_right : (t : Token) (b : List Token) (before : Bool) → Decides before (Matches b []) → Decides (matches_empty t before) (Matches (b ++ t ∷ []) [])
-first_right (Word v) b before d = (λ h. absurd (false≢true h), λ m. absurd (nothing (split b (Word v ∷ []) m refl)))
-  where
-    nothing : Parts b (Word v ∷ []) [] → ⊥
-    nothing p = no_last p.front v (p.whole ∙ ap (λ (z : List Text). p.front ++ z) (word_matches v p.back p.second))
-first_right One b before d = (λ h. absurd (false≢true h), λ m. absurd (nothing (split b (One ∷ []) m refl)))
-  where
-    nothing : Parts b (One ∷ []) [] → ⊥
-    nothing p = let o = one_matches p.back p.second in no_last p.front o.0 (p.whole ∙ ap (λ (z : List Text). p.front ++ z) o.1)
-first_right Any b before d = (λ h. any_snoc_is b [] (d.0 h), λ m. d.1 (front (split b (Any ∷ []) m refl)))
-  where
-    front : Parts b (Any ∷ []) [] → Matches b []
-    front p = go p.front p.back p.whole p.first
-      where
-        go : (f k : List Text) → [] ≡ f ++ k → Matches b f → Matches b []
-        go [] k e m = m
-        go (x ∷ f) k e m = cc
+use Rattle.model.proofs.Joins.{start_bit, snoc_word, word_snoc, snoc_one, one_snoc, snoc_any, any_snoc_was, any_snoc_is}
 
 after_right : (t : Token) (b : List Token) (ws : List Text) (w : Text) (bw was bi : Bool) → Decides bw (Matches b ws) → Decides was (Matches (b ++ t ∷ []) ws)
     → Decides bi (Matches b (ws ++ w ∷ [])) → Decides (matches_after t w bw was bi) (Matches (b ++ t ∷ []) (ws ++ w ∷ []))
@@ -58,7 +40,7 @@ pub counts_first : (t : Token) (b : List Token) (ws : List Text) (before after :
     → after ≡ was ∷ [] → AreCountsTo (b ++ t ∷ []) ws 0 after was
 counts_first t b ws before after was a f g =
     let d : Decides was (Matches (b ++ t ∷ []) []) =
-    subst (λ (v : Bool). Decides v (Matches (b ++ t ∷ []) [])) (sym f) (first_right t b (get_or before 0 false) (a.each 0 (omega arith))) in
+    subst (λ (v : Bool). Decides v (Matches (b ++ t ∷ []) [])) (sym f) (start_bit t b (get_or before 0 false) (a.each 0 (omega arith))) in
     record {
       size = rw g refl;
       each = λ i k. only i k d;
@@ -135,7 +117,7 @@ counts_moved b ws before after e a =
     subst (λ (xs : List Bool). AreCounts (b ++ One ∷ []) ws xs) (sym (e ∙ ap (λ (k : ℕ). false ∷ take k before) n)) moved
   where
     at : (i : ℕ) → i ≤ length ws → Decides (get_or (false ∷ take (length ws) before) i false) (Matches (b ++ One ∷ []) (take i ws))
-    at zero k = first_right One b (get_or before 0 false) (a.each 0 (omega arith))
+    at zero k = start_bit One b (get_or before 0 false) (a.each 0 (omega arith))
     at (suc i) k =
         subst (λ (v : Bool). Decides v (Matches (b ++ One ∷ []) (take (suc i) ws))) (sym (get_or-take (length ws) before i false (omega (arith, k))))
         (one_on b ws i (get_or before i false) (omega (arith, k)) (a.each i (omega (arith, k))))

@@ -2,7 +2,6 @@ pub mod Names
 pub mod Loops
 pub mod Taken
 pub mod Some
-pub mod Joins
 pub mod Counting
 pub mod Slots
 pub mod Lists

@@ -9,7 +9,7 @@ pub use Rattle.std.proofs.Common.{Bool, List, [], ap, append-nil, append_assoc, 
 pub use Rattle.std.proofs.lemmas.Bool.{eqb-true, false≢true, ltb-false, ltb-true}
 pub use Rattle.std.proofs.lemmas.List.{same_from_push, take-append-drop}
 pub use Rattle.std.proofs.lemmas.Slice.Eq.{bytes_eq-Decides}
-pub use Rattle.std.specs.Prelude.{AllPairs, Decides, IfNone, IfSome, None, Option, Some, option_copied}
+pub use Rattle.std.specs.Prelude.{AllPairs, Decides, IfNone, IfOk, IfSome, None, Option, Some, option_copied}
 pub use Rattle.topic_match.specs.Beginnings.{AllDistinct, Begins, IsCounted, IsPair, Pair}
 pub use Rattle.topic_match.specs.Building.{AreGrown, EndAt}
 pub use Rattle.topic_match.specs.Counts.{AreCounts, AreCountsTo, matches_after, matches_empty, trues}

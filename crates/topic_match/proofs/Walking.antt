@@ -1,7 +1,7 @@
 -- The walk: what a token leads to, and what is added.
 use Rattle.topic_match.proofs.Names.{◌≡◌, ℕ, zero, suc, ◌+◌, ◌<◌, List, [], ◌∷◌, ◌++◌, Bool, false, refl, sym, ap, ◌∙◌, subst, length, take, get_or, inl, inr, arith, append_assoc, append-nil, Option, Some, None, IfSome, IfNone, same_from_push, false≢true, Text, Matches, word, IsIn, Token, Word, One, Any, Node, Met, AreCounts, node_at, beginning_at, last_token, AreLinked, IsChild, AllDistinct, Begins, AreSteps, GoesOn, nodes_of, AreAdded, IsStep, IsBarren}
 use Rattle.std.specs.Prelude.{◌⊎◌}
-use Rattle.topic_match.proofs.Joins.{split, last_of}
+use Rattle.model.proofs.Joins.{split, last_of}
 use Rattle.topic_match.proofs.Lists.{in_front, in_back, in_two, in_push, apart_two, in_taken, take_push, new_at, take_all, front_taken}
 
 -- ---- nodes and their beginnings

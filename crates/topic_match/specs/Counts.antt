@@ -1,6 +1,7 @@
 -- Which numbers of first words of a key some tokens match (own).
-use Rattle.std.specs.Prelude.{◌≡◌, ◌+◌, ◌≤◌, ◌<◌, ℕ, List, [], ◌∷◌, Bool, true, false, ◌&&◌, ◌||◌, if◌then◌else◌, length, take, slice_index_or, Decides}
+use Rattle.std.specs.Prelude.{◌≡◌, ◌+◌, ◌≤◌, ◌<◌, ℕ, List, [], ◌∷◌, ◌++◌, Bool, true, false, ◌&&◌, ◌||◌, if◌then◌else◌, length, take, slice_index_or, Decides}
 use Rattle.std.specs.Str.{bytes_eq}
+use Rattle.model.specs.Positions.{bit_at_start}
 use Rattle.model.specs.Words.{Text, Matches}
 use Rattle.model.specs.declared.texts.Token.{Token}
 use Rattle.model.specs.declared.texts.Token.TheVariants.{Word, One, Any}
@@ -16,11 +17,13 @@ pub record AreCountsTo (tokens : List Token) (words : List Text) (n : ℕ) (coun
   pub each : (i : ℕ) → i ≤ n → Decides (slice_index_or counts i false) (Matches tokens (take i words))
   pub last : Decides was (Matches tokens (take n words))
 
+-- `CountsFollow token words before after`: `after` has the counts of some tokens followed by `token`, if `before` has those of these tokens alone
+abbrev pub CountsFollow : Token → List Text → List Bool → List Bool → Type 0
+CountsFollow token words before after = (tokens : List Token) → AreCounts tokens words before → AreCounts (tokens ++ token ∷ []) words after
+
 -- `matches_empty token before`: whether tokens that end with `token` match the empty key; `before` says whether those before it do
 abbrev pub matches_empty : Token → Bool → Bool
-matches_empty (Word v) before = false
-matches_empty One before = false
-matches_empty Any before = before
+matches_empty token before = bit_at_start token before
 
 -- `matches_after token w before_was was before_is`: whether tokens that end with `token` match words that end with `w`. Whether the tokens before `token`
 -- match is `before_was` for the words before `w`, and `before_is` for all words; `was` is whether all tokens match the words before `w`

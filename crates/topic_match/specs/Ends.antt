@@ -1,5 +1,5 @@
 -- Which patterns end at a node, and which of them a walk has found (own).
-use Rattle.std.specs.Prelude.{◌≡◌, ◌<◌, ℕ, List, [], true, false, length, slice_index_or, AllPairs}
+use Rattle.std.specs.Prelude.{◌≡◌, ◌<◌, ℕ, List, [], true, false, if◌then◌else◌, length, slice_index_or, AllPairs}
 use Rattle.model.specs.Topology.{IsIn}
 use Rattle.topic_match.specs.Beginnings.{AllDistinct}
 use Rattle.topic_match.specs.Walks.{nodes_of}
@@ -11,6 +11,10 @@ pub record AreEnding (ends : List ℕ) (count n : ℕ) (lists : List (List ℕ))
   pub distinct : (c : ℕ) → AllDistinct (slice_index_or lists c [])
   pub only : (c p : ℕ) → IsIn p (slice_index_or lists c []) → (p < n) × (slice_index_or ends p 0 ≡ c)
   pub all : (p : ℕ) → p < n → IsIn p (slice_index_or lists (slice_index_or ends p 0) [])
+
+-- the indices of the patterns that end at the node of `m` if its beginning matches `n` words, and none if it doesn't
+abbrev pub indices_at : List (List ℕ) → Met → ℕ → List ℕ
+indices_at lists m n = if slice_index_or m.counts.items n false then slice_index_or lists m.node [] else []
 
 -- `met` names no node twice, each of its nodes has a list in `lists` and counts for `n` words, and no index is in two lists or twice in one
 pub record AreSound (lists : List (List ℕ)) (met : List Met) (n : ℕ) : Type 0 where

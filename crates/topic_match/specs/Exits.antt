@@ -1,5 +1,5 @@
 -- The kinds of tokens by which beginnings of patterns continue (own).
-use Rattle.std.specs.Prelude.{◌≡◌, ◌<◌, ℕ, List, Bool, true, false, length, slice_index_or}
+use Rattle.std.specs.Prelude.{◌≡◌, ◌<◌, ℕ, List, Bool, true, false, length, slice_index_or, slice_set}
 use Rattle.model.specs.declared.texts.Token.{Token}
 use Rattle.model.specs.declared.texts.Token.TheVariants.{Word, One, Any}
 use Rattle.topic_match.specs.Nodes.{node_at, last_token, IsDeep}
@@ -21,6 +21,10 @@ abbrev pub with_exit : Exits → Token → Exits
 with_exit exits (Word w) = record exits { word = true }
 with_exit exits One = record exits { one = true }
 with_exit exits Any = record exits { any = true }
+
+-- the exits of all nodes, with the kind of the last token of node `n` added to those of its parent
+abbrev pub with_exit_to : List (List Token) → Node → List Exits → List Exits
+with_exit_to patterns n exits = slice_set exits n.parent (with_exit (slice_index_or exits n.parent no_exit) (last_token patterns n))
 
 -- each node but the root has a last token, and its parent has a smaller index
 pub record AreDeep (patterns : List (List Token)) (nodes : List Node) : Type 0 where

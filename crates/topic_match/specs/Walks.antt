@@ -4,7 +4,7 @@ use Rattle.model.specs.Words.{Text, Matches}
 use Rattle.model.specs.Topology.{IsIn}
 use Rattle.model.specs.declared.texts.Token.{Token}
 use Rattle.model.specs.declared.texts.Token.TheVariants.{Word, One, Any}
-use Rattle.topic_match.specs.Beginnings.{AllDistinct}
+use Rattle.topic_match.specs.Beginnings.{AllDistinct, Begins}
 use Rattle.topic_match.specs.Counts.{AreCounts, trues}
 use Rattle.topic_match.specs.Nodes.{beginning_at}
 use Rattle.topic_match.specs.declared.nodes.Node.{Node}
@@ -41,6 +41,10 @@ pub record AreAdded (patterns : List (List Token)) (nodes : List Node) (words : 
   pub more : List Met
   pub is_added : new ≡ old ++ more
   pub are : AreMet patterns nodes words Such more
+
+-- `new` is `old`, followed by node `c` and those below it, as far as their beginnings match the first `n` words for some `n` (`AreMet`)
+abbrev pub AreAddedFrom : List (List Token) → List Node → List Text → ℕ → List Met → List Met → Type 0
+AreAddedFrom patterns nodes words c old new = AreAdded patterns nodes words (Begins (beginning_at patterns nodes c)) old new
 
 -- `next` is a later node, whose beginning is that of `at` followed by `token`; `counts` says for each `n` whether this beginning matches the first `n`
 -- words

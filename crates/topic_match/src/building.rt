@@ -3,7 +3,7 @@
 ghost use Rattle.std.specs.Prelude.{◌≡◌, ◌+◌, ◌<◌, ℕ, [], length, take, IfOk, OnOk, slice_index_or};
 ghost use Rattle.model.specs.declared.texts.Token.TheVariants.{Any};
 ghost use Rattle.topic_match.specs.Nodes.{AreLinked, IsSlotOf, beginning_at};
-ghost use Rattle.topic_match.specs.Building.{AreGrown, EndAt};
+ghost use Rattle.topic_match.specs.Building.{AreGrown, EndAt, IsNodeOf};
 
 use crate::children::{node_in, slot_of};
 use crate::nodes::Node;
@@ -34,8 +34,7 @@ fn add_node(
     // The nodes stay linked and keep their beginnings, and the result is the node of the first `depth + 1` tokens.
     ensures linked { OnOk result (AreLinked patterns.now nodes.new.items slots.new.items) }
     ensures grown { OnOk result (AreGrown patterns.now nodes.old.items nodes.new.items) }
-    ensures made { IfOk result (λ c. (c < length nodes.new.items)
-        × (beginning_at patterns.now nodes.new.items c ≡ take (depth + 1) (slice_index_or patterns.now pattern []))) }
+    ensures made { IfOk result (λ c. IsNodeOf patterns.now nodes.new.items pattern (depth + 1) c) }
 {
     let node = nodes.len();
     nodes.push(Node {
@@ -68,8 +67,7 @@ fn node_behind(
     // The nodes stay linked and keep their beginnings, and the result is the node of the first `depth + 1` tokens.
     ensures linked { OnOk result (AreLinked patterns.now nodes.new.items slots.new.items) }
     ensures grown { OnOk result (AreGrown patterns.now nodes.old.items nodes.new.items) }
-    ensures made { IfOk result (λ c. (c < length nodes.new.items)
-        × (beginning_at patterns.now nodes.new.items c ≡ take (depth + 1) (slice_index_or patterns.now pattern []))) }
+    ensures made { IfOk result (λ c. IsNodeOf patterns.now nodes.new.items pattern (depth + 1) c) }
 {
     let token = &patterns[pattern].tokens()[depth];
     let slot = slot_of(

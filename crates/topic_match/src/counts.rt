@@ -1,8 +1,7 @@
 //! Which numbers of first words of a key some tokens match.
 
-ghost use Rattle.std.specs.Prelude.{◌≡◌, ◌+◌, ◌-◌, ◌<◌, ◌∷◌, ◌++◌, [], List, length, IfOk, if◌then◌else◌, take, false};
-ghost use Rattle.model.specs.declared.texts.Token.{Token};
-ghost use Rattle.topic_match.specs.Counts.{AreCounts, HasSome, trues};
+ghost use Rattle.std.specs.Prelude.{◌≡◌, ◌+◌, ◌-◌, ◌<◌, ◌∷◌, length, IfOk, if◌then◌else◌, take, false};
+ghost use Rattle.topic_match.specs.Counts.{CountsFollow, HasSome, trues};
 
 use crate::pieces::KeyWord;
 use crate::steps::Step;
@@ -16,7 +15,7 @@ pub type Counts = SmallVec<bool, 32>;
 fn write_after(token: &Step<'_>, words: &[KeyWord<'_>], before: &[bool], after: &mut [bool])
     requires before { length before.now ≡ length words.now + 1 }
     requires after { length after.old ≡ length words.now + 1 }
-    ensures { (tokens : List Token) → AreCounts tokens words.now before.now → AreCounts (tokens ++ token.now ∷ []) words.now after.new }
+    ensures { CountsFollow token.now words.now before.now after.new }
 {
     let mut was = token.matches_empty(before[0]);
     after[0] = was;
@@ -45,8 +44,7 @@ pub fn counts_after(
     before: &[bool],
 ) -> Result<Counts, AllocError>
     requires { length before.now ≡ length words.now + 1 }
-    ensures { IfOk result (λ after. (tokens : List Token) → AreCounts tokens words.now before.now
-        → AreCounts (tokens ++ token.now ∷ []) words.now after.items) }
+    ensures { IfOk result (λ after. CountsFollow token.now words.now before.now after.items) }
 {
     if token.is_one() {
         return moved_on(alloc, before);

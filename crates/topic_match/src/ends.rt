@@ -1,8 +1,8 @@
 //! Lists the patterns that end at each node, and collects the indices of those that match.
 
-ghost use Rattle.std.specs.Prelude.{◌≡◌, ◌<◌, ◌++◌, ◌∷◌, ℕ, [], All, length, IfOk, OnOk, slice_index_or, slice_set, if◌then◌else◌, false};
+ghost use Rattle.std.specs.Prelude.{◌≡◌, ◌<◌, ◌++◌, ◌∷◌, ℕ, [], All, length, IfOk, OnOk, slice_index_or, slice_set};
 ghost use Rattle.model.specs.Topology.{IsIn};
-ghost use Rattle.topic_match.specs.Ends.{AreEnding, AreFound, AreRising, AreSound};
+ghost use Rattle.topic_match.specs.Ends.{AreEnding, AreFound, AreRising, AreSound, indices_at};
 
 use crate::indices::Indices;
 use crate::nodes::Met;
@@ -50,8 +50,7 @@ fn add_indices(
 ) -> Result<(), AllocError>
     requires node { met.now.node < length lists.now }
     requires count { count < length met.now.counts.items }
-    ensures { OnOk result (found.new.items ≡ found.old.items
-        ++ (if slice_index_or met.now.counts.items count false then slice_index_or lists.now met.now.node [] else [])) }
+    ensures { OnOk result (found.new.items ≡ found.old.items ++ indices_at lists.now met.now count) }
 {
     if met.counts[count] {
         found.extend_from_slice(lists[met.node].as_slice())?;

@@ -1,9 +1,9 @@
 //! The exits of a node: the kinds (word, `*` or `#`) of its children's last tokens. A walk looks for a child by a token only if the node has an exit
 //! of the token's kind.
 
-ghost use Rattle.std.specs.Prelude.{◌≡◌, ◌<◌, length, IfOk, slice_index_or, slice_set};
-ghost use Rattle.topic_match.specs.Exits.{AreDeep, AreExits, no_exit, with_exit};
-ghost use Rattle.topic_match.specs.Nodes.{IsDeep, last_token};
+ghost use Rattle.std.specs.Prelude.{◌≡◌, ◌<◌, length, IfOk};
+ghost use Rattle.topic_match.specs.Exits.{AreDeep, AreExits, with_exit, with_exit_to};
+ghost use Rattle.topic_match.specs.Nodes.{IsDeep};
 
 use crate::nodes::{Exits, Node};
 use crate::patterns::Pattern;
@@ -37,8 +37,7 @@ fn with_exit(exits: Exits, token: &Token) -> Exits
 fn open(patterns: &[Pattern], node: &Node, exits: &mut [Exits])
     requires deep { IsDeep patterns.now node.now }
     requires within { node.now.parent < length exits.old }
-    ensures { exits.new ≡ slice_set exits.old node.now.parent
-        (with_exit (slice_index_or exits.old node.now.parent no_exit) (last_token patterns.now node.now)) }
+    ensures { exits.new ≡ with_exit_to patterns.now node.now exits.old }
 {
     let token = &patterns[node.pattern].tokens()[node.depth - 1];
     exits[node.parent] = with_exit(exits[node.parent], token);

@@ -17,11 +17,15 @@ use crate::matchers::Matcher;
 use crate::nodes::{Exits, Links, Met, Node};
 use crate::patterns::Pattern;
 use crate::pieces::{KeyWord, words_in};
+use crate::plain::matches_one_by_one;
 use crate::steps::steps_of;
 use crate::walks::walk;
 use smallvec::SmallVec;
 use std::alloc::{AllocError, Global};
 use std::marker::Model;
+
+/// The greatest number of patterns with which a key is compared one by one: a walk through their beginnings takes longer.
+const FEW: usize = 16;
 
 /// Returns the counts of the empty beginning, which matches only the empty key. Fails only if an allocation fails.
 fn first_counts(alloc: Global, words: &[KeyWord<'_>]) -> Result<Counts, AllocError>
@@ -89,16 +93,13 @@ pub struct Trie {
 impl Model for Trie {
     ghost use Rattle.std.specs.Prelude.{List};
     ghost use Rattle.model.specs.declared.texts.Token.{Token};
-    ghost use Rattle.std.specs.Prelude.{length};
-    ghost use Rattle.topic_match.specs.Exits.{AreExits};
-    ghost use Rattle.topic_match.specs.Tries.{IsTrie};
+    ghost use Rattle.topic_match.specs.Tries.{IsTrieWithExits};
 
     ghost Value = { List (List Token) };
 
     ghost view = { λ t. t.patterns.items };
 
-    ghost invariant = { λ t. IsTrie t.patterns.items t.nodes.items t.slots.items t.ends.items t.indices.items
-        × AreExits t.patterns.items t.nodes.items (length t.nodes.items) t.exits.items };
+    ghost invariant = { λ t. IsTrieWithExits t.patterns.items t.nodes.items t.slots.items t.ends.items t.indices.items t.exits.items };
 }
 
 impl Trie {
@@ -149,6 +150,10 @@ impl Matcher for Trie {
     }
 
     fn matches(&self, alloc: Global, key: &[u8]) -> Result<Vec<usize>, AllocError> {
+        let are_few = self.patterns.len() <= FEW;
+        if are_few {
+            return matches_one_by_one(alloc, self.patterns.as_slice(), key);
+        }
         let (indices, _) = self.matches_counted(alloc, key)?;
         Ok(indices)
     }

@@ -4,8 +4,7 @@ ghost use Rattle.std.specs.Prelude.{◌≡◌, ◌<◌, length, IfOk, IfSome, If
 ghost use Rattle.topic_match.specs.Counts.{AreCounts};
 ghost use Rattle.topic_match.specs.Exits.{AreExits};
 ghost use Rattle.topic_match.specs.Nodes.{AreLinked, beginning_at};
-ghost use Rattle.topic_match.specs.Beginnings.{Begins};
-ghost use Rattle.topic_match.specs.Walks.{AreAdded, AreSteps, IsBarren, IsStep};
+ghost use Rattle.topic_match.specs.Walks.{AreAddedFrom, AreSteps, IsBarren, IsStep};
 
 use crate::children::child;
 use crate::counts::{counts_after, has_some};
@@ -64,8 +63,7 @@ pub fn walk(
     requires counted { AreCounts (beginning_at patterns.now links.now.nodes.now from.node) words.now from.counts.items }
     requires taken { AreSteps steps.now words.now }
     // No node is appended twice, and each comes with the numbers of first words that its beginning matches.
-    ensures { OnOk result (AreAdded patterns.now links.now.nodes.now words.now
-        (Begins (beginning_at patterns.now links.now.nodes.now from.node)) met.old.items met.new.items) }
+    ensures { OnOk result (AreAddedFrom patterns.now links.now.nodes.now words.now from.node met.old.items met.new.items) }
 {
     for place in 0..steps.len() {
         let Some(next) = step(alloc, patterns, links, words, &from, &steps[place])? else {

@@ -1,6 +1,6 @@
 -- The conditions on a topology that can be built, and the reason that is reported otherwise. Source: RabbitMQ, "Definition
 -- Export and Import"; the limits are own.
-use Rattle.std.specs.Prelude.{◌≡◌, ◌≤◌, List, [], Some, None, length, All, Result, Ok, Err, ◌⊎◌}
+use Rattle.std.specs.Prelude.{◌≡◌, ◌≤◌, List, [], Some, None, length, All, Result, Ok, Err, MatchResult, ◌⊎◌}
 use Rattle.model.specs.Words.{Text}
 use Rattle.model.specs.Topology.{Topology, queue_names, exchange_names, IsIn, AreDistinct}
 use Rattle.model.specs.declared.topologies.Exchange.{Exchange}
@@ -98,6 +98,10 @@ IsFirstFailure Worded t = NamesAreDistinct t × AllJoin t × KeysHaveExchanges t
 IsFirstFailure TooMany t = NamesAreDistinct t × AllJoin t × KeysHaveExchanges t × AllWorded t × (IsSmall t → ⊥)
 IsFirstFailure NoExchange t = NamesAreDistinct t × AllJoin t × KeysHaveExchanges t × AllWorded t × IsSmall t × (NamesLead t → ⊥)
 IsFirstFailure Memory t = ⊥
+
+-- the result of a check: the topology meets every condition, or the refusal is of the first one that it doesn't meet
+abbrev pub Judges : Result Unit BadTopology → Topology → Type 0
+Judges result t = MatchResult result (λ u. IsBuildable t) (λ e. IsFirstFailure e t)
 
 -- the topology is refused for the first condition that it doesn't meet; an allocation failure is reported only if it meets all
 abbrev pub IsTopologyRefused : BadTopology → Topology → Type 0

@@ -1,18 +1,17 @@
 //! Checks a topology before it is built. Start with [`judge`].
 
-ghost use Rattle.std.specs.Prelude.{◌≡◌, All, Decides, MatchResult};
+ghost use Rattle.std.specs.Prelude.{◌≡◌, All, Decides};
 ghost use Rattle.model.specs.Topology.{exchange_names};
 ghost use Rattle.topology_drafts.specs.Causes.{
   AllJoin,
   AllWorded,
   AlternateIsThere,
   DeadLettersLead,
-  IsBuildable,
   IsSmall,
+  Judges,
   KeysHaveExchanges,
   NamesAreDistinct,
   NamesLead,
-  IsFirstFailure,
 };
 
 use crate::bad::BadTopology;
@@ -135,7 +134,7 @@ impl<'a> Draft<'a> {
 
     /// Returns the first reason why the topology can't be built, if there is one. Never allocates.
     fn judge(&self) -> Result<(), BadTopology>
-        ensures { MatchResult result (λ _. IsBuildable self.now) (λ e. IsFirstFailure e self.now) }
+        ensures { Judges result self.now }
     {
         if !self.is_distinct() {
             return Err(BadTopology::Repeated);
@@ -167,9 +166,7 @@ pub fn judge(
     queues: &[DeclaredQueue],
     bindings: &[Binding],
 ) -> Result<(), BadTopology>
-    ensures { MatchResult result
-        (λ _. IsBuildable (record { exchanges = exchanges.now; queues = queues.now; bindings = bindings.now }))
-        (λ e. IsFirstFailure e (record { exchanges = exchanges.now; queues = queues.now; bindings = bindings.now })) }
+    ensures { Judges result (record { exchanges = exchanges.now; queues = queues.now; bindings = bindings.now }) }
 {
     let draft = Draft::of(alloc, exchanges, queues, bindings);
     draft.judge()

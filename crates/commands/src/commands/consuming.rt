@@ -1,14 +1,12 @@
 //! Makes and cancels consumers. Source: AMQP 0-9-1, basic.consume and basic.cancel.
 
-ghost use Rattle.std.specs.Prelude.{◌≡◌, IfOk, OnErr, Option};
+ghost use Rattle.std.specs.Prelude.{◌≡◌, IfOk, OnErr};
 ghost use Rattle.model.specs.Grammar.{IsMethod};
 ghost use Rattle.model.specs.Topology.{Topology};
-ghost use Rattle.model.specs.declared.contents.Content.{Content};
 ghost use Rattle.model.specs.declared.methods.Method.TheVariants.{BasicConsume, BasicCancel};
-ghost use Rattle.depot.specs.Store.{Store};
 ghost use Rattle.channels.specs.Placed.{IsPlaced};
 ghost use Rattle.replies.specs.Sent.{AreAddressed};
-ghost use Rattle.commands.specs.Commands.{Commands};
+ghost use Rattle.commands.specs.Commands.{CommandsOnChannel, CommandsPlain};
 
 use crate::refusals::{Stop, check_consume};
 use channels::Channel;
@@ -27,8 +25,7 @@ pub(crate) fn consume(
     consume: &Consume,
 ) -> Result<Step, Stop>
     requires { IsPlaced depot.now.topology channel.old }
-    ensures commands { (content : Option Content)
-        → Commands id.connection id.number depot.now channel.old (BasicConsume consume.now) content result depot.now channel.new }
+    ensures commands { CommandsPlain id.connection id.number depot.now channel.old (BasicConsume consume.now) result depot.now channel.new }
     ensures addressed { IfOk result (λ s. IsMethod (BasicConsume consume.now) → AreAddressed id.connection s.sends.items) }
     ensures placed { IsPlaced depot.now.topology channel.new }
     ensures err { OnErr result (channel.new ≡ channel.old) }
@@ -49,8 +46,7 @@ pub(crate) fn cancel(
     channel: &mut Channel,
     cancel: &Cancel,
 ) -> Result<Step, Stop>
-    ensures commands { (s : Store) (content : Option Content)
-        → Commands id.connection id.number s channel.old (BasicCancel cancel.now) content result s channel.new }
+    ensures commands { CommandsOnChannel id.connection id.number channel.old (BasicCancel cancel.now) result channel.new }
     ensures addressed { IfOk result (λ s. IsMethod (BasicCancel cancel.now) → AreAddressed id.connection s.sends.items) }
     ensures placed { (t : Topology) → IsPlaced t channel.old → IsPlaced t channel.new }
     ensures err { OnErr result (channel.new ≡ channel.old) }

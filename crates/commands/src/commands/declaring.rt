@@ -1,11 +1,9 @@
 //! Answers passive declares of exchanges. Source: AMQP 0-9-1, exchange.declare, "passive".
 
-ghost use Rattle.std.specs.Prelude.{IfOk, Option};
-ghost use Rattle.model.specs.declared.contents.Content.{Content};
+ghost use Rattle.std.specs.Prelude.{IfOk};
 ghost use Rattle.model.specs.declared.methods.Method.TheVariants.{ExchangeDeclare as DeclaresExchange};
-ghost use Rattle.channels.specs.Open.{Open};
 ghost use Rattle.replies.specs.Sent.{AreAddressed};
-ghost use Rattle.commands.specs.Commands.{Commands};
+ghost use Rattle.commands.specs.Commands.{CommandsOnQueues};
 
 use crate::refusals::{Stop, check_exchange};
 use depot::Depot;
@@ -20,8 +18,7 @@ pub(crate) fn find_exchange(
     depot: &Depot,
     declare: &ExchangeDeclare,
 ) -> Result<Step, Stop>
-    ensures commands { (ch : Open) (content : Option Content)
-        → Commands id.connection id.number depot.now ch (DeclaresExchange declare.now) content result depot.now ch }
+    ensures commands { CommandsOnQueues id.connection id.number depot.now (DeclaresExchange declare.now) result depot.now }
     ensures addressed { IfOk result (λ s. AreAddressed id.connection s.sends.items) }
 {
     check_exchange(depot.topology(), declare)?;

@@ -1,11 +1,10 @@
 //! Answers basic.get. Source: AMQP 0-9-1, basic.get.
 
-ghost use Rattle.std.specs.Prelude.{◌≡◌, IfOk, OnErr, Option};
-ghost use Rattle.model.specs.declared.contents.Content.{Content};
+ghost use Rattle.std.specs.Prelude.{◌≡◌, IfOk, OnErr};
 ghost use Rattle.model.specs.declared.methods.Method.TheVariants.{BasicGet};
 ghost use Rattle.channels.specs.Placed.{IsPlaced};
 ghost use Rattle.replies.specs.Sent.{AreAddressed};
-ghost use Rattle.commands.specs.Commands.{CanCommand, Commands, HasSpelling};
+ghost use Rattle.commands.specs.Commands.{CanCommand, CommandsPlain, HasSpelling};
 
 use crate::giving::give_out;
 use crate::refusals::{Stop, check_queue, check_tag};
@@ -26,8 +25,7 @@ pub(crate) fn get(
 ) -> Result<Step, Stop>
     requires { CanCommand id.connection id.number depot.old channel.old }
     // What the result means, and that all that is sent is for this connection.
-    ensures commands { (content : Option Content)
-        → Commands id.connection id.number depot.old channel.old (BasicGet get.now) content result depot.new channel.new }
+    ensures commands { CommandsPlain id.connection id.number depot.old channel.old (BasicGet get.now) result depot.new channel.new }
     ensures addressed { IfOk result (λ s. HasSpelling depot.old (BasicGet get.now) → AreAddressed id.connection s.sends.items) }
     // The frame; a failure changes nothing.
     ensures topology { depot.new.topology ≡ depot.old.topology }

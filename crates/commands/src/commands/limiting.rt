@@ -1,13 +1,11 @@
 //! Sets the limits of a channel. Source: AMQP 0-9-1, basic.qos; RabbitMQ, "Consumer Prefetch".
 
-ghost use Rattle.std.specs.Prelude.{◌≡◌, IfOk, OnErr, Option};
+ghost use Rattle.std.specs.Prelude.{◌≡◌, IfOk, OnErr};
 ghost use Rattle.model.specs.Topology.{Topology};
-ghost use Rattle.model.specs.declared.contents.Content.{Content};
 ghost use Rattle.model.specs.declared.methods.Method.TheVariants.{BasicQos};
-ghost use Rattle.depot.specs.Store.{Store};
 ghost use Rattle.channels.specs.Placed.{IsPlaced};
 ghost use Rattle.replies.specs.Sent.{AreAddressed};
-ghost use Rattle.commands.specs.Commands.{Commands};
+ghost use Rattle.commands.specs.Commands.{CommandsOnChannel};
 
 use crate::refusals::{Stop, check_qos};
 use channels::Channel;
@@ -23,7 +21,7 @@ pub(crate) fn limit(
     channel: &mut Channel,
     qos: &Qos,
 ) -> Result<Step, Stop>
-    ensures commands { (s : Store) (content : Option Content) → Commands id.connection id.number s channel.old (BasicQos qos.now) content result s channel.new }
+    ensures commands { CommandsOnChannel id.connection id.number channel.old (BasicQos qos.now) result channel.new }
     ensures addressed { IfOk result (λ s. AreAddressed id.connection s.sends.items) }
     ensures placed { (t : Topology) → IsPlaced t channel.old → IsPlaced t channel.new }
     ensures err { OnErr result (channel.new ≡ channel.old) }

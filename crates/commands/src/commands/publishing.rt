@@ -1,15 +1,13 @@
 //! Publishes and their confirms. Source: AMQP 0-9-1, basic.publish; RabbitMQ, "Publisher Confirms".
 
-ghost use Rattle.std.specs.Prelude.{◌≡◌, ◌+◌, cond, is_some, option_map, option_copied, IfOk, OnErr, Option, None, Some};
+ghost use Rattle.std.specs.Prelude.{◌≡◌, ◌+◌, cond, is_some, option_map, option_copied, IfOk, OnErr, Some};
 ghost use Rattle.std.specs.Arc.{arc_value};
 ghost use Rattle.model.specs.Grammar.{IsMethod};
 ghost use Rattle.model.specs.Topology.{Topology};
-ghost use Rattle.model.specs.declared.contents.Content.{Content as Whole};
 ghost use Rattle.model.specs.declared.methods.Method.TheVariants.{BasicPublish, ConfirmSelect};
-ghost use Rattle.depot.specs.Store.{Store};
 ghost use Rattle.channels.specs.Placed.{IsPlaced};
 ghost use Rattle.replies.specs.Sent.{AreAddressed};
-ghost use Rattle.commands.specs.Commands.{CanCommand, Commands};
+ghost use Rattle.commands.specs.Commands.{CanCommand, Commands, CommandsOnChannel};
 
 use crate::refusals::{Stop, check_publish};
 use channels::Channel;
@@ -27,8 +25,7 @@ pub(crate) fn select(
     channel: &mut Channel,
     no_wait: bool,
 ) -> Result<Step, Stop>
-    ensures commands { (s : Store) (content : Option Whole)
-        → Commands id.connection id.number s channel.old (ConfirmSelect no_wait) content result s channel.new }
+    ensures commands { CommandsOnChannel id.connection id.number channel.old (ConfirmSelect no_wait) result channel.new }
     ensures addressed { IfOk result (λ s. AreAddressed id.connection s.sends.items) }
     ensures placed { (t : Topology) → IsPlaced t channel.old → IsPlaced t channel.new }
     ensures err { OnErr result (channel.new ≡ channel.old) }
@@ -74,55 +71,11 @@ pub(crate) fn publish(
     ensures placed { IsPlaced depot.old.topology channel.new }
     ensures err { OnErr result ((depot.new ≡ depot.old) × (channel.new ≡ channel.old)) }
 {
-    match content {
-        Some(content) => publish_content(alloc, id, channel, depot, publish, content),
-        None => publish_empty(alloc, id, channel, depot, publish),
-    }
-}
-
-/// Publishes a message without properties and with an empty body, as [`publish`] does.
-#[inline(never)]
-fn publish_empty(
-    alloc: Global,
-    id: ChannelId,
-    channel: &mut Channel,
-    depot: &mut Depot,
-    publish: &Publish,
-) -> Result<Step, Stop>
-    requires { CanCommand id.connection id.number depot.old channel.old }
-    // What the result means, and that all that is sent is for this connection.
-    ensures commands { Commands id.connection id.number depot.old channel.old (BasicPublish publish.now) None result depot.new channel.new }
-    ensures addressed { IfOk result (λ s. IsMethod (BasicPublish publish.now) → AreAddressed id.connection s.sends.items) }
-    // The frame; a failure changes nothing.
-    ensures topology { depot.new.topology ≡ depot.old.topology }
-    ensures placed { IsPlaced depot.old.topology channel.new }
-    ensures err { OnErr result ((depot.new ≡ depot.old) × (channel.new ≡ channel.old)) }
-{
-    let content = Content {
+    let none = Content {
         properties: Properties::none(),
         body: Body::empty(),
     };
-    publish_content(alloc, id, channel, depot, publish, &content)
-}
-
-/// Publishes a message with `content`, as [`publish`] does.
-fn publish_content(
-    alloc: Global,
-    id: ChannelId,
-    channel: &mut Channel,
-    depot: &mut Depot,
-    publish: &Publish,
-    content: &Content,
-) -> Result<Step, Stop>
-    requires { CanCommand id.connection id.number depot.old channel.old }
-    // What the result means, and that all that is sent is for this connection.
-    ensures commands { Commands id.connection id.number depot.old channel.old (BasicPublish publish.now) (Some content.now) result depot.new channel.new }
-    ensures addressed { IfOk result (λ s. IsMethod (BasicPublish publish.now) → AreAddressed id.connection s.sends.items) }
-    // The frame; a failure changes nothing.
-    ensures topology { depot.new.topology ≡ depot.old.topology }
-    ensures placed { IsPlaced depot.old.topology channel.new }
-    ensures err { OnErr result ((depot.new ≡ depot.old) × (channel.new ≡ channel.old)) }
-{
+    let content = content.as_ref().unwrap_or(&none);
     let known = check_publish(depot, channel, publish)?;
     let route = shared(known)?;
     let number = depot.published() + 1;

@@ -1,11 +1,9 @@
 //! Purges queues. Source: AMQP 0-9-1, queue.purge.
 
-ghost use Rattle.std.specs.Prelude.{◌≡◌, IfOk, OnErr, Option};
-ghost use Rattle.model.specs.declared.contents.Content.{Content};
+ghost use Rattle.std.specs.Prelude.{◌≡◌, IfOk, OnErr};
 ghost use Rattle.model.specs.declared.methods.Method.TheVariants.{QueuePurge};
-ghost use Rattle.channels.specs.Open.{Open};
 ghost use Rattle.replies.specs.Sent.{AreAddressed};
-ghost use Rattle.commands.specs.Commands.{Commands};
+ghost use Rattle.commands.specs.Commands.{CommandsOnQueues};
 
 use crate::refusals::{Stop, check_queue};
 use depot::Depot;
@@ -21,8 +19,7 @@ pub(crate) fn purge(
     depot: &mut Depot,
     purge: &Purge,
 ) -> Result<Step, Stop>
-    ensures commands { (ch : Open) (content : Option Content)
-        → Commands id.connection id.number depot.old ch (QueuePurge purge.now) content result depot.new ch }
+    ensures commands { CommandsOnQueues id.connection id.number depot.old (QueuePurge purge.now) result depot.new }
     ensures addressed { IfOk result (λ s. AreAddressed id.connection s.sends.items) }
     ensures topology { depot.new.topology ≡ depot.old.topology }
     ensures err { OnErr result (depot.new ≡ depot.old) }

@@ -1,16 +1,13 @@
 //! Acknowledges, rejects and recovers deliveries. Source: AMQP 0-9-1, basic.ack, basic.reject and
 //! basic.recover; RabbitMQ, basic.nack and "Dead Letter Exchanges".
 
-ghost use Rattle.std.specs.Prelude.{◌≡◌, [], true, false, IfOk, OnOk, OnErr, List, Option};
-ghost use Rattle.model.specs.Deliveries.{Returns};
+ghost use Rattle.std.specs.Prelude.{◌≡◌, true, false, IfOk, OnOk, OnErr};
 ghost use Rattle.model.specs.Step as said;
-ghost use Rattle.model.specs.declared.contents.Content.{Content};
-ghost use Rattle.model.specs.declared.events.Send.{Send as Sent};
 ghost use Rattle.model.specs.declared.methods.Method.TheVariants.{BasicAck, BasicNack, BasicRecover};
 ghost use Rattle.channels.specs.Placed.{IsPlaced};
 ghost use Rattle.commands.specs.Judged.{refused_by};
 ghost use Rattle.replies.specs.Sent.{AreAddressed};
-ghost use Rattle.commands.specs.Commands.{CanCommand, Commands, SettlesHere, WantsNone, seen};
+ghost use Rattle.commands.specs.Commands.{CanCommand, CommandsPlain, RequeuesHere, WantsNone, seen};
 
 use crate::refusals::{Refusal, Stop, check_recover, check_settling};
 use channels::Channel;
@@ -30,8 +27,7 @@ pub(crate) fn ack(
 ) -> Result<Step, Stop>
     requires { CanCommand id.connection id.number depot.old channel.old }
     // What the result means, and that all that is sent is for this connection.
-    ensures commands { (content : Option Content)
-        → Commands id.connection id.number depot.old channel.old (BasicAck ack.now) content result depot.new channel.new }
+    ensures commands { CommandsPlain id.connection id.number depot.old channel.old (BasicAck ack.now) result depot.new channel.new }
     ensures addressed { IfOk result (λ s. AreAddressed id.connection s.sends.items) }
     // The frame; a failure changes nothing.
     ensures topology { depot.new.topology ≡ depot.old.topology }
@@ -56,8 +52,7 @@ fn requeue(
     requires { CanCommand id.connection id.number depot.old channel.old }
     // What the result means.
     ensures refusal { refused_by result ≡ said.refusal_of_settling (seen depot.old channel.old) tag multiple }
-    ensures settles { OnOk result ((sends : List Sent)
-        → SettlesHere Returns id.connection id.number depot.old channel.old tag multiple sends sends [] depot.new channel.new) }
+    ensures settles { OnOk result (RequeuesHere id.connection id.number depot.old channel.old tag multiple depot.new channel.new) }
     // The frame; a refusal changes nothing.
     ensures topology { depot.new.topology ≡ depot.old.topology }
     ensures placed { IsPlaced depot.old.topology channel.new }
@@ -81,8 +76,7 @@ pub(crate) fn nack(
 ) -> Result<Step, Stop>
     requires { CanCommand id.connection id.number depot.old channel.old }
     // What the result means, and that all that is sent is for this connection.
-    ensures commands { (content : Option Content)
-        → Commands id.connection id.number depot.old channel.old (BasicNack nack.now) content result depot.new channel.new }
+    ensures commands { CommandsPlain id.connection id.number depot.old channel.old (BasicNack nack.now) result depot.new channel.new }
     ensures addressed { IfOk result (λ s. AreAddressed id.connection s.sends.items) }
     // The frame; a failure changes nothing, and a requeueing nack never fails to allocate.
     ensures topology { depot.new.topology ≡ depot.old.topology }
@@ -123,8 +117,7 @@ pub(crate) fn recover(
 ) -> Result<Step, Stop>
     requires { CanCommand id.connection id.number depot.old channel.old }
     // What the result means, and that all that is sent is for this connection.
-    ensures commands { (content : Option Content)
-        → Commands id.connection id.number depot.old channel.old (BasicRecover is_requeue) content result depot.new channel.new }
+    ensures commands { CommandsPlain id.connection id.number depot.old channel.old (BasicRecover is_requeue) result depot.new channel.new }
     ensures addressed { IfOk result (λ s. AreAddressed id.connection s.sends.items) }
     // The frame; a failure changes nothing.
     ensures topology { depot.new.topology ≡ depot.old.topology }

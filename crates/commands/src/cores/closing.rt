@@ -9,17 +9,16 @@ use replies::{Step, channel_close, channel_close_ok, connection_close};
 use std::alloc::{AllocError, Global};
 
 impl Core {
-    ghost use Rattle.std.specs.Prelude.{◌≡◌, ◌∷◌, [], None, Some, true, false, IsSome, IfOk, IsOk, OnOk, OnErr, option_map};
+    ghost use Rattle.std.specs.Prelude.{◌≡◌, [], None, Some, true, false, IsSome, IfOk, IsOk, OnOk, OnErr};
     ghost use Rattle.model.specs.Agreement.{IsAgreed};
     ghost use Rattle.model.specs.Grammar.{ids};
     ghost use Rattle.model.specs.Sending.{IsAddressed};
     ghost use Rattle.model.specs.Step as said;
-    ghost use Rattle.model.specs.Entries.{by_channel};
-    ghost use Rattle.model.specs.Step.{Does, Is, Refuses, with_gone, with_closing, with_channel, after_close, reply};
+    ghost use Rattle.model.specs.Step.{with_gone, with_closing};
     ghost use Rattle.model.specs.declared.methods.Method.TheVariants.{ChannelCloseOk};
-    ghost use Rattle.commands.specs.State.{broker_of, channel_on, topology_kept, names_of};
-    ghost use Rattle.commands.specs.Steps.{PerformsOn};
-    ghost use Rattle.channels.specs.Open.{Open, open_in};
+    ghost use Rattle.commands.specs.State.{broker_of, channel_on, topology_kept};
+    ghost use Rattle.commands.specs.Steps.{AnswersClose, PerformsOn, RefusesOn, ReplacesChannel, SendsOne};
+    ghost use Rattle.channels.specs.Open.{Open};
     ghost use Rattle.commands.specs.Ended.{OtherConsumersStay, ReportsConsumersOn, ReportsEnd};
     ghost use Rattle.commands.specs.declared.acted.Ends.TheVariants as ended;
     ghost use Rattle.commands.specs.Judged.{refusal_seen, HasChannel};
@@ -35,8 +34,7 @@ impl Core {
         requires agreed { IsAgreed (broker_of self.old) }
         requires addressed { IsAddressed connection send }
         // The promise: `send` is all that is sent, and the connection is gone.
-        ensures ok { IfOk result (λ a. Does a.step.sends.items a.step.notes.items (broker_of self.new) (send ∷ [])
-            (with_gone (broker_of self.old) connection)) }
+        ensures ok { IfOk result (λ a. SendsOne a.step send (with_gone (broker_of self.old) connection) self.new) }
         ensures addressed { IfOk result (λ a. AreAddressed connection a.step.sends.items) }
         // What ends.
         ensures ended { IfOk result (λ a. ReportsEnd connection a.ends (broker_of self.old) (broker_of self.new)) }
@@ -62,9 +60,7 @@ impl Core {
         requires nothing { (k : Open) → channel ≡ Some k → k.given.outstanding ≡ [] }
         requires free { (k : Open) → channel ≡ Some k → k.given.consumers ≡ [] }
         // The channel is replaced, and what it held is ready again.
-        ensures cleared { Is (said.with_freed
-            (with_channel (broker_of self.old) connection number (option_map (open_in (names_of self.old)) channel))
-            (by_channel connection number)) (broker_of self.new) }
+        ensures cleared { ReplacesChannel self.old connection number channel self.new }
         ensures topology { topology_kept self.new ≡ topology_kept self.old }
     {
         let held = self.connections.outstanding(connection, number);
@@ -84,8 +80,7 @@ impl Core {
         requires there { IsSome ((broker_of self.old).channel connection channel) }
         requires addressed { IsAddressed connection send }
         // The promise: `send` is all that is sent, and the channel awaits close-ok.
-        ensures ok { IfOk result (λ s. Does s.sends.items s.notes.items (broker_of self.new) (send ∷ [])
-            (with_closing (broker_of self.old) connection channel)) }
+        ensures ok { IfOk result (λ s. SendsOne s send (with_closing (broker_of self.old) connection channel) self.new) }
         ensures addressed { IfOk result (λ s. AreAddressed connection s.sends.items) }
         // The frame; a failure changes nothing.
         ensures topology { topology_kept self.new ≡ topology_kept self.old }
@@ -107,8 +102,7 @@ impl Core {
         requires there { IsSome ((broker_of self.old).channel connection channel) }
         requires closing { (channel_on self.old connection channel).is_closing ≡ false }
         // The promise: close-ok is all that is sent, and the channel is gone.
-        ensures ok { IfOk result (λ s. Does s.sends.items s.notes.items (broker_of self.new) (reply connection channel ChannelCloseOk ∷ [])
-            (after_close (broker_of self.old) connection channel (channel_on self.old connection channel))) }
+        ensures ok { IfOk result (λ s. AnswersClose self.old connection channel s self.new) }
         ensures addressed { IfOk result (λ s. AreAddressed connection s.sends.items) }
         // The frame; a failure changes nothing.
         ensures topology { topology_kept self.new ≡ topology_kept self.old }
@@ -127,8 +121,7 @@ impl Core {
         channel: u16,
     ) -> Result<Step, AllocError>
         requires { (channel_on self.now connection channel).is_closing ≡ true }
-        ensures ok { IfOk result (λ s. Does s.sends.items s.notes.items (broker_of self.now) (reply connection channel ChannelCloseOk ∷ [])
-            (after_close (broker_of self.now) connection channel (channel_on self.now connection channel))) }
+        ensures ok { IfOk result (λ s. AnswersClose self.now connection channel s self.now) }
         ensures addressed { IfOk result (λ s. AreAddressed connection s.sends.items) }
     {
         Step::sending(alloc, channel_close_ok(connection, channel))
@@ -157,8 +150,7 @@ impl Core {
         requires agreed { IsAgreed (broker_of self.old) }
         requires there { HasChannel refusal ((broker_of self.old).channel connection channel) }
         // The promise: the model's refusal; an ignored method never fails.
-        ensures ok { IfOk result (λ a. Refuses (broker_of self.old) connection channel
-            (ids cause.class cause.method) (refusal_seen refusal) a.step.sends.items a.step.notes.items (broker_of self.new)) }
+        ensures ok { IfOk result (λ a. RefusesOn self.old connection channel (ids cause.class cause.method) refusal a.step self.new) }
         ensures ignored { refusal_seen refusal ≡ said.Ignored → IsOk result }
         ensures addressed { IfOk result (λ a. AreAddressed connection a.step.sends.items) }
         // What ends.

@@ -11,11 +11,8 @@ use std::alloc::{AllocError, Global};
 impl Core {
     ghost use Rattle.std.specs.Prelude.{◌≡◌, IfOk, OnErr};
     ghost use Rattle.model.specs.Agreement.{IsAgreed};
-    ghost use Rattle.model.specs.Naming.{AreNamed};
-    ghost use Rattle.model.specs.Sending.{AreCarried};
     ghost use Rattle.commands.specs.State.{broker_of, topology_kept};
-    ghost use Rattle.commands.specs.Picked.{IsPick, DeliversTo, IsNextPicked, ReturnsTaking};
-    ghost use Rattle.replies.specs.Sent.{AreAddressed};
+    ghost use Rattle.commands.specs.Picked.{AddressesTo, IsPick, DeliversTo, IsNextPicked, ReturnsTaking};
 
     /// Returns how many messages have entered queues whose consumers lag behind.
     pub fn lagged(&self) -> u64 {
@@ -55,8 +52,7 @@ impl Core {
         requires picked { IsPick (broker_of self.old) pick }
         // The promise: this delivery, whose send goes to the consumer's connection.
         ensures ok { IfOk result (λ s. DeliversTo (broker_of self.old) pick s.sends.items s.notes.items (broker_of self.new)) }
-        ensures addressed { IfOk result (λ s. AreCarried (broker_of self.old) → AreNamed (topology_kept self.old) (broker_of self.old)
-            → AreAddressed pick.connection s.sends.items) }
+        ensures addressed { IfOk result (λ s. AddressesTo (topology_kept self.old) (broker_of self.old) pick.connection s.sends.items) }
         // The frame; a failure changes nothing.
         ensures topology { topology_kept self.new ≡ topology_kept self.old }
         ensures err { OnErr result (self.new ≡ self.old) }

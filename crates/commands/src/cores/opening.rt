@@ -6,11 +6,10 @@ use replies::{Step, open_ok};
 use std::alloc::{AllocError, Global};
 
 impl Core {
-    ghost use Rattle.std.specs.Prelude.{◌≡◌, ◌∷◌, [], Some, IsSome, IfOk, OnErr};
-    ghost use Rattle.model.specs.Broker.{new_channel};
-    ghost use Rattle.model.specs.Step.{Does, with_channel, reply};
-    ghost use Rattle.model.specs.declared.methods.Method.TheVariants.{ChannelOpenOk};
+    ghost use Rattle.std.specs.Prelude.{◌≡◌, [], None, IsSome, IfOk, OnErr};
+    ghost use Rattle.model.specs.declared.methods.Method.TheVariants.{ChannelOpen};
     ghost use Rattle.commands.specs.State.{broker_of, topology_kept};
+    ghost use Rattle.commands.specs.Steps.{PerformsOn};
     ghost use Rattle.replies.specs.Sent.{AreAddressed};
 
     /// Makes the channel a new, open one, and replies with `channel.open-ok`. Fails only if an allocation fails; nothing has changed then.
@@ -21,8 +20,7 @@ impl Core {
         channel: u16,
     ) -> Result<Step, AllocError>
         requires { IsSome ((broker_of self.old).connection connection) }
-        ensures ok { IfOk result (λ s. Does s.sends.items s.notes.items (broker_of self.new) (reply connection channel (ChannelOpenOk []) ∷ [])
-            (with_channel (broker_of self.old) connection channel (Some new_channel))) }
+        ensures ok { IfOk result (λ s. PerformsOn self.old connection channel (ChannelOpen []) None s.sends.items s.notes.items self.new) }
         ensures addressed { IfOk result (λ s. AreAddressed connection s.sends.items) }
         ensures topology { topology_kept self.new ≡ topology_kept self.old }
         ensures err { OnErr result (self.new ≡ self.old) }

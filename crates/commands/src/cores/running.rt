@@ -5,11 +5,12 @@ use crate::freeing::requeue_all;
 use std::alloc::{AllocError, Global};
 
 impl Core {
-    ghost use Rattle.std.specs.Prelude.{◌≡◌, [], true, false, OnOk, OnErr};
+    ghost use Rattle.std.specs.Prelude.{◌≡◌, true, false, OnOk, OnErr};
     ghost use Rattle.model.specs.Agreement.{IsAgreed};
-    ghost use Rattle.model.specs.Step.{Acts, Is, with_gone, with_paused};
+    ghost use Rattle.model.specs.Step.{Is, with_gone, with_paused};
     ghost use Rattle.model.specs.declared.events.Event.TheVariants as event_is;
     ghost use Rattle.commands.specs.State.{broker_of, topology_kept};
+    ghost use Rattle.commands.specs.Steps.{ActsAlone};
 
     /// Makes `connection` a running one, with channels 1 to `channels` open and new. The unacknowledged messages of an earlier connection of this
     /// number are ready again. Fails only if an allocation fails; nothing has changed then.
@@ -21,8 +22,7 @@ impl Core {
         channels: u16,
     ) -> Result<(), AllocError>
         requires { IsAgreed (broker_of self.old) }
-        ensures ok { OnOk result (Acts (topology_kept self.old) (broker_of self.old) (event_is.Running connection channel_max channels) [] []
-            (broker_of self.new)) }
+        ensures ok { OnOk result (ActsAlone self.old (event_is.Running connection channel_max channels) self.new) }
         ensures topology { topology_kept self.new ≡ topology_kept self.old }
         ensures err { OnErr result (self.new ≡ self.old) }
     {
@@ -58,7 +58,7 @@ impl Core {
     /// Removes a connection that is lost, with its channels: its unacknowledged messages are ready again. Never allocates.
     pub fn lose(&mut self, connection: u64)
         requires { IsAgreed (broker_of self.old) }
-        ensures acts { Acts (topology_kept self.old) (broker_of self.old) (event_is.Lose connection) [] [] (broker_of self.new) }
+        ensures acts { ActsAlone self.old (event_is.Lose connection) self.new }
         ensures topology { topology_kept self.new ≡ topology_kept self.old }
     {
         self.go(connection);
@@ -66,7 +66,7 @@ impl Core {
 
     /// Records that the output of `connection` holds 1,048,576 bytes or more. Never allocates.
     pub fn pause(&mut self, connection: u64)
-        ensures acts { Acts (topology_kept self.old) (broker_of self.old) (event_is.Pause connection) [] [] (broker_of self.new) }
+        ensures acts { ActsAlone self.old (event_is.Pause connection) self.new }
         ensures topology { topology_kept self.new ≡ topology_kept self.old }
     {
         self.set_paused(connection, true);
@@ -74,7 +74,7 @@ impl Core {
 
     /// Records that the output of `connection` holds fewer than 1,048,576 bytes again. Never allocates.
     pub fn resume(&mut self, connection: u64)
-        ensures acts { Acts (topology_kept self.old) (broker_of self.old) (event_is.Resume connection) [] [] (broker_of self.new) }
+        ensures acts { ActsAlone self.old (event_is.Resume connection) self.new }
         ensures topology { topology_kept self.new ≡ topology_kept self.old }
     {
         self.set_paused(connection, false);

@@ -4,12 +4,12 @@ ghost use Rattle.std.specs.Prelude.{◌≡◌, ◌<◌, false, List, OnOk, IfOk,
 ghost use Rattle.std.specs.Arc.{arc_value};
 ghost use Rattle.model.specs.Words.{Text as Name};
 ghost use Rattle.model.specs.Broker.{Broker};
-ghost use Rattle.model.specs.Topology.{Topology as Handed, queue_names};
+ghost use Rattle.model.specs.Topology.{Topology as Handed};
 ghost use Rattle.model.specs.Step as said;
 ghost use Rattle.model.specs.Step.{greatest};
 ghost use Rattle.exchange_graph.specs.Routers.{access_to, IsRoute};
 ghost use Rattle.channels.specs.Open.{open_in};
-ghost use Rattle.commands.specs.Judged.{refused_by};
+ghost use Rattle.commands.specs.Judged.{refused_by, JudgesPublish};
 
 use crate::refusals::Refusal;
 use channels::Channel;
@@ -49,8 +49,7 @@ pub fn check_publish<'a>(
     channel: &Channel,
     publish: &Publish,
 ) -> Result<Option<&'a Arc<Route>>, Refusal>
-    ensures refusal { (b : Broker) → b.published ≡ depot.now.published
-        → refused_by result ≡ said.refusal_of_publish depot.now.topology b (open_in (queue_names depot.now.topology.queues) channel.now) publish.now }
+    ensures refusal { JudgesPublish depot.now channel.now publish.now (refused_by result) }
     ensures route { IfOk result (λ known. IfSome known (λ r. IsRoute depot.now.topology publish.now.exchange publish.now.routing_key (arc_value r.now))) }
     ensures published { OnOk result (depot.now.published < greatest) }
     ensures confirm { OnOk result (said.is_spent channel.now.confirm ≡ false) }

@@ -1,46 +1,18 @@
 //! Puts another topology in force between events.
 
-ghost use Rattle.std.specs.Prelude.{List, OnOk};
-ghost use Rattle.model.specs.declared.messages.User.{User as MayLogIn};
-ghost use Rattle.reloading.specs.Wanting.{MayWant};
-ghost use Rattle.broker.specs.Turns.{topology_kept, broker_of};
-ghost use Rattle.broker.specs.Waiting.{LinesMove};
-ghost use Rattle.runs.specs.Reloaded.{IsMemory};
-ghost use Rattle.engine.specs.Putting.{PutMeans};
-
 use crate::engines::Engine;
-use broker::Broker;
+use crate::setups::Setup;
 use certificate::Checked;
-use exchange_graph::Topology;
-use guarantees::Guarantee;
 use model::User;
 use runs::ReloadFault;
-use std::alloc::Global;
-
-/// Makes the broker run `topology`, unless it and `guarantees` have an obstacle: then reports the first and changes nothing.
-fn put(
-    alloc: Global,
-    broker: &mut Broker,
-    topology: Topology,
-    guarantees: &[Guarantee],
-) -> Result<(), ReloadFault>
-    ensures put { (users : List MayLogIn) → PutMeans broker.old (record { topology = topology; guarantees = guarantees.now; users = users }) result broker.new }
-    ensures wants { IsMemory result → MayWant (topology_kept broker.old) topology (broker_of broker.old) }
-    ensures lines { OnOk result (LinesMove broker.old broker.new) }
-{
-    if let Some(obstacle) = broker.obstacle(alloc, &topology, guarantees)? {
-        return Err(ReloadFault::of(obstacle));
-    }
-    broker.reload(alloc, topology)?;
-    Ok(())
-}
+use std::alloc::{AllocError, Global};
 
 impl Engine {
     ghost use Rattle.std.specs.Prelude.{◌≡◌, OnOk, OnErr};
     ghost use Rattle.broker.specs.Waiting.{LinesMove};
     ghost use Rattle.engine.specs.InForce.{in_force};
     ghost use Rattle.engine.specs.World.{world_of};
-    ghost use Rattle.runs.specs.Reloaded.{ReportsReload, IsMemory};
+    ghost use Rattle.runs.specs.Reloaded.{IsMemory, IsPutInForce, NothingHinders, ReportsReload};
     ghost use Rattle.reloading.specs.Wanting.{MayWant};
 
     /// Puts the topology, the guarantees and the users of a setup in force. Messages in queues are marked as ones that the reload found there.
@@ -65,8 +37,26 @@ impl Engine {
         // When it may fail to allocate.
         ensures wants { IsMemory result → MayWant (world_of self.old).config.topology checked.topology (world_of self.old).state.broker }
     {
+        let setup = Setup::new(checked, users);
+        if let Some(obstacle) = self.obstacle(alloc, &setup)? {
+            return Err(ReloadFault::of(obstacle));
+        }
+        self.put_in_force(alloc, setup)?;
+        Ok(())
+    }
+
+    /// Puts `setup` in force, as [`Engine::reload`] does, without looking for an obstacle: there is none. Fails only if an allocation fails; nothing
+    /// has changed then.
+    pub fn put_in_force(&mut self, alloc: Global, setup: Setup) -> Result<(), AllocError>
+        requires nothing { NothingHinders (world_of self.old) setup }
+        ensures done { OnOk result (IsPutInForce (world_of self.old) setup (world_of self.new)) }
+        ensures kept { OnErr result (self.new ≡ self.old) }
+        // Each queue's order of consumers is kept.
+        ensures lines { OnOk result (LinesMove self.old.broker self.new.broker) }
+    {
+        let (checked, users) = setup.into_parts();
         let (topology, guarantees) = checked.into_parts();
-        put(alloc, &mut self.broker, topology, guarantees.as_slice())?;
+        self.broker.reload(alloc, topology)?;
         self.guarantees = guarantees;
         self.users = users;
         Ok(())

@@ -10,6 +10,9 @@ pub returns-in-Refused-clause-looks : goal.returns-in-Refused-clause-looks
 returns-in-Refused-clause-looks g c = λ holds names is.
     refused_look holds names _ _ c.in-Refused.read _ c.in-Refused.report _ (subst (λ (f : Found). IsFound holds names c.args.kept.now f) (sym c.in-Refused.ensures.value) is) c.put_refusal.ensures
 
+pub put_in_force-requires : goal.put_in_force-requires
+put_in_force-requires g c = record { nothing = (rw c.machine.ensures at c.in-Ok.ensures) }
+
 pub returns-in-Ok-clause-looks : goal.returns-in-Ok-clause-looks
 returns-in-Ok-clause-looks g c = λ holds names is.
     let f = subst (λ (f : Found). IsFound holds names c.args.kept.now f) (sym c.in-Admitted.ensures.value) is in

@@ -1,7 +1,8 @@
 use Rattle.reload_loop.proofs.Imports.{Option, Some, None, Bor, ap, refl, ◌∙◌, Text, asks_same, memory_reported, asked_by, names_in, without, serves, reloads}
 use Rattle.server.specs.Stated.{file_named}
+use Rattle.server.proofs.Beginning.{serve_ends}
 use Rattle.server.proofs.Outcomes.{untouched, shows}
-use Rattle.reload_loop.proofs.Reloading.{not_to_serve}
+use Rattle.reload_loop.proofs.Reloading.{not_to_serve, reload_ends}
 use Rattle.reload_loop.proofs.program.program_with_sockets.Goals as goal
 
 pub returns-in-Err : goal.returns-in-Err
@@ -19,11 +20,11 @@ returns-in-Some-every g c =
     let a = c.in-Some.asked.arguments in
     reloads (names_in a) a.listen.now c.in-Some-every.every.now (file_named a.turns)
     (asks_same _ _ (asked_by a (Some c.in-Some-every.every.now)) (c.in-Some.ensures.some ∙ ap (λ (e : Option (Bor Text)). asked_by a (file_named e)) c.in-Some-every.is) c.in-Ok.ensures)
-    c.serve_reloading.ensures.files c.serve_reloading.ensures.ends
+    c.serve_reloading.ensures.files (reload_ends _ _ _ _ _ _ _ _ _ _ _ c.serve_reloading.ensures.none c.serve_reloading.ensures.some)
 
 pub returns-in-None-every : goal.returns-in-None-every
 returns-in-None-every g c =
     let a = c.in-Some.asked.arguments in
     serves (names_in a) a.listen.now (file_named a.turns)
     (asks_same _ _ (asked_by a None) (c.in-Some.ensures.some ∙ ap (λ (e : Option (Bor Text)). asked_by a (file_named e)) c.in-None-every.is) c.in-Ok.ensures)
-    c.serve_clients.ensures.files c.serve_clients.ensures.ends
+    c.serve_clients.ensures.files (serve_ends _ _ _ _ _ _ _ _ _ _ _ _ c.serve_clients.ensures.none c.serve_clients.ensures.some)

@@ -1,65 +1,66 @@
-use Rattle.engine.proofs.Names.{◌∙◌, ap, subst, err_from_is_err_and, Topology, MayWant, LinesMove, IsPutInForce, ReportsReload, IsMemory, in_force, Parts, world_of}
-use Rattle.std.specs.Prelude.{Ok, Err}
-use Rattle.broker.specs.Turns.{topology_kept, broker_of}
-use Rattle.engine.proofs.Putting.{takes, offered_sound, put_world, put_engine, refused_is, refused_engine, refused_told, tells_offered}
+use Rattle.engine.proofs.Names.{refl, sym, subst, err_from_is_err_and, Option, Obstacle, Config, MayWant, none_gone, JudgesOffered, engine_lacks, To_reload, IsPutInForce, in_force, world_of}
+use Rattle.runs.specs.Reloaded.{NothingHinders, ReportsWhyNot}
+use Rattle.engine.proofs.Putting.{same_engine, told_is_no_memory}
 use Rattle.engine.proofs.engines.Engine.reload.Goals as goal
 
-pub invariant_of-self : goal.invariant_of-self
-invariant_of-self c =
-    let i = c.self.inside in
-    let old : Parts = record { broker = i.broker; guarantees = i.guarantees.items; users = i.users.items; given = i.given; connections = i.connections.items } in
-    refused_engine old c.put.new.broker _ c.in_err-put.field-0.0 c.self.invariant (c.in_err-put.ensures.put c.args.users.items)
-
-pub returns-in_err-put-clause-reported : goal.returns-in_err-put-clause-reported
-returns-in_err-put-clause-reported c =
-    let i = c.self.inside in
-    let old : Parts = record { broker = i.broker; guarantees = i.guarantees.items; users = i.users.items; given = i.given; connections = i.connections.items } in
-    let parts = c.into_parts-topology in
+pub returns-in_err-obstacle-clause-reported : goal.returns-in_err-obstacle-clause-reported
+returns-in_err-obstacle-clause-reported c =
     let p = err_from_is_err_and c.from_residual.result c.from_residual.ensures.1 in
-    subst (λ (z : Parts). ReportsReload (world_of z) (in_force c.args.checked c.args.users.items) c.from_residual.result (world_of (record old { broker = c.put.new.broker }))) c.self.view_is
-    (refused_told old c.put.new.broker (in_force c.args.checked c.args.users.items) c.from_residual.result p.0 c.in_err-put.field-0.0 p.1 p.2
-    (tells_offered i.broker c.put.new.broker c.args.checked c.args.users.items parts.result.0 c.as_slice.result.now parts.result.1.items (Err c.in_err-put.field-0.0) parts.ensures.topology c.as_slice.ensures.value parts.ensures.guarantees
-    (c.in_err-put.ensures.put c.args.users.items)))
+    rw (p.1, p.2) (same_engine c.args.self.now c.args.self.now refl)
 
-pub returns-in_err-put-clause-kept : goal.returns-in_err-put-clause-kept
-returns-in_err-put-clause-kept c =
-    let i = c.self.inside in
-    let old : Parts = record { broker = i.broker; guarantees = i.guarantees.items; users = i.users.items; given = i.given; connections = i.connections.items } in
+pub returns-in_err-obstacle-clause-kept : goal.returns-in_err-obstacle-clause-kept
+returns-in_err-obstacle-clause-kept c =
     let p = err_from_is_err_and c.from_residual.result c.from_residual.ensures.1 in
-    rw (p.1) (rw (← c.self.view_is) (refused_is old c.put.new.broker _ c.in_err-put.field-0.0 (c.in_err-put.ensures.put c.args.users.items)))
+    rw (p.1) refl
 
-pub returns-in_err-put-clause-wants : goal.returns-in_err-put-clause-wants
-returns-in_err-put-clause-wants c = λ memory.
-    let i = c.self.inside in
-    let p = err_from_is_err_and c.from_residual.result c.from_residual.ensures.1 in
-    subst (λ (z : Parts). MayWant (world_of z).config.topology c.args.checked.topology (world_of z).state.broker) c.self.view_is
-    (subst (λ (t : Topology). MayWant (topology_kept i.broker) t (broker_of i.broker)) c.into_parts-topology.ensures.topology (c.in_err-put.ensures.wants (subst IsMemory (p.1 ∙ ap Err p.2) memory)))
-
-pub returns-clause-wants : goal.returns-clause-wants
-returns-clause-wants c = λ memory. elim memory [ ]
-
-pub invariant_of-self-2 : goal.invariant_of-self-2
-invariant_of-self-2 c =
-    let i = c.self.inside in
-    let old : Parts = record { broker = i.broker; guarantees = i.guarantees.items; users = i.users.items; given = i.given; connections = i.connections.items } in
-    let parts = c.into_parts-topology in
-    let tells = tells_offered i.broker c.put.new.broker c.args.checked c.args.users.items parts.result.0 c.as_slice.result.now parts.result.1.items (Ok tt) parts.ensures.topology c.as_slice.ensures.value parts.ensures.guarantees (c.in_ok-put.ensures.put c.args.users.items) in
-    put_engine old _ _ c.self.invariant (offered_sound c.args.checked c.args.users.items parts.result.0 parts.result.1.items parts.ensures.topology parts.ensures.guarantees parts.ensures.hold parts.ensures.well_formed)
-    (takes old c.put.new.broker c.args.checked c.args.users.items parts.result.1.items parts.ensures.guarantees tells)
-
-pub returns-clause-reported : goal.returns-clause-reported
-returns-clause-reported c =
-    let i = c.self.inside in
-    let old : Parts = record { broker = i.broker; guarantees = i.guarantees.items; users = i.users.items; given = i.given; connections = i.connections.items } in
-    let parts = c.into_parts-topology in
-    let tells = tells_offered i.broker c.put.new.broker c.args.checked c.args.users.items parts.result.0 c.as_slice.result.now parts.result.1.items (Ok tt) parts.ensures.topology c.as_slice.ensures.value parts.ensures.guarantees (c.in_ok-put.ensures.put c.args.users.items) in
-    subst (λ (z : Parts). IsPutInForce (world_of z) (in_force c.args.checked c.args.users.items) (world_of (record old { broker = c.put.new.broker; guarantees = parts.result.1.items; users = c.args.users.items }))) c.self.view_is
-    (put_world old _ _ (takes old c.put.new.broker c.args.checked c.args.users.items parts.result.1.items parts.ensures.guarantees tells))
-
-pub returns-in_err-put-clause-lines : goal.returns-in_err-put-clause-lines
-returns-in_err-put-clause-lines c =
+pub returns-in_err-obstacle-clause-lines : goal.returns-in_err-obstacle-clause-lines
+returns-in_err-obstacle-clause-lines c =
     let p = err_from_is_err_and c.from_residual.result c.from_residual.ensures.1 in
     rw (p.1) tt
 
-pub returns-clause-lines : goal.returns-clause-lines
-returns-clause-lines c = subst (λ (p : Parts). LinesMove p.broker c.put.new.broker) c.self.view_is c.in_ok-put.ensures.lines
+pub returns-in_err-obstacle-clause-wants : goal.returns-in_err-obstacle-clause-wants
+returns-in_err-obstacle-clause-wants c = λ memory.
+    subst (λ (s : Config). engine_lacks (world_of c.args.self.now) (To_reload s)) c.new-setup.ensures c.in_err-obstacle.ensures.wants
+
+pub returns-in-Some-clause-reported : goal.returns-in-Some-clause-reported
+returns-in-Some-clause-reported c =
+    let w = world_of c.args.self.now in
+    let offered : Config = in_force c.args.checked c.args.users.items in
+    let judged = subst (λ (s : Config). JudgesOffered w s c.in_ok-obstacle.field-0) c.new-setup.ensures c.in_ok-obstacle.ensures.reported in
+    subst (λ (o : Option Obstacle). ReportsWhyNot w offered o w) (sym c.of.ensures)
+    (subst (λ (o : Option Obstacle). JudgesOffered w offered o) c.in-Some.is judged, same_engine c.args.self.now c.args.self.now refl)
+
+pub returns-in-Some-clause-wants : goal.returns-in-Some-clause-wants
+returns-in-Some-clause-wants c = λ memory. absurd (told_is_no_memory c.of.ensures memory)
+
+pub put_in_force-requires : goal.put_in_force-requires
+put_in_force-requires c =
+    record { nothing = subst (λ (o : Option Obstacle). JudgesOffered (world_of c.args.self.now) c.new-setup.result o) c.in_default.is c.in_ok-obstacle.ensures.reported }
+
+pub returns-in_err-put_in_force-clause-reported : goal.returns-in_err-put_in_force-clause-reported
+returns-in_err-put_in_force-clause-reported c =
+    let p = err_from_is_err_and c.from_residual-in_err-put_in_force.result c.from_residual-in_err-put_in_force.ensures.1 in
+    rw (p.1, p.2) (same_engine c.args.self.now c.put_in_force.new.self c.in_err-put_in_force.ensures.kept)
+
+pub returns-in_err-put_in_force-clause-kept : goal.returns-in_err-put_in_force-clause-kept
+returns-in_err-put_in_force-clause-kept c =
+    let p = err_from_is_err_and c.from_residual-in_err-put_in_force.result c.from_residual-in_err-put_in_force.ensures.1 in
+    rw (p.1) c.in_err-put_in_force.ensures.kept
+
+pub returns-in_err-put_in_force-clause-lines : goal.returns-in_err-put_in_force-clause-lines
+returns-in_err-put_in_force-clause-lines c =
+    let p = err_from_is_err_and c.from_residual-in_err-put_in_force.result c.from_residual-in_err-put_in_force.ensures.1 in
+    rw (p.1) tt
+
+pub returns-in_err-put_in_force-clause-wants : goal.returns-in_err-put_in_force-clause-wants
+returns-in_err-put_in_force-clause-wants c = λ memory.
+    let w = world_of c.args.self.now in
+    let nothing : NothingHinders w c.new-setup.result = subst (λ (o : Option Obstacle). JudgesOffered w c.new-setup.result o) c.in_default.is c.in_ok-obstacle.ensures.reported in
+    subst (λ (s : Config). MayWant w.config.topology s.topology w.state.broker) c.new-setup.ensures (none_gone nothing.none_stranded)
+
+pub returns-clause-reported : goal.returns-clause-reported
+returns-clause-reported c =
+    subst (λ (s : Config). IsPutInForce (world_of c.args.self.now) s (world_of c.put_in_force.new.self)) c.new-setup.ensures c.in_ok-put_in_force.ensures.done
+
+pub returns-clause-wants : goal.returns-clause-wants
+returns-clause-wants c = λ memory. elim memory [ ]
