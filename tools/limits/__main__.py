@@ -2,6 +2,7 @@
 """Prints how long files at the limits take, and how much memory, with a program that is named."""
 
 import json
+import multiprocessing
 import os
 import subprocess
 import sys
@@ -26,6 +27,9 @@ FAMILIES = [
     ("255 queues with keys of their own through a ring of 255 exchanges, one `never`", families.ring_of_own_keys, ("check --out", "verify")),
     ("64 `never` over such a ring", families.ring_of_many, ("check --out", "verify")),
     ("a `never` that is broken through such a ring", families.broken_through_the_ring, ("check",)),
+    ("the same through 205 exchanges of 17 patterns", lambda: families.broken_through_the_ring(205, 17), ("check",)),
+    ("the same through 27 exchanges of 129 patterns", lambda: families.broken_through_the_ring(27, 129), ("check",)),
+    ("the same through 6 exchanges of 512 patterns", lambda: families.broken_through_the_ring(6, 512), ("check",)),
     ("47 certificates of 32,769 states, in each of which a message comes through 255 exchanges", families.many_listed, ("verify",)),
     ("16 certificates of 16,385 states, each of which other patterns accept, through 255 exchanges", families.many_that_differ, ("verify",)),
     ("34,660 states of 63 patterns and 1,893 letters", families.many_letters, ("check --out", "verify")),
@@ -42,6 +46,15 @@ FAMILIES = [
 def write(name, text):
     with open(name, "w", encoding="utf-8") as file:
         file.write(text)
+
+
+def apart(function, *arguments):
+    """Calls `function` in a process of its own: Linux counts what a process has when it starts a program to the program's greatest memory."""
+    process = multiprocessing.get_context("fork").Process(target=function, args=arguments)
+    process.start()
+    process.join()
+    if process.exitcode:
+        sys.exit("limits: the files could not be written")
 
 
 def measured(words):
@@ -61,12 +74,18 @@ class Files:
     """The files of a family, in a folder of their own."""
 
     def __init__(self, folder, family):
-        definitions, guarantees, *certificates = family()
         self.definitions, self.guarantees, self.certificates, self.script = (os.path.join(folder, it) for it in ("d.json", "g.json", "c.json", "script"))
+        apart(self.write, family)
+
+    def write(self, family):
+        definitions, guarantees, *certificates = family()
         write(self.definitions, json.dumps(definitions))
         write(self.guarantees, json.dumps({"guarantees": guarantees}))
         for listed in certificates:
             write(self.certificates, json.dumps(listed, separators=(",", ":")))
+
+    def write_script(self, count, queues, *more):
+        write(self.script, "\n".join([*families.publishes(count, queues), *more]) + "\n")
 
     def words(self, command):
         """The words behind `warren` for a command over these files."""
@@ -85,11 +104,10 @@ def measure_reload(warren, what, family, count, queues):
     with tempfile.TemporaryDirectory() as folder:
         files = Files(folder, family)
         measured([warren, *files.words("check --out")])
-        lines = list(families.publishes(count, queues))
-        write(files.script, "\n".join(lines) + "\n")
+        apart(files.write_script, count, queues)
         without, _, _ = measured([warren, *files.words("replay")])
         reload = f"reload {files.definitions} {files.guarantees} {files.certificates}"
-        write(files.script, "\n".join([*lines, reload]) + "\n")
+        apart(files.write_script, count, queues, reload)
         took, megabytes, status = measured([warren, *files.words("replay")])
     print(f"{count} messages, {what}, a reload: {took - without:.2f} seconds more, {megabytes:.0f} MB, status {status}", flush=True)
 

@@ -147,24 +147,24 @@ def long_key(number):
 
 
 def long_pattern(number):
-    """A pattern of 31 words that takes every long key. For each number below 16 it begins otherwise, as far as to its fourth word."""
-    return ".".join(["*" if number >> place & 1 else "a" for place in range(4)] + ["*"] * 26 + ["#"])
+    """A pattern of 31 words that takes every long key. For each number below 512 it begins otherwise, as far as to its ninth word."""
+    return ".".join(["*" if number >> place & 1 else "a" for place in range(9)] + ["*"] * 21 + ["#"])
 
 
-def ring(count):
-    """255 topic exchanges, each of which leads to 14 others by long patterns, and so many queues with a dead-letter exchange and a long key of
-    their own: what dies in one comes through all 255 exchanges into the next. A message comes to the first queue alone."""
+def ring(count, exchanges=255, patterns=14):
+    """Topic exchanges, each of which leads to others by so many long patterns, and `count` queues with a dead-letter exchange and a long key of
+    their own: what dies in one comes through all these exchanges into the next. A message comes to the first queue alone."""
     topology = Topology()
     topology.exchange("x", "topic")
-    for number in range(255):
+    for number in range(exchanges):
         topology.exchange(f"e{number}", "topic")
-    for number in range(255):
-        for further in range(14):
-            topology.bind(f"e{number}", long_pattern(further), f"e{(number + 1 + further * 17) % 255}", "exchange")
+    for number in range(exchanges):
+        for further in range(patterns):
+            topology.bind(f"e{number}", long_pattern(further), f"e{(number + 1 + further * 17) % exchanges}", "exchange")
     for number in range(count):
-        topology.queue(f"q{number}", {"x-dead-letter-exchange": f"e{number}", "x-dead-letter-routing-key": long_key(number)})
+        topology.queue(f"q{number}", {"x-dead-letter-exchange": f"e{number % exchanges}", "x-dead-letter-routing-key": long_key(number)})
     for number in range(count - 1):
-        topology.bind(f"e{(number + 254) % 255}", long_key(number), f"q{number + 1}")
+        topology.bind(f"e{(number + exchanges - 1) % exchanges}", long_key(number), f"q{number + 1}")
     topology.queue("z")
     topology.bind("x", "a.#", "q0")
     return topology
@@ -181,10 +181,10 @@ def ring_of_many():
     return ring(255).file(), [guarantee("never", pattern, "z") for pattern in patterns]
 
 
-def broken_through_the_ring():
-    """A `never` that is broken by what dies in 255 queues, one after the other, each time through 255 exchanges."""
-    topology = ring(255)
-    topology.bind("e253", long_key(254), "z")
+def broken_through_the_ring(exchanges=255, patterns=14):
+    """A `never` that is broken by what dies in 255 queues, one after the other, each time through all exchanges of a ring."""
+    topology = ring(255, exchanges, patterns)
+    topology.bind(f"e{(254 + exchanges - 1) % exchanges}", long_key(254), "z")
     return topology.file(), [guarantee("never", "a.#", "z")]
 
 

@@ -8,10 +8,10 @@ mod shapes;
 mod topologies;
 mod written;
 
-pub use clients::{Client, NO_PROPERTIES, SELECT};
+pub use clients::{Client, NO_PROPERTIES, SELECT, put_frame};
 pub use engines::Measured;
 pub use meters::{greatest_bytes, processor_time, resident_bytes};
-pub use parts::{Part, print_parts, print_times};
+pub use parts::{Part, print_lack, print_parts, print_times};
 pub use shapes::{Keys, Shape};
 pub use topologies::{LARGE, built};
 pub use written::{Texts, Written};

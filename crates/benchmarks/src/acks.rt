@@ -2,10 +2,9 @@
 
 use crate::deliveries::{deliver_to, filled};
 use crate::removals::left_of;
-use benchmark_parts::loads::ack_loads::{AckLoad, load_at};
-use benchmark_parts::loads::consumers::put_consume;
-use benchmark_parts::measuring::{Keys, Measured, Part, Shape, Written, print_parts};
-use std::alloc::Global;
+use benchmark_parts::loads::ack_loads::{AckLoad, loads};
+use benchmark_parts::loads::consumers::open_consumer;
+use benchmark_parts::measuring::{Keys, Measured, Part, Shape, Written, print_lack, print_parts};
 use std::io;
 
 /// The number of bytes that are fed at a time: those of a hundred acks.
@@ -14,7 +13,6 @@ const PIECE: usize = 2_100;
 /// A load whose parts are run one by one.
 #[derive(Drop)]
 struct RunningAcks {
-    alloc: Global,
     engine: Measured,
     load: AckLoad,
     consumer: u64,
@@ -31,7 +29,7 @@ impl RunningAcks {
     /// Loses the consumer, and returns the number of messages that were not acknowledged.
     fn left(&mut self) -> u64 {
         self.engine.lose(self.consumer);
-        left_of(&mut self.engine, self.alloc, self.load.outstanding)
+        left_of(&mut self.engine, self.load.outstanding)
     }
 
     fn is_whole(&self) -> bool {
@@ -54,32 +52,26 @@ impl Part for RunningAcks {
 }
 
 /// Starts a load: delivers all its messages to a consumer.
-fn start(alloc: Global, mut engine: Measured, load: AckLoad) -> RunningAcks {
-    let consumer = engine.open_ready();
-    let mut consume = Written::new(alloc);
-    put_consume(&mut consume, b"q");
-    engine.perform(consumer, consume.as_slice());
+fn start(mut engine: Measured, load: AckLoad) -> RunningAcks {
+    let consumer = open_consumer(&mut engine, b"q");
     deliver_to(&mut engine, consumer, load.outstanding);
+    let acks = Written::new(engine.alloc());
     RunningAcks {
-        alloc,
         engine,
         load,
         consumer,
-        acks: Written::new(alloc),
+        acks,
     }
 }
 
 /// Runs a load, and prints the time of an ack in each part.
 fn measure_over(rt: &HostRuntime, engine: Measured, load: AckLoad) -> io::Result<()> {
-    let mut running = start(rt.alloc(), engine, load);
+    let mut running = start(engine, load);
     let part = running.part();
     print!(rt; "{}:", load.name)?;
     print_parts(rt, &mut running, part)?;
     println!(rt; " ns an ack; {} left", running.left())?;
-    if running.is_whole() {
-        return Ok(());
-    }
-    println!(rt; "{}: memory was refused", load.name)
+    print_lack(rt, load.name, running.is_whole())
 }
 
 fn measure(rt: &HostRuntime, load: AckLoad) -> io::Result<()> {
@@ -91,11 +83,8 @@ fn measure(rt: &HostRuntime, load: AckLoad) -> io::Result<()> {
 
 /// Measures all loads.
 pub fn measure_all(rt: &HostRuntime) -> io::Result<()> {
-    for place in 0..u32::MAX {
-        match load_at(place) {
-            Some(load) => measure(rt, load)?,
-            None => break,
-        }
+    for load in loads() {
+        measure(rt, load)?;
     }
     Ok(())
 }

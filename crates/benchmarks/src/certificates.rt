@@ -5,7 +5,7 @@ use benchmark_parts::measuring::{LARGE, Shape, Texts, built};
 use certificate::{Certificate, admit, check};
 use exchange_graph::Topology;
 use guarantees::Guarantee;
-use model::{Mode, Text};
+use model::Mode;
 use std::alloc::Global;
 use std::io;
 use std::time::Instant;
@@ -86,28 +86,18 @@ fn measure_slice(rt: &HostRuntime, patterns: u32) -> io::Result<()> {
     }
 }
 
-/// Appends the guarantee that what is published to exchange `number` reaches `queue`.
-fn push_reaches(stated: &mut Stated, number: u32, queue: Text) {
-    let exchange = stated.texts.numbered("x", number);
-    stated.push(Mode::Reaches, exchange, "k.#", queue);
-}
-
-/// Returns a guarantee for each of the first exchanges, about its own queue; fewer if an allocation fails.
-fn own(alloc: Global) -> Vec<Guarantee> {
+/// Returns a guarantee for each of the first exchanges, about its own queue, or about the queue at the end of a chain if `is_shared` is set; fewer if
+/// an allocation fails.
+fn reaching(alloc: Global, is_shared: bool) -> Vec<Guarantee> {
     let mut stated = Stated::new(alloc);
     for number in 0..GUARANTEES {
-        let queue = stated.texts.numbered("q", number);
-        push_reaches(&mut stated, number, queue);
-    }
-    stated.guarantees
-}
-
-/// Returns a guarantee for each of the first exchanges, about the queue at the end of a chain; fewer if an allocation fails.
-fn shared(alloc: Global) -> Vec<Guarantee> {
-    let mut stated = Stated::new(alloc);
-    for number in 0..GUARANTEES {
-        let queue = stated.texts.text(b"q");
-        push_reaches(&mut stated, number, queue);
+        let exchange = stated.texts.numbered("x", number);
+        let queue = if is_shared {
+            stated.texts.text(b"q")
+        } else {
+            stated.texts.numbered("q", number)
+        };
+        stated.push(Mode::Reaches, exchange, "k.#", queue);
     }
     stated.guarantees
 }
@@ -138,9 +128,9 @@ fn measure_admissions(rt: &HostRuntime) -> io::Result<()> {
         built(alloc, Shape::Chained(0)),
     ) {
         (Some(starred), Some(chained)) => {
-            measure_admission(rt, starred, own(alloc))?;
+            measure_admission(rt, starred, reaching(alloc, false))?;
             print!(rt; "by slices, ")?;
-            measure_admission(rt, chained, shared(alloc))
+            measure_admission(rt, chained, reaching(alloc, true))
         }
         _ => println!(rt; "a large topology is refused"),
     }

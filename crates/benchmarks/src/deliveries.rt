@@ -1,9 +1,9 @@
 //! Measures messages that are published, delivered and acknowledged, from bytes to bytes.
 
 use benchmark_parts::loads::consumers::{Acks, put_consume, put_qos};
-use benchmark_parts::loads::delivery_loads::{DeliveryLoad, MESSAGES, load_at};
+use benchmark_parts::loads::delivery_loads::{DeliveryLoad, MESSAGES, loads};
 use benchmark_parts::measuring::{
-    Client, Keys, Measured, Part, SELECT, Shape, Written, built, print_parts,
+    Client, Keys, Measured, Part, SELECT, Shape, Written, print_lack, print_parts,
 };
 use std::alloc::Global;
 use std::io;
@@ -87,18 +87,13 @@ impl Part for RunningDeliveries {
     }
 }
 
-/// Appends the name of consumed queue `number`.
-fn put_name(name: &mut Written, load: &DeliveryLoad, number: u32) {
+/// Appends the basic.consume of queue `number`.
+fn put_consumer(alloc: Global, out: &mut Written, load: &DeliveryLoad, number: u32) {
+    let mut name = Written::new(alloc);
     name.put_text("q");
     if load.queues != 1 {
         name.put_number(u64::from(number));
     }
-}
-
-/// Appends the basic.consume of queue `number`.
-fn put_consumer(alloc: Global, out: &mut Written, load: &DeliveryLoad, number: u32) {
-    let mut name = Written::new(alloc);
-    put_name(&mut name, load, number);
     put_consume(out, name.as_slice());
 }
 
@@ -116,18 +111,13 @@ fn consumes(alloc: Global, load: &DeliveryLoad) -> Written {
 }
 
 /// Publishes `messages` messages of 12 bytes to `q`, as [`fill_by`] does. Returns whether every allocation succeeded.
-pub fn fill(engine: &mut Measured, alloc: Global, publisher: u64, messages: u64) -> bool {
-    fill_by(engine, alloc, publisher, messages, Keys::One)
+pub fn fill(engine: &mut Measured, publisher: u64, messages: u64) -> bool {
+    fill_by(engine, publisher, messages, Keys::One)
 }
 
 /// Publishes `messages` messages of 12 bytes under `keys`, a hundred at a time, or all at once if they are fewer. Returns whether every allocation succeeded.
-pub fn fill_by(
-    engine: &mut Measured,
-    alloc: Global,
-    publisher: u64,
-    messages: u64,
-    keys: Keys,
-) -> bool {
+pub fn fill_by(engine: &mut Measured, publisher: u64, messages: u64, keys: Keys) -> bool {
+    let alloc = engine.alloc();
     let mut client = Client::new(alloc, BODY, keys);
     let window = messages.min(WINDOW);
     for _ in 0..messages / window.max(1) {
@@ -139,9 +129,9 @@ pub fn fill_by(
 
 /// Starts an engine over the shape `shape` and publishes `messages` messages under `keys`. Returns `None` if an allocation fails.
 pub fn filled(alloc: Global, shape: Shape, messages: u64, keys: Keys) -> Option<Measured> {
-    let mut engine = Measured::over(alloc, built(alloc, shape)?, Vec::new(alloc))?;
+    let mut engine = Measured::of_shape(alloc, shape)?;
     let publisher = engine.open_ready();
-    if fill_by(&mut engine, alloc, publisher, messages, keys) {
+    if fill_by(&mut engine, publisher, messages, keys) {
         Some(engine)
     } else {
         None
@@ -161,15 +151,15 @@ pub fn deliver_to(engine: &mut Measured, connection: u64, most: u64) -> u64 {
 
 /// Starts `consumers` consumers of `q` with a prefetch of one, on a connection of their own, and delivers a message to each.
 /// Returns the number of messages delivered.
-pub fn hold_back(engine: &mut Measured, alloc: Global, publisher: u64, consumers: u32) -> u64 {
+pub fn hold_back(engine: &mut Measured, publisher: u64, consumers: u32) -> u64 {
     let holder = engine.open_ready();
-    let mut bytes = Written::new(alloc);
+    let mut bytes = Written::new(engine.alloc());
     put_qos(&mut bytes, 1);
     for _ in 0..consumers {
         put_consume(&mut bytes, b"q");
     }
     engine.perform(holder, bytes.as_slice());
-    fill(engine, alloc, publisher, u64::from(consumers));
+    fill(engine, publisher, u64::from(consumers));
     let held = engine.deliver(u64::from(consumers));
     engine.take_output(holder);
     held
@@ -189,8 +179,8 @@ pub fn start(alloc: Global, mut engine: Measured, load: &DeliveryLoad) -> Runnin
         acks: Acks::new(alloc),
         delivered: 0,
     };
-    hold_back(&mut running.engine, alloc, publisher, load.full);
-    fill(&mut running.engine, alloc, publisher, load.waiting);
+    hold_back(&mut running.engine, publisher, load.full);
+    fill(&mut running.engine, publisher, load.waiting);
     let bytes = consumes(alloc, load);
     running.engine.perform(consumer, bytes.as_slice());
     running
@@ -202,19 +192,11 @@ fn measure_over(rt: &HostRuntime, engine: Measured, load: &DeliveryLoad) -> io::
     print!(rt; "{}:", load.name)?;
     print_parts(rt, &mut running, PART)?;
     println!(rt; " ns a message; {} delivered", running.delivered)?;
-    if running.is_whole() {
-        return Ok(());
-    }
-    println!(rt; "{}: memory was refused", load.name)
-}
-
-/// Starts an engine over the load's topology. Returns `None` if that is refused, or if an allocation fails.
-pub fn engine_of(alloc: Global, load: &DeliveryLoad) -> Option<Measured> {
-    Measured::over(alloc, built(alloc, load.shape())?, Vec::new(alloc))
+    print_lack(rt, load.name, running.is_whole())
 }
 
 fn measure(rt: &HostRuntime, load: &DeliveryLoad) -> io::Result<()> {
-    match engine_of(rt.alloc(), load) {
+    match Measured::of_shape(rt.alloc(), load.shape()) {
         Some(engine) => measure_over(rt, engine, load),
         None => println!(rt; "{}: there is no engine", load.name),
     }
@@ -222,11 +204,8 @@ fn measure(rt: &HostRuntime, load: &DeliveryLoad) -> io::Result<()> {
 
 /// Measures all loads.
 pub fn measure_all(rt: &HostRuntime) -> io::Result<()> {
-    for place in 0..u32::MAX {
-        match load_at(place) {
-            Some(load) => measure(rt, &load)?,
-            None => break,
-        }
+    for load in loads() {
+        measure(rt, &load)?;
     }
     Ok(())
 }

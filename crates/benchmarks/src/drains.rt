@@ -1,6 +1,6 @@
 //! Measures draining a queue, and the resident memory that remains when it is empty.
 
-use crate::deliveries::{RunningDeliveries, engine_of, start};
+use crate::deliveries::{RunningDeliveries, start};
 use benchmark_parts::loads::delivery_loads::{DeliveryLoad, drain_of};
 use benchmark_parts::measuring::{Measured, Part, print_parts, resident_bytes};
 use std::io;
@@ -56,7 +56,7 @@ fn measure_over(rt: &HostRuntime, engine: Measured, load: &DeliveryLoad) -> io::
 pub fn measure_all(rt: &HostRuntime) -> io::Result<()> {
     for messages in DRAINS {
         let load = drain_of(messages);
-        match engine_of(rt.alloc(), &load) {
+        match Measured::of_shape(rt.alloc(), load.shape()) {
             Some(engine) => measure_over(rt, engine, &load)?,
             None => println!(rt; "drain of {messages}: there is no engine")?,
         }

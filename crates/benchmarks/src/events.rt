@@ -4,7 +4,7 @@
 //! of acks, a purge. Times are wall-clock times, since the system counts processor time in ticks of some milliseconds.
 
 use benchmark_parts::loads::consumers::{put_ack, put_consume, put_purge};
-use benchmark_parts::measuring::{Client, Keys, Measured, Shape, Written, built};
+use benchmark_parts::measuring::{Client, Keys, Measured, Shape, Written, print_lack};
 use std::alloc::Global;
 use std::io;
 use std::time::Instant;
@@ -31,7 +31,7 @@ const BODY: usize = 12;
 const LONG: u128 = 5_000;
 
 /// The number of events, and how long they took.
-#[derive(Clone, Copy, Drop)]
+#[derive(Clone, Copy, Default, Drop)]
 pub struct Events {
     count: u64,
     /// The number of events that took longer than [`LONG`].
@@ -41,14 +41,6 @@ pub struct Events {
 }
 
 impl Events {
-    pub fn new() -> Events {
-        Events {
-            count: 0,
-            long: 0,
-            longest: 0,
-        }
-    }
-
     /// Counts an event that began at `start` and is over.
     pub fn end(&mut self, rt: &HostRuntime, start: &Instant) -> io::Result<()> {
         let took = start.elapsed(rt)?.as_micros();
@@ -85,7 +77,7 @@ struct Large {
 impl Large {
     /// Publishes `messages` messages.
     fn publish(&mut self, rt: &HostRuntime, messages: u64) -> io::Result<Events> {
-        let mut events = Events::new();
+        let mut events = Events::default();
         for _ in 0..messages / WINDOW {
             let bytes = self.client.window(self.alloc, WINDOW);
             let start = Instant::now(rt)?;
@@ -122,7 +114,7 @@ impl Large {
 
     /// Delivers the first messages, and acknowledges most of each window.
     fn make_gaps(&mut self, rt: &HostRuntime) -> io::Result<Events> {
-        let mut events = Events::new();
+        let mut events = Events::default();
         put_consume(&mut self.bytes, b"q");
         self.consume(rt, &mut events)?;
         for window in 0..DELIVERED / WINDOW {
@@ -137,7 +129,7 @@ impl Large {
     fn purge(&mut self, rt: &HostRuntime) -> io::Result<Events> {
         self.bytes.clear();
         put_purge(&mut self.bytes, b"q");
-        let mut events = Events::new();
+        let mut events = Events::default();
         self.consume(rt, &mut events)?;
         Ok(events)
     }
@@ -179,20 +171,12 @@ fn measure_over(rt: &HostRuntime, engine: Measured) -> io::Result<()> {
         .publish(rt, BEHIND)?
         .print(rt, "publishes of 2,000,000 behind the purge")?;
     println!(rt; "events: {} delivered", large.delivered)?;
-    if large.is_whole() {
-        return Ok(());
-    }
-    println!(rt; "events: memory was refused")
+    print_lack(rt, "events", large.is_whole())
 }
 
 /// Measures the events of one large queue.
 pub fn measure_all(rt: &HostRuntime) -> io::Result<()> {
-    let alloc = rt.alloc();
-    let engine = match built(alloc, Shape::Direct) {
-        Some(topology) => Measured::over(alloc, topology, Vec::new(alloc)),
-        None => None,
-    };
-    match engine {
+    match Measured::of_shape(rt.alloc(), Shape::Direct) {
         Some(engine) => measure_over(rt, engine),
         None => println!(rt; "events: there is no engine"),
     }

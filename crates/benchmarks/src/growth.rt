@@ -1,11 +1,10 @@
 //! Checks that a process doesn't grow while messages and consumers come and go, nor while many messages are rejected at once.
 
-use crate::deliveries::{engine_of, start};
+use crate::deliveries::start;
 use crate::rejects;
 use benchmark_parts::loads::consumers::put_consume_and_cancel;
 use benchmark_parts::loads::delivery_loads::beside;
-use benchmark_parts::measuring::{Measured, Shape, Written, built, greatest_bytes, resident_bytes};
-use std::alloc::Global;
+use benchmark_parts::measuring::{Measured, Shape, Written, greatest_bytes, resident_bytes};
 use std::io;
 
 /// The number of messages that are published, delivered and acknowledged.
@@ -54,7 +53,7 @@ fn print_growth(
 fn messages(rt: &HostRuntime) -> io::Result<()> {
     let what = "200,000 messages";
     let load = beside(2);
-    let Some(engine) = engine_of(rt.alloc(), &load) else {
+    let Some(engine) = Measured::of_shape(rt.alloc(), load.shape()) else {
         return println!(rt; "{what}: there is no engine");
     };
     let mut running = start(rt.alloc(), engine, &load);
@@ -76,8 +75,8 @@ struct Consuming {
 
 impl Consuming {
     /// Opens a connection of `engine`.
-    fn new(alloc: Global, mut engine: Measured) -> Consuming {
-        let mut bytes = Written::new(alloc);
+    fn new(mut engine: Measured) -> Consuming {
+        let mut bytes = Written::new(engine.alloc());
         for _ in 0..WINDOW {
             put_consume_and_cancel(&mut bytes, b"q", b"t");
         }
@@ -102,18 +101,13 @@ impl Consuming {
     }
 }
 
-/// Starts an engine with one queue. Returns `None` if an allocation fails.
-fn one_queue(alloc: Global) -> Option<Measured> {
-    Measured::over(alloc, built(alloc, Shape::Queues(1))?, Vec::new(alloc))
-}
-
 /// Lets consumers come and go.
 fn consumers(rt: &HostRuntime) -> io::Result<()> {
     let what = "100,000 consumers";
-    let Some(engine) = one_queue(rt.alloc()) else {
+    let Some(engine) = Measured::of_shape(rt.alloc(), Shape::Queues(1)) else {
         return println!(rt; "{what}: there is no engine");
     };
-    let mut consuming = Consuming::new(rt.alloc(), engine);
+    let mut consuming = Consuming::new(engine);
     consuming.pass(FIRST);
     let before = resident_bytes(rt)?;
     consuming.pass(CONSUMERS);
@@ -128,12 +122,12 @@ fn rejection(rt: &HostRuntime) -> io::Result<()> {
     let Some(mut engine) = rejects::filled(rt.alloc(), load, REJECTED) else {
         return println!(rt; "{what}: there is no engine");
     };
-    let holder = rejects::hold(&mut engine, rt.alloc(), b"q0", REJECTED);
+    let holder = rejects::hold(&mut engine, b"q0", REJECTED);
     let before = greatest_bytes(rt)?;
-    rejects::reject(&mut engine, rt.alloc(), holder);
+    rejects::reject(&mut engine, holder);
     let after = greatest_bytes(rt)?;
     let is_whole = engine.is_whole();
-    let letters = rejects::hold(&mut engine, rt.alloc(), b"f19", REJECTED).held;
+    let letters = rejects::hold(&mut engine, b"f19", REJECTED).held;
     if holder.held != REJECTED || letters != LETTERS {
         return println!(rt;
             "{what}: {} were rejected, and {letters} came to the last queue",

@@ -11,16 +11,7 @@ const KEYS: u32 = 100_000;
 /// Appends the pattern of `text`.
 fn add(alloc: Global, patterns: &mut Vec<Pattern>, text: &str) -> Result<(), AllocError> {
     match Pattern::read(alloc, text.as_bytes()) {
-        Ok(pattern) => patterns.push(pattern)?,
-        Err(_) => return Err(AllocError),
-    }
-    Ok(())
-}
-
-/// Appends a pattern that no key matches.
-fn add_other(alloc: Global, patterns: &mut Vec<Pattern>, place: u32) -> Result<(), AllocError> {
-    match format!(in alloc; "other.{place}.*") {
-        Ok(text) => add(alloc, patterns, text.as_str()),
+        Ok(pattern) => Ok(patterns.push(pattern)?),
         Err(_) => Err(AllocError),
     }
 }
@@ -29,7 +20,8 @@ fn add_other(alloc: Global, patterns: &mut Vec<Pattern>, place: u32) -> Result<(
 fn others(alloc: Global, count: u32) -> Result<Vec<Pattern>, AllocError> {
     let mut patterns = Vec::new(alloc);
     for place in 1..count {
-        add_other(alloc, &mut patterns, place)?;
+        let text = format!(in alloc; "other.{place}.*")?;
+        add(alloc, &mut patterns, text.as_str())?;
     }
     add(alloc, &mut patterns, "k.#")?;
     Ok(patterns)
@@ -42,20 +34,11 @@ fn several(alloc: Global) -> Result<Vec<Pattern>, AllocError> {
     Ok(patterns)
 }
 
-/// Appends key `number`.
-fn add_key(alloc: Global, keys: &mut Vec<String>, number: u32) -> Result<(), AllocError> {
-    match format!(in alloc; "k.{number}") {
-        Ok(key) => keys.push(key)?,
-        Err(_) => return Err(AllocError),
-    }
-    Ok(())
-}
-
 /// Returns keys, all of them different.
 fn fresh(alloc: Global) -> Result<Vec<String>, AllocError> {
     let mut keys = Vec::new(alloc);
     for number in 0..KEYS {
-        add_key(alloc, &mut keys, number)?;
+        keys.push(format!(in alloc; "k.{number}")?)?;
     }
     Ok(keys)
 }
@@ -128,8 +111,8 @@ fn measure_long(rt: &HostRuntime) -> io::Result<()> {
 
 /// Measures both matchers.
 pub fn measure_all(rt: &HostRuntime) -> io::Result<()> {
-    measure_fresh(rt, 1)?;
-    measure_fresh(rt, 1_000)?;
-    measure_fresh(rt, 4_096)?;
+    for count in [1, 1_000, 4_096] {
+        measure_fresh(rt, count)?;
+    }
     measure_long(rt)
 }

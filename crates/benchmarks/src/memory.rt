@@ -1,8 +1,7 @@
 //! Measures the resident memory of a ready message.
 
 use benchmark_parts::loads::properties::{MODE, MODE_TYPE, MODE_TYPE_ID, NONE};
-use benchmark_parts::measuring::{Client, Keys, Measured, SELECT, Shape, built, resident_bytes};
-use std::alloc::Global;
+use benchmark_parts::measuring::{Client, Keys, Measured, SELECT, Shape, resident_bytes};
 use std::io;
 
 /// The number of messages that are published at a time.
@@ -29,11 +28,6 @@ fn small(name: &'static str, properties: &'static [u8]) -> Waiting {
     }
 }
 
-/// Starts an engine over a topic exchange that routes each key to one queue. Returns `None` if an allocation fails.
-fn engine(alloc: Global) -> Option<Measured> {
-    Measured::over(alloc, built(alloc, Shape::Topic(1))?, Vec::new(alloc))
-}
-
 /// Publishes the messages, and prints the memory of each.
 fn fill(rt: &HostRuntime, engine: &mut Measured, load: &Waiting) -> io::Result<()> {
     let publisher = engine.open_ready();
@@ -51,29 +45,22 @@ fn fill(rt: &HostRuntime, engine: &mut Measured, load: &Waiting) -> io::Result<(
     println!(rt; "{}: {grown} bytes a waiting message", load.name)
 }
 
-/// Measures one load after another and keeps them all, so that none reuses memory that another has freed.
+/// Measures one load after another, each over a topic exchange that routes each key to one queue. Keeps them all, so that none reuses memory that
+/// another has freed.
 pub fn measure_all(rt: &HostRuntime) -> io::Result<()> {
     let loads = [
         Waiting {
-            name: "12 bytes, one key",
-            body: 12,
             messages: 1_000_000,
-            keys: Keys::One,
-            properties: NONE,
+            ..small("12 bytes, one key", NONE)
         },
         Waiting {
-            name: "12 bytes, each under a key of its own",
-            body: 12,
-            messages: 250_000,
             keys: Keys::Fresh,
-            properties: NONE,
+            ..small("12 bytes, each under a key of its own", NONE)
         },
         Waiting {
-            name: "1,024 bytes, one key",
             body: 1_024,
             messages: 125_000,
-            keys: Keys::One,
-            properties: NONE,
+            ..small("1,024 bytes, one key", NONE)
         },
         small("12 bytes, delivery-mode", MODE),
         small("12 bytes, delivery-mode, content-type", MODE_TYPE),
@@ -84,7 +71,7 @@ pub fn measure_all(rt: &HostRuntime) -> io::Result<()> {
     ];
     let mut engines = Vec::new(rt.alloc());
     for load in &loads {
-        let Some(mut engine) = engine(rt.alloc()) else {
+        let Some(mut engine) = Measured::of_shape(rt.alloc(), Shape::Topic(1)) else {
             return println!(rt; "there is no engine");
         };
         fill(rt, &mut engine, load)?;

@@ -2,9 +2,9 @@
 //!
 //! Each load runs in ten equal parts, so that a cost that grows with the backlog shows between the first and the last.
 
-use benchmark_parts::loads::named::{Load, load_at};
+use benchmark_parts::loads::named::{Load, loads};
 use benchmark_parts::measuring::{
-    Client, Measured, Part, SELECT, built, print_parts, resident_bytes,
+    Client, Measured, Part, SELECT, print_lack, print_parts, resident_bytes,
 };
 use std::alloc::Global;
 use std::io;
@@ -78,22 +78,12 @@ fn measure_over(rt: &HostRuntime, engine: Measured, load: &Load) -> io::Result<(
     print!(rt; "{}:", load.name)?;
     running.print_publishes(rt)?;
     print_growth(rt, &mut running, before)?;
-    if running.engine.is_whole() && running.client.is_whole() {
-        return Ok(());
-    }
-    println!(rt; "{}: memory was refused", load.name)
-}
-
-/// Starts an engine over the load's topology. Returns `None` if that is refused, or if an allocation fails.
-pub fn engine_of(alloc: Global, load: &Load) -> Option<Measured> {
-    match built(alloc, load.shape) {
-        Some(topology) => Measured::over(alloc, topology, Vec::new(alloc)),
-        None => None,
-    }
+    let is_whole = running.engine.is_whole() && running.client.is_whole();
+    print_lack(rt, load.name, is_whole)
 }
 
 fn measure(rt: &HostRuntime, load: &Load) -> io::Result<()> {
-    match engine_of(rt.alloc(), load) {
+    match Measured::of_shape(rt.alloc(), load.shape) {
         Some(engine) => measure_over(rt, engine, load),
         None => println!(rt; "{}: its topology is refused", load.name),
     }
@@ -101,11 +91,9 @@ fn measure(rt: &HostRuntime, load: &Load) -> io::Result<()> {
 
 /// Measures the load called `name` alone, so that no other has grown the memory.
 pub fn measure_one(rt: &HostRuntime, name: &str) -> io::Result<()> {
-    for place in 0..u32::MAX {
-        match load_at(place) {
-            Some(load) if load.name == name => return measure(rt, &load),
-            Some(_) => {}
-            None => break,
+    for load in loads() {
+        if load.name == name {
+            return measure(rt, &load);
         }
     }
     println!(rt; "no load has this name")
@@ -113,11 +101,8 @@ pub fn measure_one(rt: &HostRuntime, name: &str) -> io::Result<()> {
 
 /// Measures all loads.
 pub fn measure_all(rt: &HostRuntime) -> io::Result<()> {
-    for place in 0..u32::MAX {
-        match load_at(place) {
-            Some(load) => measure(rt, &load)?,
-            None => break,
-        }
+    for load in loads() {
+        measure(rt, &load)?;
     }
     Ok(())
 }

@@ -2,10 +2,10 @@
 
 use crate::deliveries::deliver_to;
 use crate::events::Events;
-use benchmark_parts::loads::consumers::{Acks, put_consume, put_nack_all};
+use benchmark_parts::loads::consumers::{Acks, open_consumer, put_nack_all};
 use benchmark_parts::loads::properties;
 use benchmark_parts::measuring::{
-    Client, Keys, Measured, Shape, Written, built, greatest_bytes, processor_time, resident_bytes,
+    Client, Keys, Measured, Shape, Written, greatest_bytes, processor_time, resident_bytes,
 };
 use std::alloc::Global;
 use std::io;
@@ -95,7 +95,7 @@ pub fn filled(alloc: Global, load: RejectLoad, messages: u64) -> Option<Measured
         key: Some("d"),
         limit: load.limit,
     };
-    let mut engine = Measured::over(alloc, built(alloc, shape)?, Vec::new(alloc))?;
+    let mut engine = Measured::of_shape(alloc, shape)?;
     engine.drop_notes();
     let publisher = engine.open_ready();
     let mut client = Client::with_properties(alloc, BODY, Keys::One, load.properties);
@@ -111,33 +111,30 @@ pub fn filled(alloc: Global, load: RejectLoad, messages: u64) -> Option<Measured
 }
 
 /// Delivers messages of `queue`, at most `most`, to a connection of their own.
-pub fn hold(engine: &mut Measured, alloc: Global, queue: &[u8], most: u64) -> Holder {
-    let connection = engine.open_ready();
-    let mut consume = Written::new(alloc);
-    put_consume(&mut consume, queue);
-    engine.perform(connection, consume.as_slice());
+pub fn hold(engine: &mut Measured, queue: &[u8], most: u64) -> Holder {
+    let connection = open_consumer(engine, queue);
     let held = deliver_to(engine, connection, most);
     Holder { connection, held }
 }
 
 /// Rejects at once all messages that were delivered to `holder`.
-pub fn reject(engine: &mut Measured, alloc: Global, holder: Holder) {
-    let mut bytes = Written::new(alloc);
+pub fn reject(engine: &mut Measured, holder: Holder) {
+    let mut bytes = Written::new(engine.alloc());
     put_nack_all(&mut bytes, holder.held);
     engine.perform(holder.connection, bytes.as_slice());
 }
 
 /// Rejects all messages at once. Prints the time for each, and by how many bytes for each the process has grown, afterwards and at most meanwhile.
 fn measure_over(rt: &HostRuntime, mut engine: Measured, load: RejectLoad) -> io::Result<()> {
-    let holder = hold(&mut engine, rt.alloc(), b"q0", load.rejected);
+    let holder = hold(&mut engine, b"q0", load.rejected);
     let before = resident_bytes(rt)?;
     let greatest = greatest_bytes(rt)?;
     let start = processor_time(rt)?;
-    reject(&mut engine, rt.alloc(), holder);
+    reject(&mut engine, holder);
     let took = processor_time(rt)?.saturating_sub(start);
     let grown = resident_bytes(rt)?.saturating_sub(before);
     let most = greatest_bytes(rt)?.saturating_sub(greatest);
-    let letters = hold(&mut engine, rt.alloc(), b"f0", load.rejected).held;
+    let letters = hold(&mut engine, b"f0", load.rejected).held;
     println!(rt;
         "reject of {}, {}: {} ns and {} bytes a message, {} at most meanwhile; {letters} dead letters",
         holder.held,
@@ -149,9 +146,9 @@ fn measure_over(rt: &HostRuntime, mut engine: Measured, load: RejectLoad) -> io:
 }
 
 /// Delivers further messages to `holder`, which has rejected all before them, and rejects these, a window at a time.
-fn reject_behind(engine: &mut Measured, alloc: Global, holder: Holder) {
+fn reject_behind(engine: &mut Measured, holder: Holder) {
     let mut tag = holder.held;
-    let mut reject = Written::new(alloc);
+    let mut reject = Written::new(engine.alloc());
     for _ in 0..BEHIND / WINDOW {
         tag = tag.saturating_add(deliver_to(engine, holder.connection, WINDOW));
         reject.clear();
@@ -162,12 +159,9 @@ fn reject_behind(engine: &mut Measured, alloc: Global, holder: Holder) {
 
 /// Delivers and acknowledges `messages` messages of the queue `f0`.
 fn drain(rt: &HostRuntime, engine: &mut Measured, messages: u64) -> io::Result<Events> {
-    let connection = engine.open_ready();
-    let mut consume = Written::new(rt.alloc());
-    put_consume(&mut consume, b"f0");
-    engine.perform(connection, consume.as_slice());
+    let connection = open_consumer(engine, b"f0");
     let mut acks = Acks::new(rt.alloc());
-    let mut events = Events::new();
+    let mut events = Events::default();
     for _ in 0..messages / DRAINED {
         let start = Instant::now(rt)?;
         let made = engine.deliver(DRAINED);
@@ -180,9 +174,9 @@ fn drain(rt: &HostRuntime, engine: &mut Measured, messages: u64) -> io::Result<E
 
 /// Drains dead letters, of which many came at once and others after them. Prints the time of each, and the longest events of the drain.
 fn measure_behind(rt: &HostRuntime, mut engine: Measured) -> io::Result<()> {
-    let holder = hold(&mut engine, rt.alloc(), b"q0", LARGE.rejected);
-    reject(&mut engine, rt.alloc(), holder);
-    reject_behind(&mut engine, rt.alloc(), holder);
+    let holder = hold(&mut engine, b"q0", LARGE.rejected);
+    reject(&mut engine, holder);
+    reject_behind(&mut engine, holder);
     let start = processor_time(rt)?;
     let letters = LARGE.rejected.saturating_add(BEHIND);
     let events = drain(rt, &mut engine, letters)?;

@@ -1,9 +1,9 @@
 //! Measures reloads while messages are ready.
 
 use crate::deliveries::{fill, filled, hold_back};
-use crate::publishes::{Running, engine_of};
+use crate::publishes::Running;
 use benchmark_parts::loads::named::{Load, plain};
-use benchmark_parts::loads::reload_loads::{ReloadLoad, WAITING, load_at, same};
+use benchmark_parts::loads::reload_loads::{ReloadLoad, WAITING, loads, same};
 use benchmark_parts::loads::stated::{Stated, certificates};
 use benchmark_parts::measuring::{Measured, Part, built, print_times, resident_bytes};
 use certificate::{Checked, admit};
@@ -66,15 +66,6 @@ fn checked_of(alloc: Global, load: &ReloadLoad) -> Option<Checked> {
     admit(alloc, topology, stated, offered.as_slice()).ok()
 }
 
-impl Reloading {
-    /// Loads `checked`, without users.
-    fn reload(&mut self, checked: Checked) {
-        if self.engine.reload(checked, Vec::new(self.alloc)) {
-            self.done = self.done.saturating_add(1);
-        }
-    }
-}
-
 impl Part for Reloading {
     fn prepare(&mut self, _: u64) {
         self.next = checked_of(self.alloc, &self.load);
@@ -82,17 +73,18 @@ impl Part for Reloading {
 
     fn run(&mut self, _: u64) {
         if let Some(checked) = self.next.take() {
-            self.reload(checked);
+            let is_done = self.engine.reload(checked, Vec::new(self.alloc));
+            self.done = self.done.saturating_add(u64::from(is_done));
         }
     }
 }
 
 /// Opens `holders` connections that hold a message for each of their consumers. Returns the number of messages held.
-fn hold(engine: &mut Measured, alloc: Global, holders: u32) -> u64 {
+fn hold(engine: &mut Measured, holders: u32) -> u64 {
     let publisher = engine.open_ready();
     let mut held = 0u64;
     for _ in 0..holders {
-        held = held.saturating_add(hold_back(engine, alloc, publisher, CONSUMERS));
+        held = held.saturating_add(hold_back(engine, publisher, CONSUMERS));
     }
     held
 }
@@ -100,7 +92,7 @@ fn hold(engine: &mut Measured, alloc: Global, holders: u32) -> u64 {
 /// Starts a load with its messages. Returns `None` if an allocation fails.
 fn started(alloc: Global, load: &ReloadLoad) -> Option<Reloading> {
     let mut engine = filled(alloc, load.shape, load.publishes, load.keys)?;
-    let held = hold(&mut engine, alloc, load.holders);
+    let held = hold(&mut engine, load.holders);
     Some(Reloading {
         alloc,
         engine,
@@ -126,16 +118,13 @@ fn measure(rt: &HostRuntime, reloading: &mut Reloading) -> io::Result<()> {
 
 /// Measures each load and keeps them all, so that none reuses memory that another has freed.
 fn measure_loads(rt: &HostRuntime) -> io::Result<()> {
-    let mut loads = Vec::new(rt.alloc());
-    for place in 0..u32::MAX {
-        let Some(load) = load_at(place) else {
-            break;
-        };
+    let mut kept = Vec::new(rt.alloc());
+    for load in loads() {
         let Some(mut reloading) = started(rt.alloc(), &load) else {
             return println!(rt; "{}: there is no engine", load.name);
         };
         measure(rt, &mut reloading)?;
-        if loads.push(reloading).is_err() {
+        if kept.push(reloading).is_err() {
             return println!(rt; "memory was refused");
         }
     }
@@ -160,7 +149,7 @@ fn put_in_force(engine: &mut Measured, alloc: Global, load: &ReloadLoad) -> bool
 /// Prints the time of a publish before and after a reload of the same configuration.
 fn measure_around(rt: &HostRuntime, engine: Measured, load: &Load) -> io::Result<()> {
     let mut running = Running::over(rt.alloc(), engine, load);
-    fill(&mut running.engine, rt.alloc(), PUBLISHER, WAITING);
+    fill(&mut running.engine, PUBLISHER, WAITING);
     measure_publishes(rt, &mut running, "before")?;
     let is_done = put_in_force(&mut running.engine, rt.alloc(), &same("around"));
     measure_publishes(rt, &mut running, "after")?;
@@ -171,7 +160,7 @@ fn measure_around(rt: &HostRuntime, engine: Measured, load: &Load) -> io::Result
 pub fn measure_all(rt: &HostRuntime) -> io::Result<()> {
     measure_loads(rt)?;
     let load = plain("around a reload", same("around").shape, PUBLISHES, 12);
-    match engine_of(rt.alloc(), &load) {
+    match Measured::of_shape(rt.alloc(), load.shape) {
         Some(engine) => measure_around(rt, engine, &load),
         None => println!(rt; "there is no engine"),
     }

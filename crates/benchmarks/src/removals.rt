@@ -1,11 +1,10 @@
 //! Measures requeueing what a lost connection held, and purging a queue.
 
 use crate::deliveries::{deliver_to, filled};
-use benchmark_parts::loads::consumers::{put_consume, put_purge};
+use benchmark_parts::loads::consumers::{open_consumer, put_purge};
 use benchmark_parts::measuring::{
     Keys, Measured, Part, Shape, Written, print_parts, processor_time,
 };
-use std::alloc::Global;
 use std::io;
 
 /// The number of messages that a connection holds when it is lost.
@@ -17,7 +16,6 @@ const PURGED: u64 = 1_000_000;
 /// A queue whose messages are all delivered to a connection.
 #[derive(Drop)]
 struct Losing {
-    alloc: Global,
     engine: Measured,
     /// The connection that holds them.
     holder: u64,
@@ -25,41 +23,28 @@ struct Losing {
     held: u64,
 }
 
-impl Losing {
-    /// Opens a connection, and delivers all messages to it.
-    fn hold(&mut self) {
-        self.holder = self.engine.open_ready();
-        let mut consume = Written::new(self.alloc);
-        put_consume(&mut consume, b"q");
-        self.engine.perform(self.holder, consume.as_slice());
-        let made = deliver_to(&mut self.engine, self.holder, HELD);
-        self.held = self.held.saturating_add(made);
-    }
-}
-
 impl Part for Losing {
     fn run(&mut self, _: u64) {
         self.engine.lose(self.holder);
     }
 
+    /// Opens a connection, and delivers all messages to it.
     fn prepare(&mut self, _: u64) {
-        self.hold();
+        self.holder = open_consumer(&mut self.engine, b"q");
+        let made = deliver_to(&mut self.engine, self.holder, HELD);
+        self.held = self.held.saturating_add(made);
     }
 }
 
 /// Returns how many of `messages` messages are left in the queue `q`, by delivering them.
-pub fn left_of(engine: &mut Measured, alloc: Global, messages: u64) -> u64 {
-    let consumer = engine.open_ready();
-    let mut consume = Written::new(alloc);
-    put_consume(&mut consume, b"q");
-    engine.perform(consumer, consume.as_slice());
+pub fn left_of(engine: &mut Measured, messages: u64) -> u64 {
+    let consumer = open_consumer(engine, b"q");
     deliver_to(engine, consumer, messages)
 }
 
 /// Loses a connection that holds messages, ten times in a row, and prints the time that each loss takes for a message.
 fn measure_losses(rt: &HostRuntime, engine: Measured) -> io::Result<()> {
     let mut losing = Losing {
-        alloc: rt.alloc(),
         engine,
         holder: 0,
         held: 0,
@@ -77,7 +62,7 @@ fn measure_purge(rt: &HostRuntime, mut engine: Measured) -> io::Result<()> {
     let start = processor_time(rt)?;
     engine.perform(connection, purge.as_slice());
     let took = processor_time(rt)?.saturating_sub(start);
-    let left = left_of(&mut engine, rt.alloc(), PURGED);
+    let left = left_of(&mut engine, PURGED);
     println!(rt;
         "purge of {PURGED}: {} ns a message; {left} left",
         took / PURGED

@@ -27,16 +27,13 @@ fn measure_route(rt: &HostRuntime, topology: &Topology, links: u32, key: &str) -
     println!(rt; "route of {key} past {links} links to {most} queues: {microseconds} microseconds")
 }
 
-/// Measures the routes of two keys.
-fn measure_routes(rt: &HostRuntime, topology: &Topology, links: u32) -> io::Result<()> {
-    measure_route(rt, topology, links, "a.b.c.d.e")?;
-    measure_route(rt, topology, links, "other")
-}
-
 /// Measures the routes of two keys past `links` linked exchanges.
 fn measure_linked(rt: &HostRuntime, links: u32) -> io::Result<()> {
     match built(rt.alloc(), Shape::Linked(links)) {
-        Some(topology) => measure_routes(rt, &topology, links),
+        Some(topology) => {
+            measure_route(rt, &topology, links, "a.b.c.d.e")?;
+            measure_route(rt, &topology, links, "other")
+        }
         None => println!(rt; "routes past {links} links: their topology is refused"),
     }
 }
@@ -51,10 +48,11 @@ fn measure_built(rt: &HostRuntime, bindings: u32) -> io::Result<()> {
 
 /// Measures building topologies, and routing over no links, over 15 and over 255, each of which leads from an exchange to the next.
 pub fn measure_all(rt: &HostRuntime) -> io::Result<()> {
-    measure_built(rt, 1)?;
-    measure_built(rt, 1_000)?;
-    measure_built(rt, 4_096)?;
-    measure_linked(rt, 0)?;
-    measure_linked(rt, 15)?;
-    measure_linked(rt, 255)
+    for bindings in [1, 1_000, 4_096] {
+        measure_built(rt, bindings)?;
+    }
+    for links in [0, 15, 255] {
+        measure_linked(rt, links)?;
+    }
+    Ok(())
 }

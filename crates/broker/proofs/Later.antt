@@ -58,12 +58,21 @@ all_counted test (y ∷ xs) same x i = go (test y) refl i (λ less j. all_counte
     go true e (inr j) rest = let one : cond (test y) 1 0 + count_by test xs ≡ 1 + count_by test xs = ap (λ (w : Bool). cond w 1 0 + count_by test xs) e in rest (omega (arith, same, count, one)) j
     go false e j rest = let none : cond (test y) 1 0 + count_by test xs ≡ 0 + count_by test xs = ap (λ (w : Bool). cond w 1 0 + count_by test xs) e in absurd (omega (arith, same, count, none, most))
 
--- so they do where no fewer are left
-pub filter_full : {X : Type 0} (test : X → Bool) (xs : List X) → length xs ≤ length (filter test xs) → filter test xs ≡ xs
-filter_full test xs le =
-    let left = length-filter test xs in
-    let most = count_by-le-length test xs in
-    filter_all test xs (all_counted test xs (omega (arith, le, left, most)))
+-- what is left of a list has room where the list had it
+pub swept_fits : {X : Type 0} (test : X → Bool) (old new : List X) (room : ℕ) → new ≡ filter test old → length old ≤ room → length new ≤ room
+swept_fits test old new room is le =
+    let same = ap length is in
+    let left = length-filter test old in
+    let most = count_by-le-length test old in
+    omega (arith, same, left, most, le)
+
+-- and where no fewer are left all are
+pub all_left : {X : Type 0} (test : X → Bool) (old new : List X) → new ≡ filter test old → length old ≤ length new → new ≡ old
+all_left test old new is le =
+    let same = ap length is in
+    let left = length-filter test old in
+    let most = count_by-le-length test old in
+    is ∙ filter_all test old (all_counted test old (omega (arith, le, same, left, most)))
 
 -- ---- a sweep of waiters, by a test of their consumers
 

@@ -1,7 +1,11 @@
 -- The consumers of waiters, in their order.
-use Rattle.broker.proofs.Names.{◌∙◌, ◌<◌, ℕ, zero, suc, List, [], ◌∷◌, Bool, true, false, cond, length, get_or, set, filter, refl, sym, ap, subst, inl, inr, ◌++◌, arith, IsIn, Pick, Waiter, AllDistinct, picks, all_awake}
+use Rattle.broker.proofs.Names.{◌∙◌, ◌<◌, ℕ, zero, suc, List, [], ◌∷◌, Bool, true, false, cond, length, get_or, set, filter, refl, sym, ap, subst, inl, inr, arith, IsIn, Pick, Waiter, AllDistinct, picks, all_awake}
 use Rattle.std.proofs.Common.{◌≡◌}
-use Rattle.broker.proofs.Lining.{filter_distinct, distinct_end}
+use Rattle.broker.proofs.Lining.{filter_distinct}
+
+-- what stands past the end of a list of waiters
+abbrev pub no_waiter : Waiter
+no_waiter = record { pick = record { connection = 0; channel = 0; number = 0 }; asleep = false }
 
 pub picks_length : (waiters : List Waiter) → length (picks waiters) ≡ length waiters
 picks_length [] = refl
@@ -38,11 +42,6 @@ picks_swept test (s ∷ waiters) = go (test s.pick) (picks_swept test waiters)
 
 pub apart_swept : (test : Pick → Bool) (old new : List Waiter) → new ≡ filter (of_waiter test) old → AllDistinct (picks old) → AllDistinct (picks new)
 apart_swept test old new is distinct = subst (λ (ps : List Pick). AllDistinct ps) (sym (ap picks is ∙ picks_swept test old)) (filter_distinct test (picks old) distinct)
-
--- a waiter more at the end, of a consumer that had none
-pub picks_end : (waiters : List Waiter) (s : Waiter) → picks (waiters ++ s ∷ []) ≡ picks waiters ++ s.pick ∷ []
-picks_end [] s = refl
-picks_end (x ∷ waiters) s = ap (λ (ps : List Pick). x.pick ∷ ps) (picks_end waiters s)
 
 -- where no waiter is the consumer's
 pub no_pick : (p : Pick) (waiters : List Waiter) → ((s : Waiter) → IsIn s waiters → s.pick ≡ p → ⊥) → IsIn p (picks waiters) → ⊥

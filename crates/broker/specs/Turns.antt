@@ -1,13 +1,9 @@
 -- A broker as its callers see it: its state, and the order in which consumers are served (own).
-use Rattle.std.specs.Prelude.{ℕ, List, [], Option, map}
+use Rattle.std.specs.Prelude.{ℕ, List, Option, map}
 use Rattle.model.specs.Topology.{Topology}
 use Rattle.model.specs.Broker.{Broker}
-use Rattle.model.specs.Naming.{AreNamed}
-use Rattle.model.specs.Sending.{AreCarried}
-use Rattle.model.specs.Step.{Acts}
-use Rattle.model.specs.declared.events.Event.{Event}
 use Rattle.model.specs.declared.events.Send.{Send}
-use Rattle.replies.specs.Sent.{AreAddressed}
+use Rattle.commands.specs.Picked as picked
 use Rattle.commands.specs.State as core
 use Rattle.commands.specs.State.{Kept}
 use Rattle.commands.specs.declared.picks.Pick.{Pick}
@@ -40,10 +36,6 @@ topology_kept b = core.topology_kept b.kept
 abbrev pub broker_of : WithTurn → Broker
 broker_of b = core.broker_of b.kept
 
--- the event's step, in which nothing is sent or noted
-abbrev pub ActsAlone : WithTurn → Event → WithTurn → Type 0
-ActsAlone old event new = Acts (topology_kept old) (broker_of old) event [] [] (broker_of new)
-
--- if each message can be encoded (`AreCarried`), and consumers have tags (`AreNamed`), each of `sends` is for `c`, by a method that can be encoded
+-- if each message can be encoded, and consumers have tags, each of `sends` is for `c`, by a method that can be encoded
 abbrev pub AddressesTo : WithTurn → ℕ → List Send → Type 0
-AddressesTo b c sends = AreCarried (broker_of b) → AreNamed (topology_kept b) (broker_of b) → AreAddressed c sends
+AddressesTo b c sends = picked.AddressesTo (topology_kept b) (broker_of b) c sends

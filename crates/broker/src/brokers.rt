@@ -65,21 +65,19 @@ impl Model for Broker {
 
 impl Broker {
     ghost use Rattle.std.specs.Prelude.{◌≡◌, ℕ, None, Some, IfSome, IfOk, IsOk, OnOk, OnErr};
-    ghost use Rattle.model.specs.Arrivals.{IsSaid};
     ghost use Rattle.model.specs.Consuming.{CanDeliver};
     ghost use Rattle.model.specs.Reloading.{NoneIsOrphaned, with_all_survived};
-    ghost use Rattle.model.specs.Sending.{AreCarried};
-    ghost use Rattle.model.specs.Step.{Acts, Is};
+    ghost use Rattle.model.specs.Step.{Is};
     ghost use Rattle.model.specs.declared.events.Event.TheVariants as event_is;
     ghost use Rattle.commands.specs.State.{nothing};
+    ghost use Rattle.commands.specs.Steps.{ActsAlone, ActsWith, AddressesOwn};
     ghost use Rattle.commands.specs.Obstacles.{ReportsObstacle};
-    ghost use Rattle.reloading.specs.Wanting.{MayWant};
+    ghost use Rattle.reloading.specs.Allocating.{JudgingMayAllocate};
     ghost use Rattle.commands.specs.Judged.{IsAsked, WantsNoMemory};
     ghost use Rattle.commands.specs.Picked.{IsPick, DeliversTo};
     ghost use Rattle.commands.specs.declared.picks.Pick.{Pick as Consumer};
-    ghost use Rattle.broker.specs.Turns.{broker_of, topology_kept, ActsAlone, AddressesTo};
+    ghost use Rattle.broker.specs.Turns.{broker_of, topology_kept, AddressesTo};
     ghost use Rattle.broker.specs.Waiting.{AllInLine, WaitersAreConsumers, NobodyIsPutBack, NoneIsLater, LinesStay, IsPickedInTurn, LinesMove, ServesSoon};
-    ghost use Rattle.replies.specs.Sent.{AreAddressed, connection_of_event};
 
     /// Makes the broker of `topology`: its queues are empty, and no connection is running. Fails only if an allocation fails.
     pub fn new(alloc: Global, topology: Topology) -> Result<Broker, AllocError>
@@ -118,8 +116,8 @@ impl Broker {
     pub fn step(&mut self, alloc: Global, event: &Event) -> Result<Step, AllocError>
         requires asked { IsAsked event.now }
         // The promise: the model's step, whose sends go to the event's connection.
-        ensures ok { IfOk result (λ s. Acts (topology_kept self.old) (broker_of self.old) event.now s.sends.items s.notes.items (broker_of self.new)) }
-        ensures addressed { IfOk result (λ s. IsSaid event.now → AreCarried (broker_of self.old) → AreAddressed (connection_of_event event.now) s.sends.items) }
+        ensures ok { IfOk result (λ s. ActsWith self.old.kept event.now s self.new.kept) }
+        ensures addressed { IfOk result (λ s. AddressesOwn (broker_of self.old) event.now s.sends.items) }
         // The frame: the topology and the picked consumer are unchanged, no consumer is put back, and each waiter has its consumer.
         ensures topology { topology_kept self.new ≡ topology_kept self.old }
         ensures turn { self.new.turn ≡ self.old.turn }
@@ -222,7 +220,7 @@ impl Broker {
         channel_max: u16,
         channels: u16,
     ) -> Result<(), AllocError>
-        ensures ok { OnOk result (ActsAlone self.old (event_is.Running connection channel_max channels) self.new) }
+        ensures ok { OnOk result (ActsAlone self.old.kept (event_is.Running connection channel_max channels) self.new.kept) }
         ensures topology { topology_kept self.new ≡ topology_kept self.old }
         ensures turn { self.new.turn ≡ self.old.turn }
         ensures later { OnOk result (NoneIsLater self.old self.new) }
@@ -237,7 +235,7 @@ impl Broker {
 
     /// Removes a connection that is lost, with its channels: its unacknowledged messages are ready again. Never allocates.
     pub fn lose(&mut self, connection: u64)
-        ensures acts { ActsAlone self.old (event_is.Lose connection) self.new }
+        ensures acts { ActsAlone self.old.kept (event_is.Lose connection) self.new.kept }
         ensures topology { topology_kept self.new ≡ topology_kept self.old }
         ensures turn { self.new.turn ≡ self.old.turn }
         ensures later { NoneIsLater self.old self.new }
@@ -250,7 +248,7 @@ impl Broker {
 
     /// Records that the output of `connection` holds 1,048,576 bytes or more. Never allocates.
     pub fn pause(&mut self, connection: u64)
-        ensures acts { ActsAlone self.old (event_is.Pause connection) self.new }
+        ensures acts { ActsAlone self.old.kept (event_is.Pause connection) self.new.kept }
         ensures topology { topology_kept self.new ≡ topology_kept self.old }
         ensures turn { self.new.turn ≡ self.old.turn }
         ensures later { NoneIsLater self.old self.new }
@@ -262,7 +260,7 @@ impl Broker {
 
     /// Records that the output of `connection` holds fewer than 1,048,576 bytes again. Never allocates.
     pub fn resume(&mut self, connection: u64)
-        ensures acts { ActsAlone self.old (event_is.Resume connection) self.new }
+        ensures acts { ActsAlone self.old.kept (event_is.Resume connection) self.new.kept }
         ensures topology { topology_kept self.new ≡ topology_kept self.old }
         ensures turn { self.new.turn ≡ self.old.turn }
         ensures later { NoneIsLater self.old self.new }
@@ -274,8 +272,8 @@ impl Broker {
     }
 
     /// Returns the first obstacle to a reload to `topology` and `guarantees`, or `None` if there is none; users don't matter.
-    /// Fails only if an allocation fails. It may allocate only if each queue in use is declared in `topology`, or if the first that is not has a name
-    /// of more than 22 bytes.
+    /// Fails only if an allocation fails. It may allocate only if each queue in use is declared in `topology` and one of `guarantees` is a `never`, or
+    /// if the first queue in use that is not declared has a name of more than 22 bytes.
     pub fn obstacle(
         &self,
         alloc: Global,
@@ -283,7 +281,7 @@ impl Broker {
         guarantees: &[Guarantee],
     ) -> Result<Option<Obstacle>, AllocError>
         ensures reported { IfOk result (ReportsObstacle (topology_kept self.now) (broker_of self.now) topology.now guarantees.now) }
-        ensures wants { OnErr result (MayWant (topology_kept self.now) topology.now (broker_of self.now)) }
+        ensures wants { OnErr result (JudgingMayAllocate (topology_kept self.now) topology.now guarantees.now (broker_of self.now)) }
     {
         self.core.obstacle(alloc, topology, guarantees)
     }

@@ -1,39 +1,30 @@
 //! Single dead-letter steps of a topology.
 
 use exchange_graph::Topology;
-use model::{DeclaredQueue, Exchange, ExchangeKind, Text};
-use scenario_parts::{Unmet, expect, expect_bytes, plain_queue, value_of};
+use model::{DeclaredQueue, Text};
+use scenario_parts::{Unmet, direct_exchange, expect, expect_bytes, plain_queue, value_of};
 use std::alloc::Global;
 
 /// Returns a queue called `name` whose dead letters go to the exchange `D`, under `key` if there is one.
 fn dying(name: Text, key: Option<Text>) -> DeclaredQueue {
     DeclaredQueue {
-        name,
-        limit: None,
-        byte_limit: None,
         dead_letter_exchange: Some(Text::short(b"D")),
         dead_letter_key: key,
+        ..plain_queue(name)
     }
 }
 
 /// Returns a topology with the queues `fixed`, `kept` and `plain`. Dead letters of `fixed` get the key `pay`, those of `kept`
 /// keep theirs, and `plain` has none.
 fn topology(alloc: Global) -> Result<Topology, Unmet> {
-    let mut exchanges = Vec::new(alloc);
-    let exchange = Exchange {
-        name: Text::short(b"D"),
-        kind: ExchangeKind::Direct,
-        internal: false,
-        alternate: None,
-    };
-    value_of("Vec::push", exchanges.push(exchange))?;
-    let mut queues = Vec::new(alloc);
-    value_of("Vec::push", queues.push(plain_queue(Text::short(b"plain"))))?;
-    value_of(
-        "Vec::push",
-        queues.push(dying(Text::short(b"fixed"), Some(Text::short(b"pay")))),
-    )?;
-    value_of("Vec::push", queues.push(dying(Text::short(b"kept"), None)))?;
+    let exchanges = vec![in alloc; direct_exchange(Text::short(b"D"))];
+    let queues = vec![in alloc;
+        plain_queue(Text::short(b"plain")),
+        dying(Text::short(b"fixed"), Some(Text::short(b"pay"))),
+        dying(Text::short(b"kept"), None),
+    ];
+    let exchanges = value_of("vec", exchanges)?;
+    let queues = value_of("vec", queues)?;
     value_of(
         "Topology::build",
         Topology::build(alloc, exchanges, queues, Vec::new(alloc)),

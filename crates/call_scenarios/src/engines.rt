@@ -65,26 +65,14 @@ const SELECT_OK: [u8; 12] = [1, 0, 1, 0, 0, 0, 4, 0, 85, 0, 11, 206];
 pub(crate) fn an_engine_takes_single_turns(alloc: Global) -> Result<(), Unmet> {
     let mut engine = new_engine(alloc)?;
     expect_opened(alloc, &mut engine, 1)?;
-    expect_turn(
-        alloc,
-        &mut engine,
-        "a turn is idle where no byte has come",
-        Done::Idle,
-    )?;
+    let claim = "a turn is idle where no byte has come";
+    expect_turn(alloc, &mut engine, claim, Done::Idle)?;
     feed(&mut engine, SELECT.as_slice())?;
-    expect_turn(
-        alloc,
-        &mut engine,
-        "a turn is idle where a frame has not ended",
-        Done::Idle,
-    )?;
+    let claim = "a turn is idle where a frame has not ended";
+    expect_turn(alloc, &mut engine, claim, Done::Idle)?;
     feed(&mut engine, FRAME_END.as_slice())?;
-    expect_turn(
-        alloc,
-        &mut engine,
-        "a turn performs confirm.select, without notes",
-        Done::Did(0),
-    )?;
+    let claim = "a turn performs confirm.select, without notes";
+    expect_turn(alloc, &mut engine, claim, Done::Did(0))?;
     expect_bytes("the output", engine.output(1), SELECT_OK.as_slice())?;
     engine.sent(1, 5);
     expect_bytes(
@@ -102,12 +90,8 @@ pub(crate) fn a_lost_connection_is_over_and_its_number_is_not_given_again(
     expect_opened(alloc, &mut engine, 1)?;
     engine.lose(1);
     expect("connection 1 is over", engine.is_over(1))?;
-    expect_turn(
-        alloc,
-        &mut engine,
-        "a turn says that connection 1 is over",
-        Done::Over,
-    )?;
+    let claim = "a turn says that connection 1 is over";
+    expect_turn(alloc, &mut engine, claim, Done::Over)?;
     expect_opened(alloc, &mut engine, 2)?;
     expect("connection 2 is not over", !engine.is_over(2))
 }

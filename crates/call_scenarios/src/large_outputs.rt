@@ -1,8 +1,9 @@
 //! A delivery after a large output that nobody takes.
 
-use engine::{Engine, Turn};
+use engine::Engine;
 use scenario_parts::{
-    CONSUME, MESSAGE, Unmet, expect, expect_bytes, expect_number, new_broker, value_of,
+    CONSUME, MESSAGE, Unmet, body_frame, deliver_to, expect, expect_bytes, expect_number,
+    new_broker, perform, value_of,
 };
 use std::alloc::{AllocError, Global};
 
@@ -14,10 +15,7 @@ const PUBLISH: &[u8] =
 const BODY_FRAMES: usize = 15;
 
 /// The number of bytes of the body in each body frame.
-const PIECE: usize = 60_000;
-
-/// What precedes the piece of the body in each body frame.
-const BODY_FRONT: &[u8] = b"\x03\x00\x02\x00\x00\xea\x60";
+const PIECE: u32 = 60_000;
 
 /// basic.get of `audit` on channel 2 with no-ack.
 const GET: &[u8] = b"\x01\x00\x02\x00\x00\x00\x0d\x00\x3c\x00\x46\x00\x00\x05audit\x01\xce";
@@ -40,20 +38,11 @@ const BEHIND: u64 = 80;
 /// Returns the publish of the large body.
 fn large_publish(alloc: Global) -> Result<Vec<u8>, AllocError> {
     let mut bytes = Vec::from_slice(alloc, PUBLISH)?;
-    let piece = vec![in alloc; 120; PIECE]?;
+    let frame = body_frame(alloc, 2, PIECE)?;
     for _ in 0..BODY_FRAMES {
-        bytes.extend_from_slice(BODY_FRONT)?;
-        bytes.extend_from_slice(&piece)?;
-        bytes.push(206)?;
+        bytes.extend_from_slice(&frame)?;
     }
     Ok(bytes)
-}
-
-/// Performs a command of connection 1.
-fn perform(alloc: Global, engine: &mut Engine, command: &[u8]) -> Result<(), Unmet> {
-    value_of("Engine::feed", engine.feed(1, command))?;
-    let turn = value_of("Engine::turn", engine.turn(alloc, 1))?;
-    expect("the command is performed", matches!(turn, Turn::Did(_)))
 }
 
 /// Returns an engine with a large message in the output of connection 1, which nobody takes. The connection has a consumer, for which another
@@ -62,9 +51,9 @@ fn full_engine(alloc: Global) -> Result<Engine, Unmet> {
     let mut engine = new_broker(alloc)?;
     value_of("Engine::open_ready", engine.open_ready(alloc, 2))?;
     let publish = value_of("large_publish", large_publish(alloc))?;
-    perform(alloc, &mut engine, &publish)?;
+    perform(alloc, &mut engine, 1, &publish)?;
     for command in [GET, CONSUME, MESSAGE] {
-        perform(alloc, &mut engine, command)?;
+        perform(alloc, &mut engine, 1, command)?;
     }
     Ok(engine)
 }
@@ -72,12 +61,7 @@ fn full_engine(alloc: Global) -> Result<Engine, Unmet> {
 /// Checks that a delivery follows a large output that nobody takes: no allocation fails, and no byte is lost.
 pub(crate) fn a_delivery_comes_behind_a_large_output(alloc: Global) -> Result<(), Unmet> {
     let mut engine = full_engine(alloc)?;
-    let delivered = value_of("Engine::pump", engine.pump(alloc))?;
-    let connection = match &delivered {
-        Some(delivered) => delivered.connection,
-        None => 0,
-    };
-    expect_number("the connection of the delivery", connection, 1)?;
+    deliver_to(alloc, &mut engine, 1)?;
     let output = engine.output(1);
     expect_number(
         "the length of the output",

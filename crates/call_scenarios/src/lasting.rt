@@ -1,7 +1,7 @@
 //! A broker that works for a long time without keeping more memory.
 
-use engine::{Engine, Turn};
-use scenario_parts::{MESSAGE, Unmet, expect, expect_number, new_broker, value_of};
+use engine::Engine;
+use scenario_parts::{MESSAGE, Unmet, deliver_to, expect, new_broker, perform_all, value_of};
 use std::alloc::{AllocError, Global};
 use std::fs;
 
@@ -74,28 +74,9 @@ fn put_ack(acks: &mut Vec<u8>, tag: u64) -> Result<(), AllocError> {
 
 /// Performs what `client` wrote, and takes its output.
 fn perform(alloc: Global, engine: &mut Engine, client: u64, bytes: &[u8]) -> Result<(), Unmet> {
-    value_of("Engine::feed", engine.feed(client, bytes))?;
-    for _ in 0..u64::MAX {
-        let turn = value_of("Engine::turn", engine.turn(alloc, client))?;
-        if !matches!(turn, Turn::Did(_)) {
-            break;
-        }
-    }
+    perform_all(alloc, engine, client, bytes)?;
     let written = engine.output(client).len() as u64;
     engine.sent(client, written);
-    Ok(())
-}
-
-/// Makes `deliveries` deliveries, and checks that each goes to `client`.
-fn deliver(alloc: Global, engine: &mut Engine, client: u64, deliveries: u64) -> Result<(), Unmet> {
-    for _ in 0..deliveries {
-        let delivered = value_of("Engine::pump", engine.pump(alloc))?;
-        let connection = match &delivered {
-            Some(delivered) => delivered.connection,
-            None => 0,
-        };
-        expect_number("the connection of a delivery", connection, client)?;
-    }
     Ok(())
 }
 
@@ -108,7 +89,7 @@ fn begin(alloc: Global) -> Result<Work, Unmet> {
     perform(alloc, &mut engine, KEEPER, ONE_AT_A_TIME)?;
     perform(alloc, &mut engine, KEEPER, CONSUME)?;
     perform(alloc, &mut engine, PUBLISHER, MESSAGE)?;
-    deliver(alloc, &mut engine, KEEPER, 1)?;
+    deliver_to(alloc, &mut engine, KEEPER)?;
     perform(alloc, &mut engine, WORKER, CONSUME)?;
     perform(alloc, &mut engine, PUBLISHER, MESSAGE)?;
     Ok(Work {
@@ -135,7 +116,9 @@ impl Work {
     fn run(&mut self, alloc: Global) -> Result<(), Unmet> {
         perform(alloc, &mut self.engine, PUBLISHER, &self.publishes)?;
         perform(alloc, &mut self.engine, KEEPER, &self.consumers)?;
-        deliver(alloc, &mut self.engine, WORKER, WINDOW)?;
+        for _ in 0..WINDOW {
+            deliver_to(alloc, &mut self.engine, WORKER)?;
+        }
         value_of("spell_acks", self.spell_acks())?;
         perform(alloc, &mut self.engine, WORKER, &self.acks)
     }
@@ -149,21 +132,17 @@ fn run_all(alloc: Global, work: &mut Work, windows: u64) -> Result<(), Unmet> {
     Ok(())
 }
 
-/// Returns the second number of a line, or 0.
-fn second_of(line: &str) -> u64 {
-    match line.split_whitespace().nth(1) {
-        Some(word) => word.parse::<u64>().unwrap_or(0),
-        None => 0,
-    }
-}
-
-/// Returns the resident memory of this process in bytes (Linux: the second number of `/proc/self/statm`, in pages).
+/// Returns the resident memory of this process in bytes (Linux: the second number of `/proc/self/statm`, in pages), or 0 if it is not told.
 fn resident_bytes(rt: &HostRuntime) -> Result<u64, Unmet> {
     let line = value_of(
         "fs::read_to_string",
         fs::read_to_string(rt, "/proc/self/statm"),
     )?;
-    Ok(second_of(line.as_str()).saturating_mul(PAGE))
+    let pages = match line.as_str().split_whitespace().nth(1) {
+        Some(word) => word.parse::<u64>().unwrap_or(0),
+        None => 0,
+    };
+    Ok(pages.saturating_mul(PAGE))
 }
 
 /// Checks that the process hardly grows while a broker works. 200,000 messages are published, delivered and acknowledged, besides

@@ -8,40 +8,18 @@ mod engines;
 mod large_outputs;
 mod lasting;
 
-use scenario_parts::Sums;
+use scenario_outcomes::{Sums, run_scenarios};
 use std::io;
 
 /// Runs all scenarios of this crate, and prints a line for each.
 pub fn run_all(sums: &mut Sums, rt: &HostRuntime) -> io::Result<()> {
     let alloc = rt.alloc();
-    sums.record(
-        rt,
-        "an_engine_takes_single_turns",
-        engines::an_engine_takes_single_turns(alloc),
-    )?;
-    sums.record(
-        rt,
-        "a_lost_connection_is_over_and_its_number_is_not_given_again",
-        engines::a_lost_connection_is_over_and_its_number_is_not_given_again(alloc),
-    )?;
-    sums.record(
-        rt,
-        "an_engine_opens_1024_connections_and_no_more",
-        engines::an_engine_opens_1024_connections_and_no_more(alloc),
-    )?;
-    sums.record(
-        rt,
-        "a_delivery_comes_behind_a_large_output",
-        large_outputs::a_delivery_comes_behind_a_large_output(alloc),
-    )?;
-    sums.record(
-        rt,
-        "a_dead_letter_goes_to_the_exchange_of_its_queue",
-        dead_routes::a_dead_letter_goes_to_the_exchange_of_its_queue(alloc),
-    )?;
-    sums.record(
-        rt,
-        "a_broker_that_works_for_long_keeps_no_more_room",
-        lasting::a_broker_that_works_for_long_keeps_no_more_room(rt, alloc),
-    )
+    run_scenarios! { sums, rt;
+        engines::an_engine_takes_single_turns(alloc);
+        engines::a_lost_connection_is_over_and_its_number_is_not_given_again(alloc);
+        engines::an_engine_opens_1024_connections_and_no_more(alloc);
+        large_outputs::a_delivery_comes_behind_a_large_output(alloc);
+        dead_routes::a_dead_letter_goes_to_the_exchange_of_its_queue(alloc);
+        lasting::a_broker_that_works_for_long_keeps_no_more_room(rt, alloc);
+    }
 }

@@ -1,13 +1,12 @@
 -- The model sees no difference on channels whose queues have new indices.
-use Rattle.channels.proofs.Imports.{◌≡◌, ℕ, zero, suc, List, [], ◌∷◌, refl, ap, ◌∙◌, Option, Some, None, slice_index_or, lookup-map_values, Text, Open, open_in, open_moved, AreNamedAlike, Running, running_in, channel_at, channel_of, connection_at, connection_of, channels_moved, running_moved, connections_moved, MovesAreUnseen}
+use Rattle.channels.proofs.Imports.{◌≡◌, ℕ, List, refl, ap, ◌∙◌, Option, Some, None, slice_index_or, lookup-map_values, Text, Open, open_in, open_moved, AreNamedAlike, Running, running_in, channel_at, channel_of, connection_at, connection_of, channels_moved, running_moved, connections_moved, MovesAreUnseen}
 use Rattle.std.specs.Prelude.{option_map, nat_eq}
+use Rattle.std.proofs.Math.ListN as numbered
 use Rattle.channels.proofs.Moving.{open_named}
 
 -- the channel at each number is moved
 at_moved : (places : List ℕ) (channels : List (Option Open)) (h : ℕ) → slice_index_or (channels_moved places channels) h None ≡ option_map (open_moved places) (slice_index_or channels h None)
-at_moved places [] h = refl
-at_moved places (ch ∷ channels) zero = refl
-at_moved places (ch ∷ channels) (suc h) = at_moved places channels h
+at_moved places channels h = numbered.get_or-map (option_map (open_moved places)) channels h None
 
 channel_moved : (places : List ℕ) (o : Option Running) (h : ℕ) → channel_at (option_map (running_moved places) o) h ≡ option_map (open_moved places) (channel_at o h)
 channel_moved places None h = refl

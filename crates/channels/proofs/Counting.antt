@@ -1,33 +1,14 @@
 -- Counts of what consumers hold, at each change.
-use Rattle.channels.proofs.Imports.{◌≡◌, ℕ, zero, suc, ◌+◌, ◌<◌, List, [], ◌∷◌, ◌++◌, length, get_or, map, find, refl, sym, ap, ◌∙◌, arith, Bool, true, false, cond, not, Option, Some, None, ◌||◌, All, list_any, count_by-le-length, length-filter, sum_by-cons, takes, is_refused, kept, is_to, count_to, count_given, Taker, tag_of, taker_of, consumers_of, counts_of, is_numbered, counted_in, counted_out, may_held, taker_held, AreParts, Get, NoneAbove, number_given, subst, ne_eqb, may_of, taker_among, Delivery, Consumer, CountedConsumer}
+use Rattle.channels.proofs.Imports.{◌≡◌, ℕ, zero, suc, ◌+◌, ◌<◌, List, [], ◌∷◌, ◌++◌, length, get_or, map, find, refl, sym, ap, ◌∙◌, arith, Bool, true, false, cond, not, Option, Some, None, All, count_by-le-length, length-map, takes, is_refused, kept, is_to, count_to, count_given, Taker, tag_of, taker_of, consumers_of, counts_of, is_numbered, counted_in, counted_out, may_held, taker_held, AreParts, Get, NoneAbove, number_given, subst, ne_eqb, may_of, taker_among, Delivery, Consumer, CountedConsumer}
 use Rattle.std.proofs.Common.{filter, count_by}
 use Rattle.std.specs.Prelude.{◌==◌, max}
 use Rattle.model.specs.declared.messages.Taker.TheVariants.{Consumer as To_consumer}
+use Rattle.std.proofs.Math.ListN as numbered
+use Rattle.std.proofs.lemmas.List.Filters.{sum_by-filter_both}
+use Rattle.std.proofs.lemmas.List.Sums.{sum_by_push}
 use Rattle.channels.proofs.Settlement.{taken_by}
 
--- ---- the first i of a list changed, the others as they were
-
 -- ---- counts of a list in two parts
-
-passed_apart : {X : Type 0} (p q : X → Bool) (xs : List X) → length (filter p xs) ≡ length (filter p (filter q xs)) + length (filter p (filter (λ x. not (q x)) xs))
-passed_apart p q [] = refl
-passed_apart {X = X} p q (x ∷ xs) = go (q x) (p x) refl (passed_apart p q xs)
-  where
-    yes : List X
-    yes = filter q xs
-
-    no : List X
-    no = filter (λ y. not (q y)) xs
-
-    go : (b t : Bool) → p x ≡ t → length (filter p xs) ≡ length (filter p yes) + length (filter p no)
-        → length (cond t (x ∷ filter p xs) (filter p xs)) ≡ length (filter p (cond b (x ∷ yes) yes)) + length (filter p (cond (not b) (x ∷ no) no))
-    go true true h e = rw h (omega arith)
-    go true false h e = rw h e
-    go false true h e = rw h (omega arith)
-    go false false h e = rw h e
-
-counted_apart : {X : Type 0} (p q : X → Bool) (xs : List X) → count_by p xs ≡ count_by p (filter q xs) + count_by p (filter (λ x. not (q x)) xs)
-counted_apart p q xs = let a = length-filter p xs in let b = length-filter p (filter q xs) in let c = length-filter p (filter (λ x. not (q x)) xs) in let d = passed_apart p q xs in omega arith
 
 -- what a tag settles, and what stays
 pub taken_parts : (os : List Delivery) (tag : ℕ) (multiple : Bool) → AreParts os (taken_by tag multiple os) (kept tag_of tag multiple os)
@@ -38,7 +19,7 @@ taken_parts os tag multiple p = go (is_refused tag_of tag multiple os)
 
     go : (b : Bool) → count_by p os ≡ count_by p (cond b [] (filter t os)) + count_by p (cond b os (filter (λ o. not (t o)) os))
     go true = omega arith
-    go false = counted_apart p t os
+    go false = sym (sum_by-filter_both t (λ o. not (t o)) (λ o. refl) (λ o. cond (p o) 1 0) os)
 
 -- ---- consumers with their counts
 
@@ -78,21 +59,8 @@ in_held by s = go (is_to s.consumer.number by)
     go true = refl
     go false = omega arith
 
-one_passed : (p : Delivery → Bool) (os : List Delivery) (o : Delivery) → length (filter p (os ++ o ∷ [])) ≡ length (filter p os) + cond (p o) 1 0
-one_passed p [] o = go (p o)
-  where
-    go : (b : Bool) → length (cond b (o ∷ []) []) ≡ 0 + cond b 1 0
-    go true = refl
-    go false = refl
-one_passed p (x ∷ xs) o = go (p x) (one_passed p xs o)
-  where
-    go : (b : Bool) → length (filter p (xs ++ o ∷ [])) ≡ length (filter p xs) + cond (p o) 1 0
-        → length (cond b (x ∷ filter p (xs ++ o ∷ [])) (filter p (xs ++ o ∷ []))) ≡ length (cond b (x ∷ filter p xs) (filter p xs)) + cond (p o) 1 0
-    go true e = omega arith
-    go false e = e
-
 pub one_more : (p : Delivery → Bool) (os : List Delivery) (o : Delivery) → count_by p (os ++ o ∷ []) ≡ count_by p os + cond (p o) 1 0
-one_more p os o = let a = length-filter p (os ++ o ∷ []) in let b = length-filter p os in let c = one_passed p os o in omega arith
+one_more p os o = sum_by_push (λ x. cond (p x) 1 0) os o
 
 pub step_in : (by : Taker) (os : List Delivery) (o : Delivery) → o.by ≡ by → (s : CountedConsumer) → s.held ≡ count_to taker_of s.consumer.number os → (counted_in by s).held ≡ count_to taker_of s.consumer.number (os ++ o ∷ [])
 step_in by os o e s h =
@@ -104,24 +72,7 @@ step_in by os o e s h =
 pub step_out : (given gone left : List Delivery) → AreParts given gone left → (s : CountedConsumer) → s.held ≡ count_to taker_of s.consumer.number given → (counted_out gone s).held ≡ count_to taker_of s.consumer.number left
 step_out given gone left parts s h = let p = parts (λ x. is_to s.consumer.number (taker_of x)) in omega arith
 
--- a consumer more
-pub one_counted : (consumers : List CountedConsumer) (s : CountedConsumer) (given : List Delivery) → counts_of consumers ≡ counts (consumers_of consumers) given → s.held ≡ count_to taker_of s.consumer.number given
-    → counts_of (consumers ++ s ∷ []) ≡ counts (consumers_of (consumers ++ s ∷ [])) given
-one_counted [] s given h e = ap (λ (n : ℕ). n ∷ []) e
-one_counted (x ∷ xs) s given h e =
-    ap (λ (n : ℕ). n ∷ counts_of (xs ++ s ∷ [])) (head_is _ _ _ _ h)
-    ∙ ap (λ (ns : List ℕ). count_to taker_of x.consumer.number given ∷ ns) (one_counted xs s given (tail_is _ _ _ _ h) e)
-
 -- some are taken out
-pub consumers_filtered : (p : Consumer → Bool) (consumers : List CountedConsumer) → consumers_of (filter (λ (s : CountedConsumer). p s.consumer) consumers) ≡ filter p (consumers_of consumers)
-consumers_filtered p [] = refl
-consumers_filtered p (s ∷ ss) = go (p s.consumer) (consumers_filtered p ss)
-  where
-    go : (b : Bool) → consumers_of (filter (λ (s : CountedConsumer). p s.consumer) ss) ≡ filter p (consumers_of ss)
-        → consumers_of (cond b (s ∷ filter (λ (s : CountedConsumer). p s.consumer) ss) (filter (λ (s : CountedConsumer). p s.consumer) ss)) ≡ cond b (s.consumer ∷ filter p (consumers_of ss)) (filter p (consumers_of ss))
-    go true e = ap (λ (cs : List Consumer). s.consumer ∷ cs) e
-    go false e = e
-
 pub counts_filtered : (p : CountedConsumer → Bool) (consumers : List CountedConsumer) (given : List Delivery) → counts_of consumers ≡ counts (consumers_of consumers) given → counts_of (filter p consumers) ≡ counts (consumers_of (filter p consumers)) given
 counts_filtered p [] given h = refl
 counts_filtered p (s ∷ ss) given h = go (p s) (counts_filtered p ss given (tail_is _ _ _ _ h))
@@ -129,18 +80,6 @@ counts_filtered p (s ∷ ss) given h = go (p s) (counts_filtered p ss given (tai
     go : (b : Bool) → counts_of (filter p ss) ≡ counts (consumers_of (filter p ss)) given → counts_of (cond b (s ∷ filter p ss) (filter p ss)) ≡ counts (consumers_of (cond b (s ∷ filter p ss) (filter p ss))) given
     go true e = ap (λ (n : ℕ). n ∷ counts_of (filter p ss)) (head_is _ _ _ _ h) ∙ ap (λ (ns : List ℕ). count_to taker_of s.consumer.number given ∷ ns) e
     go false e = e
-
--- consumers with their counts are counted as the consumers are
-pub counted_of : (p : Consumer → Bool) (consumers : List CountedConsumer) → count_by (λ (s : CountedConsumer). p s.consumer) consumers ≡ count_by p (consumers_of consumers)
-counted_of p [] = refl
-counted_of p (s ∷ ss) =
-    sum_by-cons (λ (x : CountedConsumer). cond (p x.consumer) 1 0) s ss
-    ∙ ap (λ (n : ℕ). cond (p s.consumer) 1 0 + n) (counted_of p ss)
-    ∙ sym (sum_by-cons (λ (x : Consumer). cond (p x) 1 0) s.consumer (consumers_of ss))
-
-pub any_named : (p : Consumer → Bool) (consumers : List CountedConsumer) → list_any (λ (s : CountedConsumer). p s.consumer) consumers ≡ list_any p (consumers_of consumers)
-any_named p [] = refl
-any_named p (s ∷ ss) = ap (λ (b : Bool). p s.consumer || b) (any_named p ss)
 
 -- what is told of the consumer of a number is told by its kept count as by what is outstanding
 same_of_found : {A : Type 0} (of_counted : Option CountedConsumer → A) (of_consumer : Option Consumer → A) (number : ℕ) (consumers : List CountedConsumer) (os : List Delivery) → of_counted None ≡ of_consumer None
@@ -170,18 +109,12 @@ counts_small n [] os h k d lt = absurd (omega arith)
 counts_small n (c ∷ cs) os h zero d lt = let m = count_by-le-length (λ x. is_to c.number (taker_of x)) os in omega arith
 counts_small n (c ∷ cs) os h (suc k) d lt = counts_small n cs os h k d (omega arith)
 
--- each count is in the list of counts
-held_at : (consumers : List CountedConsumer) (k : ℕ) (d : CountedConsumer) → get_or (counts_of consumers) k d.held ≡ (get_or consumers k d).held
-held_at [] k d = refl
-held_at (s ∷ ss) zero d = refl
-held_at (s ∷ ss) (suc k) d = held_at ss k d
-
-counts-length : (consumers : List CountedConsumer) → length (counts_of consumers) ≡ length consumers
-counts-length [] = refl
-counts-length (s ∷ ss) = ap suc (counts-length ss)
-
 pub held_small : (n : ℕ) (consumers : List CountedConsumer) → All (λ k. k < n) (counts_of consumers) → All (λ (s : CountedConsumer). s.held < n) consumers
-held_small n consumers h k d lt = let a = h k d.held (let l = counts-length consumers in omega arith) in let e = held_at consumers k d in omega arith
+held_small n consumers h k d lt =
+    let long : length (counts_of consumers) ≡ length consumers = length-map consumers (λ (s : CountedConsumer). s.held) in
+    let there : get_or (counts_of consumers) k d.held ≡ (get_or consumers k d).held = numbered.get_or-map (λ (s : CountedConsumer). s.held) consumers k d in
+    let less = h k d.held (omega (arith, long, lt)) in
+    omega (arith, less, there)
 
 -- ---- who was given nothing
 

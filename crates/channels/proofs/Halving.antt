@@ -1,6 +1,7 @@
 -- A consumer is found by its number, since numbers rise: what is changed there alone is changed at each consumer with that number.
 use Rattle.channels.proofs.Imports.{◌≡◌, ℕ, zero, suc, ◌+◌, ◌-◌, ◌<◌, List, [], ◌∷◌, ◌++◌, length, get_or, set, map, take, append-nil, find, refl, sym, ap, ◌∙◌, arith, Bool, true, false, cond, Option, Some, None, AllByRecursion, position_from, ne_eqb, is_to, count_to, filter_more, taker_of, is_waiting, waiting, consumers_of, is_numbered, counted_in, counted_out, uncounted, AreNumbered, Consumer, CountedConsumer, Delivery}
 use Rattle.std.proofs.lemmas.Bool.{eq-eqb}
+use Rattle.std.proofs.lemmas.List.Folds.{map_fixed}
 use Rattle.model.specs.declared.messages.Taker.TheVariants as taker
 use Rattle.channels.proofs.Counting.{one_more}
 
@@ -18,12 +19,6 @@ find_at n next (x ∷ xs) zero d rise lt e = ap (λ (b : Bool). cond b (Some x) 
 find_at n next (x ∷ xs) (suc i) d rise lt e =
     let more = above_at x.consumer.number xs i d rise.1.0 (omega arith) in
     ap (λ (b : Bool). cond b (Some x) (find (is_numbered n) xs)) (ne_eqb x.consumer.number n (λ same. omega arith)) ∙ find_at n next xs i d rise.1.1 (omega arith) e
-
--- whatever is returned past the end
-pub get_same : (xs : List CountedConsumer) (i : ℕ) (d e : CountedConsumer) → i < length xs → get_or xs i d ≡ get_or xs i e
-get_same [] i d e lt = absurd (omega arith)
-get_same (x ∷ xs) zero d e lt = refl
-get_same (x ∷ xs) (suc i) d e lt = get_same xs i d e (omega arith)
 
 -- ---- a change of one number
 
@@ -70,15 +65,6 @@ in_here n s e = ap (λ (b : Bool). cond b (record s { held = s.held + 1 }) s) (e
 pub out_here : (n : ℕ) (s : CountedConsumer) → s.consumer.number ≡ n → uncounted (taker.Consumer n) s ≡ record s { held = s.held - 1 }
 out_here n s e = ap (λ (b : Bool). cond b (record s { held = s.held - 1 }) s) (eq-eqb n s.consumer.number (sym e))
 
--- a get counts for none
-pub in_get : (xs : List CountedConsumer) → map (counted_in taker.Get) xs ≡ xs
-in_get [] = refl
-in_get (x ∷ xs) = ap (λ (ys : List CountedConsumer). x ∷ ys) (in_get xs)
-
-pub out_get : (xs : List CountedConsumer) → map (uncounted taker.Get) xs ≡ xs
-out_get [] = refl
-out_get (x ∷ xs) = ap (λ (ys : List CountedConsumer). x ∷ ys) (out_get xs)
-
 -- ---- one settled after others
 
 out_one : (done : List Delivery) (o : Delivery) (s : CountedConsumer) → uncounted o.by (counted_out done s) ≡ counted_out (done ++ o ∷ []) s
@@ -113,8 +99,7 @@ nothing_out : (s : CountedConsumer) → counted_out [] s ≡ s
 nothing_out s = ap (λ (h : ℕ). record s { held = h }) (omega arith)
 
 pub out_none : (xs : List CountedConsumer) → map (counted_out []) xs ≡ xs
-out_none [] = refl
-out_none (x ∷ xs) = ap (λ (y : CountedConsumer). y ∷ map (counted_out []) xs) (nothing_out x) ∙ ap (λ (ys : List CountedConsumer). x ∷ ys) (out_none xs)
+out_none xs = map_fixed (counted_out []) xs (λ k d lt. nothing_out (get_or xs k d))
 
 -- ---- none is found
 

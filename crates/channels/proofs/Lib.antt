@@ -1,4 +1,5 @@
 pub mod Imports
+pub mod Mapped
 pub mod Runs
 pub mod Settlement
 pub mod Counting

@@ -1,5 +1,5 @@
 -- Consumers as the channel keeps them, and as the model has them.
-use Rattle.channels.proofs.Imports.{◌≡◌, inl, inr, ℕ, ◌+◌, ◌<◌, ◌≤◌, List, [], ◌∷◌, ◌++◌, length, map, not, Bool, true, false, cond, Option, Some, None, refl, sym, ap, ◌∙◌, arith, ◌⊎◌, slice_index_or, ◌||◌, list_any, eqb-true, le-leb, lt-leb, map-append, length-map, Text, Of_connection, or_else, greatest, refusal_of_consumer, is_named, server_name, IsNextName, AreNamesSpent, Given, with_consumer_added, CanMakeConsumer, JudgesNamed, JudgesUnnamed, AddsConsumer, RefusesUnnamed, ConsumesUnnamed, IsMadeUnder, Open, consumer_in, open_in, places_of, IsConsumerMade, JudgesConsumer, MakesConsumer, Consumer}
+use Rattle.channels.proofs.Imports.{◌≡◌, inl, inr, ℕ, ◌+◌, ◌<◌, ◌≤◌, List, [], ◌∷◌, ◌++◌, length, map, not, Bool, true, false, Option, Some, None, refl, sym, ap, ◌∙◌, arith, ◌⊎◌, slice_index_or, ◌||◌, list_any, eqb-true, le-leb, lt-leb, map-append, length-map, Text, Of_connection, or_else, greatest, refusal_of_consumer, is_named, server_name, IsNextName, AreNamesSpent, Given, with_consumer_added, CanMakeConsumer, JudgesNamed, JudgesUnnamed, AddsConsumer, RefusesUnnamed, ConsumesUnnamed, IsMadeUnder, Open, consumer_in, open_in, places_of, IsConsumerMade, JudgesConsumer, MakesConsumer, Consumer}
 use Rattle.std.proofs.Common.{filter, Result, Ok, Err}
 use Rattle.std.specs.Prelude.{nat_le, ◌==◌, if◌then◌else◌}
 use Rattle.std.proofs.lemmas.Bool.{eq-eqb}
@@ -13,34 +13,21 @@ use Rattle.channels.specs.declared.consumers.ConsumerRefusal.{ConsumerRefusal}
 use Rattle.channels.specs.declared.consumers.ConsumerRefusal.TheVariants.{InUse, TooMany, Spent}
 use Rattle.channels.specs.declared.consumers.ConsumeError.{ConsumeError}
 use Rattle.channels.specs.declared.consumers.ConsumeError.TheVariants.{Refused, Memory}
+use Rattle.channels.specs.declared.names.Name.{Name}
+use Rattle.channels.specs.Deliveries.{NamesUnnamed}
+use Rattle.std.specs.Result.{result_err}
+use Rattle.channels.proofs.Mapped.{filter-map, list_any-map}
 
 -- ---- consumers, where queues have names
 
 -- a tag is in use there as it is here
 pub any_tagged : (names : List Text) (tag : Text) (cs : List Consumer) → is_in_use tag (map (consumer_in names) cs) ≡ list_any (is_named tag) cs
-any_tagged names tag [] = refl
-any_tagged names tag (c ∷ cs) = ap (λ (b : Bool). is_named tag c || b) (any_tagged names tag cs)
-
--- those of a tag are taken out there as they are here
-without_tagged : (names : List Text) (tag : Text) (cs : List Consumer)
-    → map (consumer_in names) (filter (λ c. not (is_named tag c)) cs) ≡ filter (λ k. not (is_tagged tag k)) (map (consumer_in names) cs)
-without_tagged names tag [] = refl
-without_tagged names tag (c ∷ cs) = go (not (is_named tag c)) (without_tagged names tag cs)
-  where
-    left : List Consumer
-    left = filter (λ c. not (is_named tag c)) cs
-
-    seen_left : List seen.Consumer
-    seen_left = filter (λ k. not (is_tagged tag k)) (map (consumer_in names) cs)
-
-    go : (b : Bool) → map (consumer_in names) left ≡ seen_left → map (consumer_in names) (cond b (c ∷ left) left) ≡ cond b (consumer_in names c ∷ seen_left) seen_left
-    go true e = ap (λ (ks : List seen.Consumer). consumer_in names c ∷ ks) e
-    go false e = e
+any_tagged names tag cs = list_any-map (consumer_in names) (is_tagged tag) cs
 
 pub named_out : (names : List Text) (tag : Text) (old : Open) (cs : List Consumer) (consumer_room : ℕ) → cs ≡ filter (λ c. not (is_named tag c)) old.given.consumers
     → open_in names (record old { given = record old.given { consumers = cs; consumer_room = consumer_room } }) ≡ without_consumer (open_in names old) tag
 named_out names tag old cs consumer_room e =
-    ap (λ (ks : List seen.Consumer). record (open_in names old) { consumers = ks }) (ap (map (consumer_in names)) e ∙ without_tagged names tag old.given.consumers)
+    ap (λ (ks : List seen.Consumer). record (open_in names old) { consumers = ks }) (ap (map (consumer_in names)) e ∙ sym (filter-map (consumer_in names) (λ k. not (is_tagged tag k)) old.given.consumers))
 
 -- ---- the reason against one more consumer
 
@@ -218,6 +205,10 @@ unnamed_refused laws old m Spent h (few, spent) = λ names. let none = no_tag m.
 pub unnamed_judged : NextTagsAreFound → (old : Open) (m : Consume) (o : Option ConsumerRefusal) → length m.consumer_tag ≡ 0 → JudgesUnnamed old.given o → JudgesConsumer old m o
 unnamed_judged laws old m None h (few, (left, (n, next))) = unnamed_free laws old m n (no_tag m.consumer_tag h) few left next
 unnamed_judged laws old m (Some r) h why = unnamed_refused laws old m r h why
+
+pub unnamed_reason : (g : Given) (r : Result Name ConsumerRefusal) → NamesUnnamed g r → JudgesUnnamed g (result_err r)
+unnamed_reason g (Ok name) (few, (left, (next, named))) = (few, (left, (name.number, next)))
+unnamed_reason g (Err why) refused = refused
 
 pub unnamed_makes : NextTagsAreFound → (old : Open) (given : Given) (queue : ℕ) (m : Consume) (r : Result Text ConsumeError) → length m.consumer_tag ≡ 0
     → ConsumesUnnamed old.given queue m.no_ack r given → MakesConsumer old queue m r (record old { given = given })

@@ -1,9 +1,11 @@
 -- What is settled has its place marked; what is kept is closed up, and counted.
-use Rattle.channels.proofs.Imports.{◌≡◌, ℕ, length-drop, length-append, zero, suc, ◌+◌, ◌*◌, ◌<◌, ◌≤◌, List, [], ◌∷◌, ◌++◌, length, get_or, set, take, drop, refl, sym, ap, subst, ◌∙◌, arith, Bool, true, false, cond, not, OnOk, drop-set-add, set_split, get_or-drop, length-set, All-filter, filter-append, length-filter, count_by-le-length, AllPairs-filter, takes, is_refused, kept, Rises, tag_of, given_tag, marked, IsTagAt, AreInOrder, AreKept, is_waiting, waiting, Get, Delivery}
+use Rattle.channels.proofs.Imports.{◌≡◌, ℕ, length-drop, length-append, zero, suc, ◌+◌, ◌*◌, ◌<◌, ◌≤◌, List, [], ◌∷◌, ◌++◌, length, get_or, set, take, drop, refl, sym, ap, subst, ◌∙◌, arith, Bool, true, false, cond, not, OnOk, drop-set-add, set_split, get_or-drop, length-set, All-filter, filter-append, filter_passes, length-filter, count_by-le-length, AllPairs-filter, takes, is_refused, kept, Rises, tag_of, given_tag, marked, IsTagAt, AreInOrder, AreKept, is_waiting, waiting, Get, Delivery}
 use Rattle.std.specs.Prelude.{filter, count_by, ◌&&◌, Result, Ok, Err}
 use Rattle.std.specs.Result.{is_err}
 use Rattle.std.proofs.lemmas.List.Quantifiers.{all_pairs_push}
-use Rattle.channels.proofs.Runs.{drop_drop, drop_push}
+use Rattle.channels.proofs.Runs.{all_pass}
+use Rattle.std.proofs.lemmas.List.{drop-append-le, drop-drop}
+use Rattle.std.proofs.lemmas.List.Elements.{All-push}
 use Rattle.std.proofs.lemmas.List.Filters.{length-filter_both}
 use Rattle.channels.proofs.Settlement.{at_given, waits_is, waits_by, taken_by}
 
@@ -32,9 +34,6 @@ marked_rises os i tag o at e rises j k d lt within =
     let r = rises j k d lt (omega arith) in
     omega arith
 
-drop_marked : (xs : List Delivery) (start i : ℕ) (o : Delivery) → drop start (set xs (start + i) (marked o)) ≡ set (drop start xs) i (marked o)
-drop_marked xs start i o = drop-set-add start xs i (marked o)
-
 -- ---- closed up
 
 pub closed_order : (os : List Delivery) (last : ℕ) → AreInOrder last os → AreInOrder last (waiting os)
@@ -56,7 +55,7 @@ behind_order os n last order = record {
 }
 
 pub passed_order : (xs : List Delivery) (start n last : ℕ) → AreInOrder last (drop start xs) → AreInOrder last (drop (start + n) xs)
-passed_order xs start n last order = subst (AreInOrder last) (drop_drop start n (start + n) xs refl) (behind_order (drop start xs) n last order)
+passed_order xs start n last order = subst (AreInOrder last) (drop-drop n start xs) (behind_order (drop start xs) n last order)
 
 marked_order : (os : List Delivery) (i tag last : ℕ) (o : Delivery) → IsTagAt os i tag → o.tag ≡ tag → AreInOrder last os → AreInOrder last (set os i (marked o))
 marked_order os i tag last o at e order = record {
@@ -76,19 +75,11 @@ marked_behind xs new start i tag is at =
     let none : Delivery = record { tag = 0; queue = 0; arrival = 0; by = Get } in
     let o : Delivery = get_or xs (start + i) none in
     let tagged : o.tag ≡ tag = ap tag_of (sym (get_or-drop start xs i none)) ∙ at.there none in
-    let moved : drop start new ≡ set live i (marked o) = ap (λ (ys : List Delivery). drop start ys) (is none) ∙ drop_marked xs start i o in
+    let moved : drop start new ≡ set live i (marked o) = ap (λ (ys : List Delivery). drop start ys) (is none) ∙ drop-set-add start xs i (marked o) in
     (ap waiting moved ∙ marked_gone live i o at.within, λ last order. subst (AreInOrder last) (sym moved) (marked_order live i tag last o at tagged order))
 
-again : (os : List Delivery) → waiting (waiting os) ≡ waiting os
-again [] = refl
-again (x ∷ xs) = go (is_waiting x) refl (again xs)
-  where
-    go : (w : Bool) → is_waiting x ≡ w → waiting (waiting xs) ≡ waiting xs → waiting (cond w (x ∷ waiting xs) (waiting xs)) ≡ cond w (x ∷ waiting xs) (waiting xs)
-    go true w e = ap (λ (b : Bool). cond b (x ∷ waiting (waiting xs)) (waiting (waiting xs))) w ∙ ap (λ (ys : List Delivery). x ∷ ys) e
-    go false w e = e
-
 pub closed_again : (os : List Delivery) → waiting (waiting os) ≡ waiting os
-closed_again os = again os
+closed_again os = all_pass is_waiting (waiting os) (filter_passes is_waiting os)
 
 pub fewer_wait : (os : List Delivery) → length (waiting os) ≤ length os
 fewer_wait os = let a = length-filter is_waiting os in let b = count_by-le-length is_waiting os in omega arith
@@ -121,13 +112,6 @@ taken_count os tag multiple = go (is_refused tag_of tag multiple os)
 
 -- ---- what is kept
 
--- one more at the end
-end_or_before : (P : Delivery → Type 0) (os : List Delivery) (o : Delivery) → ((k : ℕ) (d : Delivery) → k < length os → P (get_or os k d)) → P o → (k : ℕ) (d : Delivery) → k < length (os ++ o ∷ []) → P (get_or (os ++ o ∷ []) k d)
-end_or_before P [] o all end zero d lt = end
-end_or_before P [] o all end (suc k) d lt = absurd (omega arith)
-end_or_before P (x ∷ xs) o all end zero d lt = all zero x (omega arith)
-end_or_before P (x ∷ xs) o all end (suc k) d lt = end_or_before P xs o (λ j e l. all (suc j) e (omega arith)) end k d (omega arith)
-
 given_end : (o : Delivery) (last : ℕ) → last < o.tag → given_tag o ≡ o.tag
 given_end o last lt = waits_is o (waits_by o (λ z. omega arith))
 
@@ -135,7 +119,7 @@ pub order_pushed : (os : List Delivery) (last : ℕ) (o : Delivery) → AreInOrd
 order_pushed os last o order lt =
     let e = given_end o last lt in record {
       rises = all_pairs_push (λ (a b : Delivery). given_tag a < given_tag b) os o order.rises (λ k d l. let m = order.most k d l in omega arith);
-      most = end_or_before (λ (x : Delivery). given_tag x ≤ o.tag) os o (λ k d l. let m = order.most k d l in omega arith) (omega arith);
+      most = All-push (λ (x : Delivery). given_tag x ≤ o.tag) os o (λ k d l. let m = order.most k d l in omega arith) (omega arith);
     }
 
 pub waiting_pushed : (os : List Delivery) (last : ℕ) (o : Delivery) → last < o.tag → waiting (os ++ o ∷ []) ≡ waiting os ++ o ∷ []
@@ -144,7 +128,7 @@ waiting_pushed os last o lt = filter-append is_waiting os (o ∷ []) ∙ ap (λ 
 pub kept_pushed : (xs new pushed : List Delivery) (start front count last : ℕ) (o : Delivery) → AreKept xs start count last → front ≤ length new → AreInOrder last (drop front new)
     → waiting (drop front new) ≡ waiting (drop start xs) → length new ≤ length xs → last < o.tag → pushed ≡ new ++ o ∷ [] → AreKept pushed front (count + 1) o.tag
 kept_pushed xs new pushed start front count last o kept within order same fewer lt is =
-    let d : drop front pushed ≡ drop front new ++ o ∷ [] = ap (λ (ys : List Delivery). drop front ys) is ∙ drop_push front new (o ∷ []) within in
+    let d : drop front pushed ≡ drop front new ++ o ∷ [] = ap (λ (ys : List Delivery). drop front ys) is ∙ drop-append-le front new (o ∷ []) within in
     let w : waiting (drop front pushed) ≡ waiting (drop start xs) ++ o ∷ [] = ap waiting d ∙ waiting_pushed (drop front new) last o lt ∙ ap (λ (ys : List Delivery). ys ++ o ∷ []) same in
     let n = ap (λ (ys : List Delivery). length ys) w in
     let a = length-append (waiting (drop start xs)) (o ∷ []) in

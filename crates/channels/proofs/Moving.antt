@@ -1,7 +1,8 @@
 -- Queues at other places: each element of a list is changed in turn; tags, numbers and counts stay, and so do names.
-use Rattle.channels.proofs.Imports.{◌≡◌, ℕ, zero, suc, ◌+◌, ◌<◌, List, [], ◌∷◌, ◌++◌, length, get_or, set, map, take, drop, refl, sym, ap, ◌∙◌, arith, Bool, true, false, cond, AllByRecursion, length-map, drop-map, Text, is_to, is_delivery, count_to, taker_of, given_tag, AreInOrder, is_waiting, waiting, outstanding_in, ConsumerCounts, CountsAgree, AreNumbered, NoneAbove, consumers_of, counts_of, Open, consumer_in, open_in, outstanding_moved, consumer_moved, counted_moved, open_moved, IsNamedAlike, AreNamedAlike, Delivery, Consumer, CountedConsumer}
+use Rattle.channels.proofs.Imports.{◌≡◌, ℕ, zero, suc, ◌+◌, ◌<◌, List, [], ◌∷◌, ◌++◌, length, get_or, set, map, take, drop, refl, sym, ap, ◌∙◌, arith, AllByRecursion, length-map, drop-map, Text, is_to, is_delivery, count_to, taker_of, given_tag, AreInOrder, is_waiting, waiting, outstanding_in, ConsumerCounts, CountsAgree, AreNumbered, NoneAbove, consumers_of, counts_of, Open, consumer_in, open_in, outstanding_moved, consumer_moved, counted_moved, open_moved, IsNamedAlike, AreNamedAlike, Delivery, Consumer, CountedConsumer}
 use Rattle.model.specs.Broker as seen
 use Rattle.laws.proofs.Counts.{count-map}
+use Rattle.channels.proofs.Mapped.{filter-map}
 
 -- ---- a list changed in turn
 
@@ -36,13 +37,7 @@ moved_order last places os order = record {
 }
 
 pub moved_waiting : (places : List ℕ) (os : List Delivery) → waiting (map (outstanding_moved places) os) ≡ map (outstanding_moved places) (waiting os)
-moved_waiting places [] = refl
-moved_waiting places (o ∷ os) = go (is_waiting o) (moved_waiting places os)
-  where
-    go : (b : Bool) → waiting (map (outstanding_moved places) os) ≡ map (outstanding_moved places) (waiting os)
-        → cond b (outstanding_moved places o ∷ waiting (map (outstanding_moved places) os)) (waiting (map (outstanding_moved places) os)) ≡ map (outstanding_moved places) (cond b (o ∷ waiting os) (waiting os))
-    go true e = ap (λ (ys : List Delivery). outstanding_moved places o ∷ ys) e
-    go false e = e
+moved_waiting places os = filter-map (outstanding_moved places) is_waiting os
 
 -- behind the start, as everywhere
 pub drop_moved : (places : List ℕ) (start : ℕ) (os : List Delivery) → drop start (map (outstanding_moved places) os) ≡ map (outstanding_moved places) (drop start os)

@@ -1,11 +1,12 @@
 -- Consumers by their numbers, and what they may be given.
-use Rattle.channels.proofs.Imports.{◌≡◌, inl, inr, ℕ, ◌+◌, ◌<◌, List, [], ◌∷◌, ◌++◌, length, map, find, Bool, true, false, cond, Option, Some, None, refl, sym, ap, subst, ◌∙◌, arith, ◌||◌, is_some, IfSome, IsSome, AllByRecursion, eqb-true, false≢true, length-filter, Text, IsIn, is_to, is_delivery, is_below, count_to, count_given, has_tag_left, taker_of, consumers_of, is_numbered, AreNumbered, Given, may_of, taker_among, may_be_given, consumer_at, taker_at, Open, consumer_in, open_in, IsOne, IsTaker, HasNoTaker, ReturnsTaker, outstanding_in, Delivery, Consumer, CountedConsumer}
+use Rattle.channels.proofs.Imports.{◌≡◌, inl, inr, ℕ, ◌+◌, ◌<◌, List, [], ◌∷◌, ◌++◌, map, find, Bool, true, false, cond, Option, Some, None, refl, sym, ap, subst, ◌∙◌, arith, ◌||◌, is_some, IfSome, IsSome, AllByRecursion, eqb-true, false≢true, Text, IsIn, is_to, is_delivery, is_below, count_to, count_given, has_tag_left, taker_of, consumers_of, is_numbered, AreNumbered, Given, may_of, taker_among, may_be_given, consumer_at, taker_at, Open, consumer_in, open_in, IsOne, IsTaker, HasNoTaker, ReturnsTaker, outstanding_in, Delivery, Consumer, CountedConsumer}
 use Rattle.std.proofs.Common.{filter, count_by}
 use Rattle.std.specs.Prelude.{◌==◌, ◌&&◌, option_map, if◌then◌else◌}
 use Rattle.std.proofs.lemmas.Bool.{eq-eqb}
 use Rattle.model.specs.Broker as seen
 use Rattle.model.specs.Consuming as said
 use Rattle.channels.specs.Consumers.{AreBelow}
+use Rattle.channels.proofs.Mapped.{count_by-map}
 
 -- ---- numbers that rise
 
@@ -129,17 +130,8 @@ of_names names x [] i = absurd i
 of_names names x (c ∷ cs) (inl e) = record { consumer = c; listed = inl refl; same = e }
 of_names names x (c ∷ cs) (inr i) = let o = of_names names x cs i in record { consumer = o.consumer; listed = inr o.listed; same = o.same }
 
-passed_in : {X Y : Type 0} (f : X → Y) (p : Y → Bool) (xs : List X) → length (filter p (map f xs)) ≡ length (filter (λ x. p (f x)) xs)
-passed_in f p [] = refl
-passed_in f p (x ∷ xs) = go (p (f x)) (passed_in f p xs)
-  where
-    go : (b : Bool) → length (filter p (map f xs)) ≡ length (filter (λ y. p (f y)) xs)
-        → length (cond b (f x ∷ filter p (map f xs)) (filter p (map f xs))) ≡ length (cond b (x ∷ filter (λ y. p (f y)) xs) (filter (λ y. p (f y)) xs))
-    go true e = omega (arith, e)
-    go false e = e
-
 counted_in_names : (names : List Text) (p : seen.Outstanding → Bool) (os : List Delivery) → count_by p (map (outstanding_in names) os) ≡ count_by (λ o. p (outstanding_in names o)) os
-counted_in_names names p os = sym (length-filter p (map (outstanding_in names) os)) ∙ passed_in (outstanding_in names) p os ∙ length-filter (λ o. p (outstanding_in names o)) os
+counted_in_names names p os = count_by-map (outstanding_in names) p os
 
 -- a consumer may be given there what it may be given here
 may_in : (names : List Text) (ch : Open) (k : Consumer) → said.may_take (open_in names ch) (consumer_in names k) ≡ (has_tag_left ch.given.next_tag && may_of ch.given.limit ch.given.outstanding (Some k))

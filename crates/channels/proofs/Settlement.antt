@@ -1,9 +1,10 @@
 -- What a tag takes of outstanding deliveries whose tags rise, with the places between of what was settled before.
-use Rattle.channels.proofs.Imports.{◌≡◌, ℕ, zero, suc, ◌+◌, ◌-◌, ◌<◌, ◌≤◌, List, [], ◌∷◌, ◌++◌, length, length-drop, get_or, take, drop, refl, sym, ap, ◌∙◌, arith, Bool, true, false, cond, not, Option, Some, None, leb, eqb, inl, inr, ◌⊎◌, ◌||◌, list_any, eqb_tells, leb_tells, AllPairs-filter, filter-append, filter_passes, has_tag, takes, is_refused, settled, kept, Rises, tag_of, given_tag, IsTagAt, is_waiting, waiting, Delivery}
+use Rattle.channels.proofs.Imports.{◌≡◌, ℕ, ◌+◌, ◌-◌, ◌<◌, ◌≤◌, List, [], ◌∷◌, ◌++◌, length, length-drop, get_or, take, drop, refl, sym, ap, ◌∙◌, arith, Bool, true, false, cond, not, Option, Some, None, leb, eqb, inl, inr, ◌⊎◌, ◌||◌, list_any, eqb_tells, leb_tells, filter-append, has_tag, takes, is_refused, settled, kept, Rises, tag_of, given_tag, IsTagAt, is_waiting, waiting, Delivery}
 use Rattle.std.proofs.Common.{eq-eqb}
 use Rattle.std.specs.Prelude.{filter, ◌==◌, ◌&&◌, nat_le, if◌then◌else◌}
 use Rattle.std.specs.List.Sorted.{IsNonDecreasingBy}
-use Rattle.channels.proofs.Runs.{none_any, one_any, PassWithin, passed, failed}
+use Rattle.std.proofs.lemmas.List.{drop_all, get_or_default, take_all}
+use Rattle.channels.proofs.Runs.{none_any, none_pass, one_any, all_pass, PassWithin, passed, failed}
 
 not_equal : (a b : ℕ) → ((a ≡ b) → ⊥) → eqb a b ≡ false
 not_equal a b h = elim (eqb_tells a b) [ inl p ↦ absurd (h p.1) | inr p ↦ p.0 ]
@@ -36,11 +37,6 @@ at_given os i tag h d = waits_is (get_or os i d) (waits_by (get_or os i d) (λ z
 pub at_waits : (os : List Delivery) (i tag : ℕ) → IsTagAt os i tag → (d : Delivery) → is_waiting (get_or os i d) ≡ true
 at_waits os i tag h d = waits_by (get_or os i d) (λ z. h.waits (sym (h.there d) ∙ z))
 
-get_same : (os : List Delivery) (i : ℕ) (d e : Delivery) → i < length os → get_or os i d ≡ get_or os i e
-get_same [] i d e lt = absurd (omega arith)
-get_same (x ∷ xs) zero d e lt = refl
-get_same (x ∷ xs) (suc i) d e lt = get_same xs i d e (omega arith)
-
 -- of what waits, those pass that pass as places
 both : (p q : Delivery → Bool) → ((o : Delivery) → is_waiting o ≡ true → p o ≡ q o) → (xs : List Delivery) → filter p (waiting xs) ≡ waiting (filter q xs)
 both p q same [] = refl
@@ -64,25 +60,9 @@ any_in p (x ∷ xs) = go (is_waiting x) (any_in p xs)
 takes_same : (tag : ℕ) (multiple : Bool) (o : Delivery) → is_waiting o ≡ true → takes tag_of tag multiple o ≡ takes given_tag tag multiple o
 takes_same tag multiple o w = ap (λ (k : ℕ). if multiple then (if tag == 0 then true else nat_le k tag) else (k == tag)) (sym (waits_is o w))
 
--- what waits rises
-pub waiting_rises : (os : List Delivery) → Rises given_tag os → Rises tag_of (waiting os)
-waiting_rises os r i j d lt within =
-    let a = waits_is (get_or (waiting os) i d) (filter_passes is_waiting os i d (omega arith)) in
-    let b = waits_is (get_or (waiting os) j d) (filter_passes is_waiting os j d within) in
-    let l = AllPairs-filter (λ (x y : Delivery). given_tag x < given_tag y) is_waiting os r i j d lt within in
-    omega arith
-
-take_len : (xs : List Delivery) → take (length xs) xs ≡ xs
-take_len [] = refl
-take_len (x ∷ xs) = ap (λ (ys : List Delivery). x ∷ ys) (take_len xs)
-
-drop_len : (xs : List Delivery) → drop (length xs) xs ≡ []
-drop_len [] = refl
-drop_len (x ∷ xs) = drop_len xs
-
 -- what is behind n of them has n fewer
 pub rest_is : (n : ℕ) (xs : List Delivery) → take (length xs - n) (drop n xs) ≡ drop n xs
-rest_is n xs = ap (λ (k : ℕ). take k (drop n xs)) (sym (length-drop n xs)) ∙ take_len (drop n xs)
+rest_is n xs = take_all (length xs - n) (drop n xs) (let long = length-drop n xs in omega (arith, long))
 
 -- ---- the run of places that a tag takes
 
@@ -127,17 +107,12 @@ unrefused tag multiple os e = rw e refl
 unkept : (tag : ℕ) (multiple : Bool) (os : List Delivery) → is_refused tag_of tag multiple os ≡ false → kept tag_of tag multiple os ≡ filter (λ o. not (takes tag_of tag multiple o)) os
 unkept tag multiple os e = rw e refl
 
-none_left : (xs : List Delivery) → filter (λ (o : Delivery). false) xs ≡ []
-none_left [] = refl
-none_left (x ∷ xs) = none_left xs
-
-all_left : (xs : List Delivery) → filter (λ (o : Delivery). true) xs ≡ xs
-all_left [] = refl
-all_left (x ∷ xs) = ap (λ (ys : List Delivery). x ∷ ys) (all_left xs)
-
 pub settle_all : (os : List Delivery) (tag : ℕ) (multiple : Bool) → tag ≡ 0 → multiple ≡ true
     → (Some (waiting (take (length os) os)) ≡ settled tag_of tag multiple (waiting os)) × (waiting (drop (length os) os) ≡ kept tag_of tag multiple (waiting os))
-settle_all os tag multiple t m = rw (t, m) (ap Some (ap waiting (take_len os) ∙ sym (all_left (waiting os))), ap waiting (drop_len os) ∙ sym (none_left (waiting os)))
+settle_all os tag multiple t m = rw (t, m) (
+  ap Some (ap waiting (take_all (length os) os (omega arith)) ∙ sym (all_pass (λ (o : Delivery). true) (waiting os) (λ k d lt. refl))),
+  ap waiting (drop_all (length os) os (omega arith)) ∙ sym (none_pass (λ (o : Delivery). false) (waiting os) (λ k d lt. refl)),
+)
 
 pub settle_many : (os : List Delivery) (i tag : ℕ) (multiple : Bool) → multiple ≡ true → Rises given_tag os → IsTagAt os i tag
     → (Some (waiting (take (i + 1) os)) ≡ settled tag_of tag multiple (waiting os)) × (waiting (drop (i + 1) os) ≡ kept tag_of tag multiple (waiting os))
@@ -193,7 +168,7 @@ absent_by os i tag r below above here = any_in (has_tag tag_of tag) os ∙ none_
     stray : (k : ℕ) (d : Delivery) → k < length os → is_waiting (get_or os k d) ≡ true → (get_or os k d).tag ≡ tag → ((eqb k i ≡ true) × (k ≡ i)) ⊎ ((eqb k i ≡ false) × ((k ≡ i) → ⊥)) → ⊥
     stray k d lt w e (inl p) = here (record {
       within = let q = p.1 in omega arith;
-      there = λ x. ap (λ (o : Delivery). o.tag) (ap (λ (z : ℕ). get_or os z x) (sym p.1) ∙ get_same os k x d lt) ∙ e;
+      there = λ x. ap (λ (o : Delivery). o.tag) (ap (λ (z : ℕ). get_or os z x) (sym p.1) ∙ get_or_default os k x d lt) ∙ e;
       waits = λ z. waits_not (get_or os k d) w (e ∙ z);
     })
     stray k d lt w e (inr p) =

@@ -9,7 +9,7 @@ ghost use Rattle.model.specs.Settling.{settled};
 ghost use Rattle.model.specs.Placed.{waiting};
 ghost use Rattle.channels.specs.Spans.{settled_by, ReturnsSpan};
 ghost use Rattle.channels.specs.Deliveries.{nothing_given, may_be_given, consumer_at};
-ghost use Rattle.channels.specs.Deliveries.{AddsConsumer, ConsumesUnnamed, JudgesNamed, JudgesUnnamed, CanMakeConsumer, NamesUnnamed};
+ghost use Rattle.channels.specs.Deliveries.{AddsConsumer, ConsumesUnnamed, JudgesNamed, CanMakeConsumer, NamesUnnamed};
 ghost use Rattle.channels.specs.Open.{with_qos, given_on, settled_on, without_settled, without_named, consumers_from, open_in};
 ghost use Rattle.channels.specs.Open.{JudgesConsumer, MakesConsumer, IsOne, ReturnsTaker};
 ghost use Rattle.channels.specs.Consumers.{AreBelow};
@@ -22,7 +22,7 @@ use crate::names::{Name, next_name};
 use crate::pending::Unsettled;
 use crate::settled::Settled;
 use crate::spans::Span;
-use crate::tags::count_waiting;
+use crate::tags::{count_waiting, settled_of, span_of};
 use laws::next_tags_are_found;
 use model::{Consume, Delivery, Qos, Taker, Text};
 use std::alloc::{AllocError, Global};
@@ -167,7 +167,7 @@ impl Channel {
     {
         if consume.consumer_tag.len() == 0 {
             next_tags_are_found();
-            return self.refusal_unnamed();
+            return self.next_unnamed().err();
         }
         self.refusal_named(consume.consumer_tag.as_bytes())
     }
@@ -203,16 +203,6 @@ impl Channel {
         match next_name(&self.consumers, self.next_name) {
             Some(name) => Ok(name),
             None => Err(ConsumerRefusal::Spent),
-        }
-    }
-
-    /// Returns the first reason to refuse a consumer without a tag of its own, or `None` if there is none. Never allocates.
-    fn refusal_unnamed(&self) -> Option<ConsumerRefusal>
-        ensures { JudgesUnnamed self.now.given result }
-    {
-        match self.next_unnamed() {
-            Ok(_) => None,
-            Err(refusal) => Some(refusal),
         }
     }
 
@@ -417,7 +407,7 @@ impl Channel {
     pub fn span(&self, tag: u64, multiple: bool) -> Option<Span>
         ensures { ReturnsSpan tag multiple self.now.given.outstanding result }
     {
-        self.pending.span(tag, multiple)
+        span_of(self.pending.all(), tag, multiple)
     }
 
     /// Returns the deliveries that `span` settles, in tag order; entries of deliveries that were settled before may be among them. Empty if the
@@ -425,7 +415,7 @@ impl Channel {
     pub fn at(&self, span: Span) -> &[Delivery]
         ensures { waiting result.now ≡ settled_by span self.now.given.outstanding }
     {
-        self.pending.at(span)
+        settled_of(self.pending.all(), span)
     }
 
     /// Removes the deliveries that `span` settles; none if its tag is refused. Never allocates.
@@ -433,7 +423,7 @@ impl Channel {
         ensures settled { self.new ≡ without_settled self.old span.tag span.multiple self.new.given.room }
         ensures room { self.old.given.room ≤ self.new.given.room }
     {
-        let gone = self.pending.at(span);
+        let gone = settled_of(self.pending.all(), span);
         let count = count_waiting(gone);
         self.consumers.count_out(gone);
         self.pending.forget(span, count);

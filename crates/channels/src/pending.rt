@@ -1,7 +1,7 @@
 //! The unacknowledged deliveries of a channel.
 
 use crate::spans::Span;
-use crate::tags::{behind, close_if, forget_in, make_place, settled_of, span_of};
+use crate::tags::{behind, close_if, forget_in, make_place};
 use model::Delivery;
 use std::alloc::{AllocError, Global};
 use std::marker::Model;
@@ -34,8 +34,7 @@ impl Unsettled {
     ghost use Rattle.std.specs.Prelude.{◌≡◌, ◌+◌, ◌*◌, ◌<◌, ◌≤◌, ◌^◌, ◌++◌, ◌∷◌, [], ℕ, OnOk, OnErr, length, map};
     ghost use Rattle.model.specs.Placed.{waiting};
     ghost use Rattle.model.specs.Settling.{kept, Rises};
-    ghost use Rattle.channels.specs.Outstanding.{tag_of};
-    ghost use Rattle.channels.specs.Spans.{settled_by, ReturnsSpan};
+    ghost use Rattle.channels.specs.Outstanding.{tag_of, given_tag};
     ghost use Rattle.channels.specs.Moving.{outstanding_moved};
 
     /// Makes an empty list. Never allocates.
@@ -55,25 +54,10 @@ impl Unsettled {
     /// Returns the unacknowledged deliveries in tag order. Settled entries may be among them: at most as many as are unacknowledged, plus 32.
     pub(crate) fn all(&self) -> &[Delivery]
         ensures all { waiting result.now ≡ self.now.outstanding }
-        ensures rises { Rises tag_of self.now.outstanding }
+        ensures rises { Rises given_tag result.now }
         ensures few { length result.now ≤ 2 * length self.now.outstanding + 32 }
     {
         behind(&self.items, self.start)
-    }
-
-    /// Returns the span of what `tag` settles, or `None` if the tag is refused.
-    pub(crate) fn span(&self, tag: u64, multiple: bool) -> Option<Span>
-        ensures { ReturnsSpan tag multiple self.now.outstanding result }
-    {
-        span_of(behind(&self.items, self.start), tag, multiple)
-    }
-
-    /// Returns the deliveries that `span` settles, in tag order; entries of deliveries that were settled before may be among them. Empty if the
-    /// tag is refused.
-    pub(crate) fn at(&self, span: Span) -> &[Delivery]
-        ensures { waiting result.now ≡ settled_by span self.now.outstanding }
-    {
-        settled_of(behind(&self.items, self.start), span)
     }
 
     /// Removes the `gone` deliveries that `span` settles. Compacts the list if it then has over 32 entries more than twice the number of

@@ -76,13 +76,6 @@ picked_from kept place p k e t found here = record {
   named = ap (queue_name (topology_kept kept)) (sym here);
 }
 
--- and any that can be made to one of its numbers takes from its queue
-pub ready_for : (kept : Kept) (p : Pick) (k : Consumer) → TakesAs kept p k → (pick : IsPick (broker_of kept) p) → first_ready ((broker_of kept).queue (queue_name (topology_kept kept) k.queue)) ≡ Some pick.0.entry
-ready_for kept p k t (made, at, numbered) =
-    let same : made.channel ≡ t.channel = same_Some made.channel t.channel (sym made.taker.there ∙ ap (λ (h : ℕ). (broker_of kept).channel p.connection h) at ∙ t.taker.there) in
-    let one : made.consumer ≡ consumer_in (names_of kept) k = t.only made.consumer (subst (λ (x : Channel). IsIn made.consumer x.consumers) same made.taker.its) numbered in
-    ap (λ (x : view.Consumer). first_ready ((broker_of kept).queue x.queue)) (sym one) ∙ made.first
-
 -- it is a consumer of the queue from which it is made
 pub same_queue : (kept : Kept) (place : ℕ) (p : Pick) (k : Consumer) → AreDistinct (queue_names (topology_kept kept).queues) → TakesAs kept p k → IsPickFrom kept place p → k.queue ≡ place
 same_queue kept place p k distinct t from =

@@ -1,5 +1,5 @@
 -- What a reload looks at is what the broker has.
-use Rattle.commands.proofs.Names.{◌≡◌, ◌∙◌, ◌<◌, ℕ, List, [], get_or, Option, Result, sym, ap, subst, arith, IfOk, OnErr, option_map, slice_get, slice_get_within, get_or_from_slice_get, IfOk-weaker, Text, Topology, IsIn, AreDistinct, Broker, open_in, consumer_in, Store, entries_named, queue_at, IsStoreWhole, IsQueueNamed, names-length, channel_of, is_consumed, HasTaker, ShowsQueues, Kept, ArePlaced, broker_of, topology_kept, names_of}
+use Rattle.commands.proofs.Names.{◌≡◌, ◌∙◌, ◌<◌, ℕ, List, [], get_or, Option, Result, sym, ap, subst, arith, IfOk, OnErr, option_map, slice_get, slice_get_within, get_or_from_slice_get, IfOk-weaker, Text, Topology, IsIn, AreDistinct, open_in, consumer_in, Store, entries_named, queue_at, IsStoreWhole, IsQueueNamed, names-length, channel_of, is_consumed, HasTaker, ShowsQueues, Kept, ArePlaced, broker_of, topology_kept, names_of}
 use Rattle.std.proofs.Common.{length, Some}
 use Rattle.std.specs.Prelude.{Decides}
 use Rattle.model.specs.Guarantee.{Guarantee}
@@ -7,8 +7,8 @@ use Rattle.model.specs.Broker as seen
 use Rattle.model.specs.declared.obstacles.Obstacle.{Obstacle}
 use Rattle.reloading.specs.Obstacles.{JudgesReload}
 use Rattle.reloading.specs.LiveQueues.{IsConsumed}
-use Rattle.reloading.specs.Wanting.{MayWant}
-use Rattle.reloading.proofs.Wanting.{on_err_too}
+use Rattle.reloading.specs.Allocating.{JudgingMayAllocate, JudgingQueuesMayAllocate}
+use Rattle.reloading.proofs.Allocating.{on_err_too}
 use Rattle.commands.specs.Obstacles.{ReportsObstacle}
 use Rattle.commands.proofs.Placing.{takes_within}
 use Rattle.commands.proofs.Reloading.{in_mapped, seen_of, one_place}
@@ -74,12 +74,12 @@ judged r kept t new gs e stands reported =
     (λ o judges users. judges (broker_of kept) users stands)
     (subst (λ (x : Topology). IfOk r (JudgesReload x (λ place. queue_at kept.store place) (λ place. is_consumed kept.connections place) new gs)) e reported)
 
--- if a reload may fail to allocate for every broker with these queues, it may for this one
-pub wanted : {E : Type 0} (r : Result (Option Obstacle) E) (kept : Kept) (t new : Topology) → t ≡ topology_kept kept
+-- if judging may fail to allocate for every broker with these queues, it may for this one
+pub may_allocate : {E : Type 0} (r : Result (Option Obstacle) E) (kept : Kept) (t new : Topology) (gs : List Guarantee) → t ≡ topology_kept kept
     → ShowsQueues (topology_kept kept) (λ place. queue_at kept.store place) (λ place. is_consumed kept.connections place) (broker_of kept)
-    → OnErr r ((b : Broker) → ShowsQueues t (λ place. queue_at kept.store place) (λ place. is_consumed kept.connections place) b → MayWant t new b)
-    → OnErr r (MayWant (topology_kept kept) new (broker_of kept))
-wanted r kept t new e stands wants =
-    on_err_too r ((b : Broker) → ShowsQueues (topology_kept kept) (λ place. queue_at kept.store place) (λ place. is_consumed kept.connections place) b → MayWant (topology_kept kept) new b) (MayWant (topology_kept kept) new (broker_of kept))
+    → OnErr r (JudgingQueuesMayAllocate t (λ place. queue_at kept.store place) (λ place. is_consumed kept.connections place) new gs)
+    → OnErr r (JudgingMayAllocate (topology_kept kept) new gs (broker_of kept))
+may_allocate r kept t new gs e stands wants =
+    on_err_too r (JudgingQueuesMayAllocate (topology_kept kept) (λ place. queue_at kept.store place) (λ place. is_consumed kept.connections place) new gs) (JudgingMayAllocate (topology_kept kept) new gs (broker_of kept))
     (λ may. may (broker_of kept) stands)
-    (subst (λ (x : Topology). OnErr r ((b : Broker) → ShowsQueues x (λ place. queue_at kept.store place) (λ place. is_consumed kept.connections place) b → MayWant x new b)) e wants)
+    (subst (λ (x : Topology). OnErr r (JudgingQueuesMayAllocate x (λ place. queue_at kept.store place) (λ place. is_consumed kept.connections place) new gs)) e wants)

@@ -9,8 +9,8 @@ pub use Rattle.channels.specs.Placed.{IsPlaced, TakeWithin}
 pub use Rattle.channels.specs.RunningConnections.{HoldsConnections, OpensConnection, PutsChannel, channel_at, channel_in, channel_of, channel_seen, connection_at, connection_of, limits_of, outstanding_on, running_in, seen_in, with_channel_in, with_running}
 pub use Rattle.channels.specs.CountedConsumers.{is_named, takes_from}
 pub use Rattle.channels.specs.Spans.{IsSpan, ReturnsSpan, settled_by}
-pub use Rattle.commands.specs.Commands.{Answers, AnswersHere, AnswersOn, Asks, AsksLeft, CanCommand, CanFinish, ComesTo, Commands, DeliversHere, GivesHere, HasSpelling, IsAddressedBy, IsNotPerformed, SettlesHere, Side, Turns, UnlessPerformed, WantsNone, done_of, left_of, seen, state_of}
-pub use Rattle.commands.specs.Ended.{AllConsumersStay, AllRunStill, LeavesChannel, OtherConsumersStay, OthersRunStill, ReportsConsumers, ReportsConsumersOn, ReportsEnd, cancels_one, ends_of, has_consumers}
+pub use Rattle.commands.specs.Commands.{Answers, AnswersHere, AnswersOn, Asks, CanCommand, CanFinish, ComesTo, Commands, DeliversHere, GivesHere, HasSpelling, IsAddressedBy, IsNotPerformed, SettlesHere, Side, Turns, UnlessPerformed, WantsNone, done_of, left_of, seen, state_of}
+pub use Rattle.commands.specs.Ended.{AllConsumersStay, AllRunStill, LeavesChannel, OtherConsumersStay, OthersRunStill, ReportsConsumersOn, ReportsEnd, cancels_one, ends_of, has_consumers}
 pub use Rattle.commands.specs.Freed.{AreReturnedAt, AreReturnedFrom}
 pub use Rattle.commands.specs.Judged.{HasChannel, IsQueueIndex, JudgesLarge, opens_or_closes, refusal_by, refusal_of_number, refusal_seen, stop_of}
 pub use Rattle.commands.specs.Picked.{CannotTake, DeliversTo, IsKeptAs, IsNextPicked, IsPick, IsPickFrom, TakesAs, ReturnsConsumer, ReturnsTaking}
@@ -42,12 +42,12 @@ pub use Rattle.model.specs.Placed.{AreWithin, outstanding_in, waiting}
 pub use Rattle.model.specs.Reloading.{IsInUse, NoneIsOrphaned, by_consumer, by_entry, survived_now, with_all_survived}
 pub use Rattle.model.specs.Sending.{AreCarried, IsAddressed, IsCarried}
 pub use Rattle.model.specs.Settling.{Rises, has_tag, is_refused, kept, settled, takes}
-pub use Rattle.model.specs.Step.{Acts, Cancels, Consumes, Does, Finds, Gets, Is, IsPublish, Of_channel, Of_connection, OnConnection, Performs, Purges, after_close, answer_of, cancel_sends, channel_or_new, channels_up_to, confirm_notes, confirm_sends, consume_sends, content_or_none, declare_sends, deliver, entry_notes, exchange_named, get_ok, greatest, is_awaiting, is_none, is_of_connection, is_some_full, limited, next_of, or_else, paused, purge_sends, queue_declared, refusal, refusal_at, refusal_in, refusal_of, refusal_of_asking, refusal_of_consume, refusal_of_count, refusal_of_get, refusal_of_large, refusal_of_many, refusal_of_numbers, refusal_of_publish, refusal_of_queue_declare, refusal_of_consumer, refusal_of_settling, refusal_of_tag, refusal_of_tags, refusal_on, refusal_on_zero, refusal_to, refusal_while_closing, reply, return_of, returned_notes, select_sends, started, with_closing, with_freed, with_gone}
+pub use Rattle.model.specs.Step.{Acts, Cancels, Consumes, Does, Finds, Gets, Is, IsPublish, Of_channel, Of_connection, OnConnection, Performs, Purges, after_close, answer_of, cancel_sends, channel_or_new, channels_up_to, confirm_notes, confirm_sends, consume_sends, content_or_none, declare_sends, deliver, entry_notes, exchange_named, get_ok, greatest, is_awaiting, is_none, is_of_connection, is_some_full, limited, next_of, or_else, paused, purge_sends, queue_declared, refusal, refusal_at, refusal_in, refusal_of, refusal_of_asking, refusal_of_consume, refusal_of_count, refusal_of_get, refusal_of_large, refusal_of_many, refusal_of_numbers, refusal_of_publish, refusal_of_queue_declare, refusal_of_consumer, refusal_of_settling, refusal_of_tag, refusal_of_tags, refusal_on, refusal_on_zero, refusal_to, refusal_while_closing, reply, return_of, returned_notes, select_sends, started, with_freed, with_gone}
 pub use Rattle.model.specs.Topology.{AreDistinct, IsIn, Topology, queue_names}
 pub use Rattle.model.specs.Words.{Text}
 pub use Rattle.model.specs.declared.contents.Content.{Content}
 pub use Rattle.model.specs.declared.deliveries.Delivery.{Delivery}
-pub use Rattle.model.specs.declared.events.Event.TheVariants.{Command, Deliver, Fault, Lose, Pause, Resume, TooLarge}
+pub use Rattle.model.specs.declared.events.Event.TheVariants.{Deliver, Lose, Pause, Resume}
 pub use Rattle.model.specs.declared.events.Send.{Send}
 pub use Rattle.model.specs.declared.messages.Entry.{Entry}
 pub use Rattle.model.specs.declared.messages.Holder.{Holder}
@@ -76,6 +76,6 @@ pub use Rattle.std.proofs.lemmas.Result.{IfOk-weaker, err_from_is_err_and}
 pub use Rattle.std.proofs.lemmas.Slice.Eq.{bytes_eq-Decides}
 pub use Rattle.std.specs.List.{All, AllByRecursion, list_any}
 pub use Rattle.std.specs.Option.{option_copied_mut}
-pub use Rattle.std.specs.Prelude.{IfNone, IfOk, IfSome, OnErr, OnOk, is_some, min, option_map, slice_get, slice_index_or, unwrap_or, ◌||◌}
+pub use Rattle.std.specs.Prelude.{IfNone, IfOk, IfSome, OnErr, is_some, min, option_map, slice_get, slice_index_or, unwrap_or, ◌||◌}
 pub use Rattle.std.specs.Str.{bytes_eq}
 pub use Rattle.std.specs.declared.alloc.AllocError.{AllocError}

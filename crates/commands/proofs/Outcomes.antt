@@ -1,5 +1,5 @@
 -- What a call gives, and what is there where something is.
-use Rattle.commands.proofs.Names.{◌≡◌, refl, true, Option, None, Result, Ok, Err, IfOk, option_map, is_some, false≢true}
+use Rattle.commands.proofs.Names.{◌≡◌, refl, true, Option, None, Result, Ok, Err, IfOk, is_some, false≢true}
 use Rattle.std.proofs.Common.{Some}
 
 -- two facts of what a call gives are both so, and what follows from them
@@ -11,8 +11,3 @@ both_ok (Err e) P Q R p q f = p
 pub some_of : {A : Type 0} (o : Option A) → is_some o ≡ true → (x : A) × (o ≡ Some x)
 some_of None e = absurd (false≢true e)
 some_of (Some x) e = (x, refl)
-
--- something is there as often as what is made of it
-pub some_mapped : {A B : Type 0} (f : A → B) (o : Option A) → is_some (option_map f o) ≡ is_some o
-some_mapped f None = refl
-some_mapped f (Some x) = refl

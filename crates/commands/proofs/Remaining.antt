@@ -1,15 +1,11 @@
 -- Consumers that are there still, and those that leave.
-use Rattle.commands.proofs.Names.{◌≡◌, ◌∙◌, ℕ, List, [], ◌∷◌, ◌++◌, filter, not, cond, Bool, true, false, Option, None, inl, inr, refl, sym, ap, subst, Result, Ok, Err, arith, ◌||◌, is_some, option_map, IfOk, OnOk, AllocError, eqb-true, eq-eqb, lt-ltb, false≢true, Text, Topology, IsIn, Channel, Broker, new_channel, with_pair, with_row, consumer_of, is_tagged, is_in_use, without_consumer, first_ready, by_channel, Is, Acts, Does, Gets, Performs, after_close, channel_or_new, with_freed, with_gone, Content, Command, TooLarge, Fault, Send, Entry, Get, Qos, Method, ConnectionClose, ChannelOpen, ChannelFlow, ChannelClose, ChannelCloseOk, ExchangeDeclare, QueuePurge, BasicQos, BasicConsume, BasicCancel, BasicPublish, BasicGet, BasicAck, BasicReject, BasicNack, BasicRecover, ConfirmSelect, Note, open_in, running_in, channel_at, connection_at, Step, Performed, AnswersOn, Acted, AllConsumersStay, OtherConsumersStay, LeavesChannel, ReportsConsumersOn, ReportsConsumers, has_consumers, cancels_one, ends_of, opens_or_closes, Kept, broker_of, channel_on, names_of, topology_kept}
+use Rattle.commands.proofs.Names.{◌≡◌, ◌∙◌, ℕ, List, [], ◌∷◌, ◌++◌, filter, not, cond, Bool, true, false, Option, None, inl, inr, refl, sym, ap, subst, Ok, arith, ◌||◌, eqb-true, eq-eqb, lt-ltb, false≢true, Text, Topology, IsIn, Channel, Broker, new_channel, with_pair, with_row, consumer_of, is_tagged, is_in_use, without_consumer, first_ready, by_channel, Is, Does, Gets, Performs, after_close, channel_or_new, with_freed, with_gone, Content, Send, Entry, Get, Qos, Method, ConnectionClose, ChannelOpen, ChannelFlow, ChannelClose, ChannelCloseOk, ExchangeDeclare, QueuePurge, BasicQos, BasicConsume, BasicCancel, BasicPublish, BasicGet, BasicAck, BasicReject, BasicNack, BasicRecover, ConfirmSelect, Note, Step, Performed, AnswersOn, AllConsumersStay, OtherConsumersStay, LeavesChannel, ReportsConsumersOn, has_consumers, cancels_one, ends_of, opens_or_closes, Kept, broker_of, channel_on, topology_kept}
 use Rattle.std.proofs.Common.{Some}
 use Rattle.std.specs.Prelude.{◌==◌, ◌&&◌, if◌then◌else◌, nat_lt, length}
 use Rattle.model.specs.Broker.{Consumer}
 use Rattle.model.specs.Step.{with_channel}
-use Rattle.model.specs.declared.events.Event.TheVariants.{Running}
 use Rattle.model.specs.declared.methods.Method.TheVariants.{QueueDeclare}
 use Rattle.laws.specs.Consumers.{WasConsumer}
-use Rattle.channels.specs.RunningConnections as running
-use Rattle.commands.specs.declared.acted.Ends.{Ends}
-use Rattle.commands.specs.declared.acted.Ends.TheVariants as ended
 
 -- ---- lists of consumers
 
@@ -208,46 +204,3 @@ performed_reports old new c h m content s v distinct e (conn, at, judged) =
     here : (b : Bool) → opens_or_closes m ≡ b → opens_or_closes m ≡ false
     here true t = absurd (distinct t)
     here false f = f
-
--- ---- events
-
--- what is told on a channel is told of its event
-pub command_reports : (c h : ℕ) (m : Method) (content : Option Content) (ends : Ends) (old new : Broker) → ReportsConsumersOn c h ends old new → ReportsConsumers (Command c h m content) ends old new
-command_reports c h m content ended.Nothing old new p = p
-command_reports c h m content ended.Consumers old new p = p
-command_reports c h m content ended.Connection old new p = p
-
-pub large_reports : (c h : ℕ) (ends : Ends) (old new : Broker) → ReportsConsumersOn c h ends old new → ReportsConsumers (TooLarge c h) ends old new
-large_reports c h ended.Nothing old new p = p
-large_reports c h ended.Consumers old new p = p
-large_reports c h ended.Connection old new p = p
-
--- a connection that doesn't run has no channel
-none_open : (kept : Kept) (c h : ℕ) → is_some ((broker_of kept).connection c) ≡ false → (broker_of kept).channel c h ≡ None
-none_open kept c h = go (running_in kept.connections c)
-  where
-    go : (o : Option running.Running) → is_some (connection_at o) ≡ false → option_map (open_in (names_of kept)) (channel_at o h) ≡ None
-    go None e = refl
-    go (Some l) e = absurd (false≢true (sym e))
-
--- a connection begins to run
-pub opening_tells : (t : Topology) (old : Kept) (new : Broker) (sends : List Send) (notes : List Note) (c max n : ℕ) (v : Bool) → v ≡ is_some ((broker_of old).connection c)
-    → Acts t (broker_of old) (Running c max n) sends notes new → ReportsConsumers (Running c max n) (ends_of v) (broker_of old) new
-opening_tells t old new sends notes c max n true e p = (sym e, row_stays (broker_of old) new c _ p.left.channels)
-opening_tells t old new sends notes c max n false e p = stay
-  where
-    stay : AllConsumersStay (broker_of old) new
-    stay d l k was = go (d == c) refl
-      where
-        go : (b : Bool) → (d == c) ≡ b → WasConsumer new d l k
-        go true at = absurd (false≢true (ap is_some (sym (none_open old c l (sym e)) ∙ ap (λ (x : ℕ). (broker_of old).channel x l) (sym (eqb-true d c at)) ∙ was.1)))
-        go false distinct = row_stays (broker_of old) new c _ p.left.channels d l k distinct was
-
--- a connection is closed, which is told
-pub closed_reports : (c h : ℕ) (old new : Broker) (r : Result Acted AllocError) → IfOk r (λ a. a.ends ≡ ended.Connection) → OnOk r (OtherConsumersStay c old new) → IfOk r (λ a. ReportsConsumersOn c h a.ends old new)
-closed_reports c h old new (Ok a) whole stay = subst (λ (e : Ends). ReportsConsumersOn c h e old new) (sym whole) stay
-closed_reports c h old new (Err e) whole stay = tt
-
-pub fault_reports : (c code : ℕ) (old new : Broker) (r : Result Acted AllocError) → IfOk r (λ a. a.ends ≡ ended.Connection) → OnOk r (OtherConsumersStay c old new) → IfOk r (λ a. ReportsConsumers (Fault c code) a.ends old new)
-fault_reports c code old new (Ok a) whole stay = subst (λ (e : Ends). ReportsConsumers (Fault c code) e old new) (sym whole) stay
-fault_reports c code old new (Err e) whole stay = tt

@@ -2,13 +2,14 @@
 //!
 //! Source: AMQP 0-9-1, section 1.1, "reply-code", and the rules of its XML.
 
-ghost use Rattle.std.specs.Prelude.{◌≡◌, List, Some, true, false, Option, IfOk, OnOk, option_map};
+ghost use Rattle.std.specs.Prelude.{◌≡◌, List, Some, None, true, false, Option, IfOk, OnOk, option_map, if◌then◌else◌};
 ghost use Rattle.std.specs.Option.{option_copied};
 ghost use Rattle.model.specs.Words.{Text as Name};
 ghost use Rattle.model.specs.Broker.{Broker};
 ghost use Rattle.model.specs.Broker.{Channel as Seen};
 ghost use Rattle.model.specs.Topology.{Topology as Handed};
 ghost use Rattle.model.specs.Step as said;
+ghost use Rattle.model.specs.Step.{Of_connection};
 ghost use Rattle.model.specs.Prefetch.{has_tag_left};
 ghost use Rattle.model.specs.declared.messages.Entry.{Entry};
 ghost use Rattle.commands.specs.Judged.{refusal_seen, refused_by, refusal_of_number, is_taken, HasChannel, IsQueueIndex, JudgesConsume};
@@ -21,12 +22,12 @@ mod publishes;
 mod settlements;
 
 pub use crate::refusals::consumers::check_consume;
-pub use crate::refusals::declares::{check_exchange, check_flow, check_queue_declare};
+pub use crate::refusals::declares::{check_exchange, check_queue_declare};
 pub use crate::refusals::publishes::check_publish;
-pub use crate::refusals::settlements::{check_recover, check_settling};
+pub use crate::refusals::settlements::check_settling;
 use channels::{Channel, ConsumeError, ConsumerRefusal, RunningConnection};
 use exchange_graph::Topology;
-use model::{Consume, Method, Qos, Text};
+use model::{Consume, Method, Text};
 use std::alloc::AllocError;
 
 /// Why a command is not performed.
@@ -100,11 +101,11 @@ impl From<ConsumeError> for Stop {
     }
 }
 
-/// Refuses a prefetch by the size of messages, which is not implemented.
-pub fn check_qos(qos: &Qos) -> Result<(), Refusal>
-    ensures { refused_by result ≡ said.refusal_of_qos qos.now }
+/// Refuses what the server doesn't implement.
+pub fn check_implemented(is_implemented: bool) -> Result<(), Refusal>
+    ensures { refused_by result ≡ (if is_implemented then None else Some (Of_connection 540)) }
 {
-    if qos.prefetch_size == 0 {
+    if is_implemented {
         Ok(())
     } else {
         Err(Refusal::Connection(540))

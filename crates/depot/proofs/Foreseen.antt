@@ -1,9 +1,9 @@
 -- What is foreseen of a rejection, turn by turn and death by death.
-use Rattle.depot.proofs.Names.{◌≡◌, ℕ, ◌+◌, ◌<◌, List, [], ◌∷◌, ◌++◌, Bool, true, false, length, get_or, set, take, filter, refl, sym, ap, subst, ◌∙◌, append_assoc, append-nil, length-set, Option, Some, Text, Topology, queue_names, Message, is_held_as, Entry, Holder, DeclaredQueue, Rejected, Note, Left, queue_name, ChannelId, Delivery, is_waiting, waiting, holder_of_delivery, PlannedTurn, all_entered, entered_one, is_full_at, notes_of_outcomes, outcome, outcome_of, outcomes, Arrival, Tally, AreTallied, CountsTurn, arrivals_at, taken_if, tally_of, Death, Extends, Foresees, ForeseesDeaths, ForeseesGiven, ForeseesLetters, ForeseesOutcomes, ForeseesTurns, ForeseesWaiting, Planned, Plans, given_at, ArePlanned, all_arrivals, all_notes, arrivals_in, arriving, death_notes, died, died_all, outcomes_of, LettersAt, map, turn_at}
+use Rattle.depot.proofs.Names.{◌≡◌, ℕ, ◌+◌, ◌<◌, List, [], ◌∷◌, ◌++◌, Bool, true, false, length, get_or, set, take, filter, refl, sym, ap, subst, ◌∙◌, append_assoc, append-nil, length-set, Option, Some, Text, Topology, Message, is_held_as, Entry, Holder, DeclaredQueue, Rejected, Note, Left, queue_name, ChannelId, Delivery, is_waiting, waiting, holder_of_delivery, PlannedTurn, all_entered, entered_one, is_full_at, notes_of_outcomes, outcome, outcome_of, outcomes, Arrival, Tally, AreTallied, CountsTurn, arrivals_at, taken_if, tally_of, Death, Extends, Foresees, ForeseesDeaths, ForeseesGiven, ForeseesLetters, ForeseesOutcomes, ForeseesTurns, ForeseesWaiting, Planned, Plans, given_at, ArePlanned, all_arrivals, all_notes, arrivals_in, arriving, death_notes, died, died_all, outcomes_of, LettersAt, map, turn_at}
 use Rattle.std.proofs.Common.{not}
 use Rattle.model.specs.declared.notes.Way.TheVariants as way
 use Rattle.depot.specs.declared.plans.Letter.{Letter}
-use Rattle.depot.proofs.Planned.{planned_more}
+use Rattle.depot.proofs.Planned.{name_there, planned_more}
 use Rattle.depot.proofs.Rejected.{seen-set}
 use Rattle.depot.proofs.Tallying.{tally_left}
 use Rattle.depot.proofs.Waiting.{waiting_more}
@@ -18,15 +18,16 @@ extends_then a b c first next = (first.0 ++ next.0, next.1 ∙ ap (λ (ns : List
 
 -- ---- one turn
 
-pub turn_foreseen : (qs : List DeclaredQueue) (old : List (List Entry)) (from to : Planned) (letter : Message) (place size : ℕ) (full : Bool) (name : Text)
-    → CountsTurn qs old from.tallies to.tallies place size full → length letter.content.body ≡ size → name ≡ get_or (queue_names qs) place []
+pub turn_foreseen : (qs : List DeclaredQueue) (old : List (List Entry)) (from to : Planned) (letter : Message) (place size : ℕ) (full : Bool) (name : Text) (q : DeclaredQueue)
+    → CountsTurn qs old from.tallies to.tallies place size full → size ≡ length letter.content.body → place < length qs → q ≡ get_or qs place q → name ≡ (get_or qs place q).name
     → to.arrivals ≡ from.arrivals ++ arrivals_at place (taken_if full letter) → to.notes ≡ from.notes ++ (outcome_of way.Dead name full letter place).note ∷ []
     → Foresees qs old letter (place ∷ []) from to
-turn_foreseen qs old from to letter place size full name tells long named came noted entries are =
-    let reported : full ≡ is_full_at qs entries place (length letter.content.body) = (tells entries).reported are ∙ ap (is_full_at qs entries place) (sym long) in
+turn_foreseen qs old from to letter place size full name q tells long lt there its came noted entries are =
+    let reported : full ≡ is_full_at qs entries place (length letter.content.body) = (tells entries).reported are ∙ ap (is_full_at qs entries place) long in
+    let named = its ∙ ap (λ (x : DeclaredQueue). x.name) (sym there) ∙ name_there qs place q lt there in
     subst (λ (n : Text). ForeseesOutcomes qs old (outcome_of way.Dead n (is_full_at qs entries place (length letter.content.body)) letter place ∷ []) entries from to) named
     (subst (λ (f : Bool). ForeseesOutcomes qs old (outcome_of way.Dead name f letter place ∷ []) entries from to) reported
-    (go full ((tells entries).tallied are letter long) came noted))
+    (go full ((tells entries).tallied are letter (sym long)) came noted))
   where
     go : (f : Bool) → AreTallied qs old to.tallies (set entries place (get_or entries place [] ++ arriving (taken_if f letter))) → to.arrivals ≡ from.arrivals ++ arrivals_at place (taken_if f letter)
         → to.notes ≡ from.notes ++ (outcome_of way.Dead name f letter place).note ∷ [] → ForeseesOutcomes qs old (outcome_of way.Dead name f letter place ∷ []) entries from to

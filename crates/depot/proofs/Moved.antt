@@ -1,5 +1,5 @@
 -- Queues taken over, place by place and by their names.
-use Rattle.depot.proofs.Names.{◌≡◌, ℕ, zero, suc, ◌+◌, ◌<◌, ◌≤◌, List, [], ◌∷◌, ◌++◌, length, get_or, set, map, drop, refl, sym, ap, subst, ◌∙◌, arith, Bool, true, false, cond, inl, inr, bytes_eq, bytes_eq-Decides, false≢true, leb_tells, length-append, length-set, length-replicate, Text, IsIn, AreDistinct, queue_names, DeclaredQueue, listed, survived_now, Entry, IsMoved, stays, goes, AreMoved, GoneAreEmpty, taken, Line, Store, entries_named, entries_of}
+use Rattle.depot.proofs.Names.{◌≡◌, ℕ, zero, suc, ◌+◌, ◌<◌, ◌≤◌, List, [], ◌∷◌, ◌++◌, length, get_or, set, map, drop, refl, sym, ap, subst, ◌∙◌, arith, Bool, true, false, cond, inl, inr, bytes_eq, bytes_eq-Decides, false≢true, leb_tells, length-append, length-set, length-replicate, Text, IsIn, AreDistinct, queue_names, listed, survived_now, Entry, IsMoved, stays, goes, AreMoved, GoneAreEmpty, taken, Line, Store, entries_named, entries_of}
 use Rattle.std.specs.Prelude.{replicate}
 use Rattle.depot.proofs.Changes.{entries_of-set}
 use Rattle.depot.proofs.Naming.{names-length, same_name, other_name, is_in, listed_at}
@@ -179,11 +179,6 @@ store_taken old self places now distinct distinct' len m empty none_left is q =
 pub record AreMovedBelow (old new : List Text) (places : List ℕ) (n : ℕ) : Type 0 where
   pub len : length places ≡ n
   pub each : (k : ℕ) → k < n → IsMoved new (get_or old k []) (get_or places k 0)
-
-pub name_there : (qs : List DeclaredQueue) (i : ℕ) (q : DeclaredQueue) → i < length qs → q ≡ get_or qs i q → get_or (queue_names qs) i [] ≡ q.name
-name_there [] i q lt is = absurd (omega arith)
-name_there (x ∷ qs) zero q lt is = ap (λ (z : DeclaredQueue). z.name) (sym is)
-name_there (x ∷ qs) (suc i) q lt is = name_there qs i q (omega arith) is
 
 -- the next name gets its place
 pub one_moved : (old new : List Text) (places now : List ℕ) (n m place : ℕ) (q : Text) → m ≡ n + 1 → get_or old n [] ≡ q → now ≡ places ++ place ∷ [] → IsMoved new q place → AreMovedBelow old new places n

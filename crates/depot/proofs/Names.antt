@@ -7,7 +7,7 @@ pub use Rattle.depot.specs.Purging.{IsPurgedBy}
 pub use Rattle.depot.specs.Settled.{AreOf, AreSettledBy, IsHeldOnce, departure_in, left_at, returned_at, store_of}
 pub use Rattle.depot.specs.Signs.{AreSignedBut, ReturnsNext, ready_bit, ready_places}
 pub use Rattle.depot.specs.Store.{IsNextReady, IsStoreWhole, Store, entries_named, entries_of, queue_at, with_entries_at}
-pub use Rattle.depot.specs.Turns.{AreEmptied, Enters, GainsNone, IsPlan, IsRoomy, LinesHaveRoom, MakesAtMost, MakesRoom, TurnOutcome, all_entered, arriving, entered_one, is_full_at, is_refusal, no_line, no_turns, notes_of_outcomes, outcome, outcome_at, outcome_of, outcomes, places, room_at, times, turn_at}
+pub use Rattle.depot.specs.Turns.{AreEmptied, Enters, GainsNone, IsPlan, IsRoomy, LinesHaveRoom, MakesRoom, TurnOutcome, all_entered, arriving, entered_one, is_full_at, is_refusal, no_line, no_turns, notes_of_outcomes, outcome, outcome_at, outcome_of, outcomes, places, room_at, times, turn_at}
 pub use Rattle.depot.specs.Tallies.{AreTallied, CountsTurn, DecidesTurn, arrivals_at, is_limited, taken_if, tally_at, tally_of}
 pub use Rattle.depot.specs.declared.arrivals.Arrival.{Arrival}
 pub use Rattle.depot.specs.declared.tallies.Tally.{Tally}

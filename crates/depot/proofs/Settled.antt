@@ -1,5 +1,5 @@
 -- What is done by the places of queues settles deliveries in the queues of their names.
-use Rattle.depot.proofs.Names.{◌≡◌, ℕ, zero, suc, ◌+◌, ◌<◌, List, [], ◌∷◌, ◌++◌, Bool, true, false, cond, refl, sym, ap, subst, ◌∙◌, map, filter, length, get_or, drop, arith, append_assoc, bytes_eq, append-nil, length-set, Text, Topology, queue_names, IsWellFormed, is_under, is_held_as, freed, without_first, Leaves, Returns, left_note, Entry, Acked, Note, queue_name, Delivery, is_waiting, waiting, holder_of_delivery, outstanding_in, AreWithin, Store, entries_named, IsStoreWhole, given_at, AreSettledBy, store_of, left_at, returned_at, departure_in, AreOf}
+use Rattle.depot.proofs.Names.{◌≡◌, ℕ, suc, ◌+◌, ◌<◌, List, [], ◌∷◌, ◌++◌, Bool, true, false, cond, refl, sym, ap, subst, ◌∙◌, map, filter, length, get_or, drop, arith, append_assoc, bytes_eq, append-nil, length-set, Text, Topology, queue_names, IsWellFormed, is_under, is_held_as, freed, without_first, Leaves, Returns, left_note, Entry, Acked, Note, queue_name, Delivery, is_waiting, waiting, holder_of_delivery, outstanding_in, AreWithin, Store, entries_named, IsStoreWhole, given_at, AreSettledBy, store_of, left_at, returned_at, departure_in}
 use Rattle.std.proofs.Common.{not}
 use Rattle.std.specs.Prelude.{find, if◌then◌else◌}
 use Rattle.model.specs.Deliveries as given
@@ -178,13 +178,3 @@ returned_next t n c h gone i d old new last formed len lt within changes stays r
     go false w =
         subst (λ (ds : List Delivery). AreSettledBy Returns (store_of t old n) c h ds [] [] last) (sym (next_waiting gone i d false lt w))
         (subst (λ (ls : List (List Entry)). AreSettledBy Returns (store_of t ls n) c h (waiting (drop (i + 1) gone)) [] [] last) (stays w) rest)
-
--- one that waits was given out from one of `count` queues, if all that wait were
-pub of_next : (first count : ℕ) (gone : List Delivery) (i : ℕ) (d : Delivery) → AreOf first (waiting gone) → count ≡ first → i < length gone → is_waiting (get_or gone i d) ≡ true → (get_or gone i d).queue < count
-of_next first count [] i d within same lt w = absurd (omega arith)
-of_next first count (x ∷ xs) zero d within same lt w = let at = subst (λ (ys : List Delivery). AreOf first ys) (ap (λ (b : Bool). cond b (x ∷ waiting xs) (waiting xs)) w) within zero d (omega arith) in omega (arith, at, same)
-of_next first count (x ∷ xs) (suc i) d within same lt w = of_next first count xs i d (rest (is_waiting x) within) same (omega arith) w
-  where
-    rest : (b : Bool) → AreOf first (cond b (x ∷ waiting xs) (waiting xs)) → AreOf first (waiting xs)
-    rest true all = λ k e l. all (suc k) e (omega arith)
-    rest false all = all

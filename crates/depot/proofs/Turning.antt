@@ -1,18 +1,6 @@
 -- Turns, one after another, and the room for them.
-use Rattle.depot.proofs.Names.{◌≡◌, ℕ, zero, suc, ◌+◌, ◌<◌, ◌≤◌, List, [], ◌∷◌, Bool, true, false, cond, length, get_or, set, refl, sym, ap, ◌∙◌, arith, All, AllPairs, inl, inr, ◌⊎◌, ◌||◌, Option, Some, None, eqb-true, ne_eqb, eqb_tells, get_or-set_other, Message, Line, PlannedTurn, places, arriving, room_at, no_line, times, LinesHaveRoom, IsRoomy}
+use Rattle.depot.proofs.Names.{◌≡◌, ℕ, suc, ◌+◌, ◌<◌, ◌≤◌, List, [], ◌∷◌, Bool, true, false, cond, length, get_or, refl, sym, ap, arith, All, AllPairs, inl, inr, ◌⊎◌, ◌||◌, Option, Some, None, eqb-true, ne_eqb, eqb_tells, Message, Line, arriving, room_at, times, LinesHaveRoom, IsRoomy}
 use Rattle.std.specs.Prelude.{◌==◌}
-
-pub place_is : (ts : List PlannedTurn) (i : ℕ) (t : PlannedTurn) → i < length ts → t ≡ get_or ts i t → get_or (places ts) i 0 ≡ t.place
-place_is ts i t lt is = at ts i t lt ∙ ap (λ (s : PlannedTurn). s.place) (sym is)
-  where
-    at : (xs : List PlannedTurn) (j : ℕ) (d : PlannedTurn) → j < length xs → get_or (places xs) j 0 ≡ (get_or xs j d).place
-    at [] j d h = absurd (omega arith)
-    at (x ∷ xs) zero d h = refl
-    at (x ∷ xs) (suc j) d h = at xs j d (omega arith)
-
-pub places-length : (ts : List PlannedTurn) → length (places ts) ≡ length ts
-places-length [] = refl
-places-length (t ∷ ts) = ap suc (places-length ts)
 
 pub within_rest : (n : ℕ) (i : ℕ) (is : List ℕ) → All (λ (j : ℕ). j < n) (i ∷ is) → All (λ (j : ℕ). j < n) is
 within_rest n i is h = λ k d lt. h (suc k) d (omega arith)
@@ -29,31 +17,6 @@ or_assoc false b c = refl
 pub few_arrive : (o : Option Message) → length (arriving o) ≤ 1
 few_arrive None = omega arith
 few_arrive (Some m) = omega arith
-
-written : (lines : List Line) (i : ℕ) (l d : Line) (n : ℕ) → (get_or lines i d).room ≤ l.room + n → (get_or lines i no_line).room ≤ (get_or (set lines i l) i no_line).room + n
-written [] i l d n h = omega arith
-written (x ∷ xs) zero l d n h = h
-written (x ∷ xs) (suc i) l d n h = written xs i l d n h
-
--- a queue is written whose capacity is smaller by at most this
-pub room_write : (lines : List Line) (i k : ℕ) (l d : Line) (n : ℕ) → (get_or lines i d).room ≤ l.room + n → (get_or lines k no_line).room ≤ (get_or (set lines i l) k no_line).room + cond (k == i) n 0
-room_write lines i k l d n h = elim (eqb_tells k i) [
-  | inl e ↦
-      (let all = ap (λ (b : Bool). cond b n 0) e.0 in
-      let was = ap (λ (m : ℕ). (get_or lines m no_line).room) e.1 in
-      let now = ap (λ (m : ℕ). (get_or (set lines i l) m no_line).room) e.1 in
-      let here = written lines i l d n h in
-      omega (arith, all, was, now, here))
-  | inr e ↦ (let same = ap (λ (x : Line). x.room) (get_or-set_other lines i k l no_line e.1) in omega (arith, same))
-]
-
-none_if : (b : Bool) → cond {A = ℕ} b 0 0 ≡ 0
-none_if true = refl
-none_if false = refl
-
--- .. or no less
-pub room_kept : (lines : List Line) (i k : ℕ) (l d : Line) → (get_or lines i d).room ≤ l.room → (get_or lines k no_line).room ≤ (get_or (set lines i l) k no_line).room
-room_kept lines i k l d h = let le = room_write lines i k l d 0 (omega (arith, h)) in let none = none_if (k == i) in omega (arith, le, none)
 
 -- 1 for yes, 0 for no
 abbrev one_if : Bool → ℕ

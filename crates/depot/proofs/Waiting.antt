@@ -1,5 +1,5 @@
 -- Between what is settled are the places of what was settled before: a loop passes them.
-use Rattle.depot.proofs.Names.{◌≡◌, ℕ, zero, suc, ◌+◌, ◌<◌, List, [], ◌∷◌, ◌++◌, Bool, true, false, cond, sym, ap, subst, ◌∙◌, length, get_or, take, drop, arith, drop_more, take_more, Topology, is_waiting, waiting, AreWithin, Delivery}
+use Rattle.depot.proofs.Names.{◌≡◌, ℕ, zero, suc, ◌+◌, ◌<◌, List, [], ◌∷◌, ◌++◌, Bool, true, false, cond, ap, subst, ◌∙◌, length, get_or, take, drop, arith, drop_more, take_more, is_waiting, waiting, AreOf, Delivery}
 use Rattle.std.proofs.lemmas.List.Elements.{filter-append}
 use Rattle.model.specs.declared.messages.Taker.TheVariants as taker
 
@@ -19,15 +19,12 @@ waiting_more gone i d b lt w =
     ap waiting (take_more gone i d lt) ∙ filter-append is_waiting (take i gone) (get_or gone i d ∷ [])
     ∙ ap (λ (t : Bool). waiting (take i gone) ++ cond t (get_or gone i d ∷ []) []) w
 
--- one that waits is among those that do
-pub at_waiting : (t : Topology) (gone : List Delivery) (i : ℕ) (d : Delivery) → AreWithin t (waiting gone) → i < length gone → is_waiting (get_or gone i d) ≡ true → (get_or gone i d).queue < length t.queues
-at_waiting t [] i d within lt w = absurd (omega arith)
-at_waiting t (x ∷ xs) zero d within lt w = subst (λ (ys : List Delivery). AreWithin t ys) (ap (λ (b : Bool). cond b (x ∷ waiting xs) (waiting xs)) w) within zero d (omega arith)
-at_waiting t (x ∷ xs) (suc i) d within lt w = at_waiting t xs i d (rest (is_waiting x) within) (omega arith) w
+-- one that waits was given out from one of `count` queues, if all that wait were
+pub of_next : (first count : ℕ) (gone : List Delivery) (i : ℕ) (d : Delivery) → AreOf first (waiting gone) → count ≡ first → i < length gone → is_waiting (get_or gone i d) ≡ true → (get_or gone i d).queue < count
+of_next first count [] i d within same lt w = absurd (omega arith)
+of_next first count (x ∷ xs) zero d within same lt w = let at = subst (λ (ys : List Delivery). AreOf first ys) (ap (λ (b : Bool). cond b (x ∷ waiting xs) (waiting xs)) w) within zero d (omega arith) in omega (arith, at, same)
+of_next first count (x ∷ xs) (suc i) d within same lt w = of_next first count xs i d (rest (is_waiting x) within) same (omega arith) w
   where
-    rest : (b : Bool) → AreWithin t (cond b (x ∷ waiting xs) (waiting xs)) → AreWithin t (waiting xs)
+    rest : (b : Bool) → AreOf first (cond b (x ∷ waiting xs) (waiting xs)) → AreOf first (waiting xs)
     rest true all = λ k e l. all (suc k) e (omega arith)
     rest false all = all
-
-pub within_next : (first t : Topology) (gone : List Delivery) (i : ℕ) (d : Delivery) → AreWithin first (waiting gone) → t ≡ first → i < length gone → is_waiting (get_or gone i d) ≡ true → (get_or gone i d).queue < length t.queues
-within_next first t gone i d within same lt w = subst (λ (u : Topology). (get_or gone i d).queue < length u.queues) (sym same) (at_waiting first gone i d within lt w)

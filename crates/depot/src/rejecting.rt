@@ -8,7 +8,7 @@ ghost use Rattle.depot.specs.Store.{entries_of};
 ghost use Rattle.depot.specs.Settled.{AreOf, left_at};
 ghost use Rattle.depot.specs.Turns.{room_at, times, IsRoomy, GainsNone, MakesAtMost};
 ghost use Rattle.depot.specs.Dying.{arriving_at, arrived, all_left, so_far, EnterBelow, Extends, IsLetterAt, IsForeseen, Rejects};
-ghost use Rattle.depot.specs.Dying.{Foresees, ForeseesLetters, ForeseesGiven, ForeseesWaiting};
+ghost use Rattle.depot.specs.Dying.{Foresees, ForeseesLetters, ForeseesWaiting};
 
 use crate::arrivals::Arrival;
 use crate::markers::Marker;
@@ -158,43 +158,8 @@ fn plan_letter(
     )
 }
 
-/// Plans the death of the delivery's message, if it is still held.
+/// Plans the death of the message of `given`, if this delivery is unacknowledged and the message is still held.
 fn plan_one(
-    alloc: Global,
-    router: &mut Router,
-    queues: &Queues,
-    id: ChannelId,
-    given: &Delivery,
-    plan: &mut Plan,
-    notes: &mut Notes,
-) -> Result<(), AllocError>
-    // What the caller knows: the queues are the topology's, and the delivery is from one of them.
-    requires len { length queues.now ≡ length router.old.queues }
-    requires within { given.now.queue < length router.old.queues }
-    ensures ok { OnOk result (ForeseesGiven router.old id given.now (entries_of queues.now)
-        (so_far plan.old notes.old) (so_far plan.new notes.new)) }
-    // Also after a failure: planned letters still enter queues that exist, notes are only appended, and the topology is unchanged.
-    ensures within { EnterBelow (length queues.now) plan.old.arrivals.items → EnterBelow (length queues.now) plan.new.arrivals.items }
-    ensures notes { Extends notes.old.items notes.new.items }
-    ensures same { router.new ≡ router.old }
-{
-    let place = given.queue;
-    let holder = given.holder(id);
-    let Some(entry) = queues.queue(place).held(&holder, given.arrival) else {
-        return Ok(());
-    };
-    let queue = router.topology().queue(place).name.clone()?;
-    notes.reserve(1)?;
-    notes.push_reserved(Note::Left {
-        number: entry.message.number(),
-        queue,
-        cause: Cause::Rejected,
-    });
-    plan_letter(alloc, router, queues, place, &entry.message, plan, notes)
-}
-
-/// Plans the death of the message of `given`, as [`plan_one`] does, if this delivery is unacknowledged.
-fn plan_waiting(
     alloc: Global,
     router: &mut Router,
     queues: &Queues,
@@ -215,11 +180,22 @@ fn plan_waiting(
     ensures notes { Extends notes.old.items notes.new.items }
     ensures same { router.new ≡ router.old }
 {
-    if given.is_waiting() {
-        plan_one(alloc, router, queues, id, given, plan, notes)
-    } else {
-        Ok(())
+    if !given.is_waiting() {
+        return Ok(());
     }
+    let place = given.queue;
+    let holder = given.holder(id);
+    let Some(entry) = queues.queue(place).held(&holder, given.arrival) else {
+        return Ok(());
+    };
+    let queue = router.topology().queue(place).name.clone()?;
+    notes.reserve(1)?;
+    notes.push_reserved(Note::Left {
+        number: entry.message.number(),
+        queue,
+        cause: Cause::Rejected,
+    });
+    plan_letter(alloc, router, queues, place, &entry.message, plan, notes)
 }
 
 /// Plans the deaths of all messages of `gone` that wait and are still held. Returns the dead letters that enter queues. Appends all notes; if
@@ -245,7 +221,7 @@ fn plan_all(
 {
     let mut plan = Plan::new(alloc);
     for given in gone {
-        plan_waiting(alloc, router, queues, id, given, &mut plan, notes)?;
+        plan_one(alloc, router, queues, id, given, &mut plan, notes)?;
     }
     let Plan { arrivals, .. } = plan;
     Ok(arrivals)

@@ -16,7 +16,7 @@ pub use Rattle.engine.specs.Pumping.{ConnectionPumped, ConnectionsNotPumped, Con
 pub use Rattle.engine.specs.Reading.{ComesNext, HasCommand, HasMore, IsEventMade, IsKeptEvent, kept_for, kept_of, to_read}
 pub use Rattle.engine.specs.Turning.{ConnectionDid, ConnectionSame, ConnectionStays, ConnectionTook, ConnectionWaits, DidEvent, DidNext, MayTurn, OnIdle, Performed, has_performed}
 pub use Rattle.engine.specs.Waiting.{KeepsPicked, KeepsTurns, PerformsNext, ServesOne, PicksNobody, PicksOne, TurnLeaves}
-pub use Rattle.engine.specs.Wanting.{brings_message, engine_lacks}
+pub use Rattle.engine.specs.Allocating.{brings_message, MayAllocate, ReloadMayAllocate, puts, judges}
 pub use Rattle.engine.specs.World.{AreConnections, AreRising, IsConnection, IsEngine, IsNew, Parts, config_of, connection_in, is_connection_gone, session_of, state_of, wire_in, wire_of, world_of}
 pub use Rattle.engine.specs.declared.connection.Connection.{Connection}
 pub use Rattle.engine.specs.declared.turning.Turn.{Turn}
@@ -49,7 +49,6 @@ pub use Rattle.model.specs.declared.notes.Note.{Note}
 pub use Rattle.model.specs.declared.obstacles.Obstacle.{Obstacle}
 pub use Rattle.outputs.specs.Waiting.{HoldsNone, WaitingBytes}
 pub use Rattle.reloading.specs.Obstacles.{Judges}
-pub use Rattle.reloading.specs.Wanting.{MayWant, none_gone}
 pub use Rattle.runs.proofs.Worlds.{waits_not, world_same}
 pub use Rattle.runs.specs.Opened.{Hears, Idles, IsLost, IsOpened, OpensNew, OpensReady, TakesAway, runs}
 pub use Rattle.runs.specs.Reloaded.{IsMemory, IsPutInForce, ReportsReload, wanting}

@@ -1,5 +1,5 @@
 -- What is put in force leaves an engine one.
-use Rattle.engine.proofs.Names.{◌≡◌, ◌∙◌, ℕ, List, Option, Some, None, refl, sym, ap, subst, OnErr, Config, World, Same, IsSound, Guarantee, AllHold, Topology, IsWellFormed, User, Is, Obstacle, stay_consistent, worlds_named, IsPutInForce, IsMemory, wanting, none_gone, To_reload, engine_lacks, WithTurn, in_force, Parts, connection_in, session_of, wire_of, config_of, world_of, AreConnections, IsEngine, Connection}
+use Rattle.engine.proofs.Names.{◌≡◌, ◌∙◌, ℕ, List, Some, None, refl, sym, ap, subst, OnErr, Config, World, Same, IsSound, Guarantee, AllHold, Topology, IsWellFormed, User, Is, Obstacle, stay_consistent, worlds_named, IsPutInForce, IsMemory, wanting, puts, To_reload, MayAllocate, WithTurn, in_force, Parts, connection_in, session_of, wire_of, config_of, world_of, AreConnections, IsEngine, Connection}
 use Rattle.std.proofs.Common.{Result, Ok, Err}
 use Rattle.model.specs.Reloading.{with_all_survived}
 use Rattle.runs.specs.Reloaded.{NothingHinders}
@@ -56,6 +56,11 @@ pub offered_sound : (checked : Admitted) (users : List User) (t : Topology) (gs 
 offered_sound checked users t gs te ge hold wf =
     subst IsSound (λ i. record { topology = te i; guarantees = ge i; users = users }) (record { wf = wf; hold = hold })
 
+-- without an obstacle to a setup there is none to its parts
+pub unhindered : {old now : Parts} {setup offered : Config} → old ≡ now → setup ≡ offered → NothingHinders (world_of now) setup → NothingHinders (world_of old) offered
+unhindered {old = old} {setup = setup} is given nothing =
+    subst (λ (s : Config). NothingHinders (world_of old) s) given (subst (λ (p : Parts). NothingHinders (world_of p) setup) (sym is) nothing)
+
 -- a setup is put in force by its parts
 pub takes : (old : Parts) (b : WithTurn) (checked : Admitted) (users : List User) (t : Topology) (gs : List Guarantee) → t ≡ checked.topology → gs ≡ checked.guarantees
     → NothingHinders (world_of old) (in_force checked users) → topology_kept b ≡ t → Is (with_all_survived (broker_of old.broker)) (broker_of b)
@@ -73,9 +78,9 @@ kept_same (Ok x) old new kept = tt
 kept_same (Err e) old new kept = same_engine old new kept
 
 -- without an obstacle an allocation may fail
-pub may_lack : {E : Type 0} (r : Result Unit E) (w : World) (offered : Config) → NothingHinders w offered → OnErr r (engine_lacks w (To_reload offered))
-may_lack (Ok x) w offered nothing = tt
-may_lack (Err e) w offered nothing = none_gone nothing.none_stranded
+pub may_allocate : {E : Type 0} (r : Result Unit E) (w : World) (offered : Config) → NothingHinders w offered → OnErr r (MayAllocate w (To_reload offered))
+may_allocate (Ok x) w offered nothing = tt
+may_allocate (Err e) w offered nothing = puts nothing
 
 -- what reports an obstacle is no allocation failure
 pub told_is_no_memory : {f : ReloadFault} {o : Obstacle} → obstacle_in f ≡ Some o → IsMemory (Err f) → ⊥

@@ -1,5 +1,5 @@
 -- What is read next of one connection, and one turn of it.
-use Rattle.engine.proofs.Names.{◌≡◌, ◌<◌, ◌≤◌, ◌+◌, ◌++◌, inl, inr, ℕ, List, true, false, Option, Some, None, length, refl, sym, ap, subst, ◌∙◌, arith, AllByRecursion, is_some, IfOk, OnErr, IfSome, IsSome, false≢true, Broker, Topology, receiver, spelling, IsSpelled, Session, Move, Stream, Yields, Ends, GoesOn, IsCommand, stays, Reads, again, fresh, fault, SameToCome, still, waits, kept, IsSaid, event_of, is_ended, is_past_bound, Phase, Command, Head, Plain, TooLarge, Send, Event, Note, stream_of, HasFront, ends_front, yields_front, kept_of, kept_for, IsEventMade, IsKeptEvent, HasMore, HasCommand, ComesNext, to_read, Rules, DecidesByPhase, IsAskedBy, PausesOr, WithTurn, Performed, DidEvent, DidNext, ConnectionStays, ConnectionTook, ConnectionWaits, OnIdle, HoldsNone, WaitingBytes, Connection, Turn}
+use Rattle.engine.proofs.Names.{◌≡◌, ◌<◌, ◌≤◌, ◌+◌, ◌++◌, inl, inr, ℕ, List, true, false, Option, Some, None, length, refl, sym, ap, subst, ◌∙◌, arith, AllByRecursion, is_some, IfOk, OnErr, IfSome, IsSome, false≢true, Broker, Topology, receiver, spelling, IsSpelled, Session, Move, Stream, Yields, Ends, GoesOn, IsCommand, stays, Reads, again, fresh, fault, SameToCome, still, waits, kept, IsSaid, event_of, is_ended, is_past_bound, Phase, Command, Head, Plain, TooLarge, Send, Event, Note, stream_of, HasFront, ends_front, yields_front, kept_of, kept_for, IsEventMade, IsKeptEvent, HasMore, HasCommand, ComesNext, to_read, Rules, DecidesByPhase, IsAskedBy, PausesOr, WithTurn, Performed, DidEvent, DidNext, ConnectionStays, ConnectionTook, ConnectionWaits, OnIdle, HoldsNone, Connection, Turn}
 use Rattle.std.specs.Prelude.{Result, Ok, Err}
 use Rattle.model.specs.declared.events.Phase.TheVariants as phase
 use Rattle.model.specs.declared.events.Command.TheVariants.{Full}
@@ -196,11 +196,6 @@ next_read c k s e broke new (inr h) = (
   s,
   subst (λ (x : Event). Reads c (kept_of k) s x s) (sym h.is) (subst (λ (o : Option Event). Reads c (kept_of o) s (event.Fault c h.code) s) (sym h.none_kept) (fault h.ends)),
 )
-
--- it stays where memory was refused
-pub stays_refused : (l : Connection) (s : Session) (k : Option Event) (o : WaitingBytes) → s ≡ l.session → k ≡ kept_for l.kept → o.bytes ≡ l.output.bytes → HoldsNone o
-    → ConnectionStays l (record l { session = s; kept = k; output = o })
-stays_refused l s k o session left bytes none = record { rest = λ i. record { number = l.number; session = session i; stream = l.stream; kept = left i; output = o; allowance = l.allowance }; bytes = bytes; none = none }
 
 -- ---- what is read was there
 

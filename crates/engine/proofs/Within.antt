@@ -19,7 +19,7 @@ use Rattle.laws.proofs.Sizes.{method_length}
 use Rattle.laws.proofs.View.{goes}
 use Rattle.outputs.specs.declared.room.Room.{Room}
 use Rattle.outputs.specs.declared.room.Room.TheVariants as room
-use Rattle.engine.specs.Wanting.{room_wanted, AreWithin}
+use Rattle.engine.specs.Allocating.{room_wanted, AreWithin}
 use Rattle.engine.proofs.Lifted.{decided_steps}
 
 -- ---- one send without a content

@@ -1,7 +1,7 @@
 //! Performs one event of one connection.
 
-ghost use Rattle.std.specs.Prelude.{◌≡◌, ◌<◌, ℕ, [], true, false, IfOk, OnErr, OnOk};
-ghost use Rattle.model.specs.Step.{Acts, Is};
+ghost use Rattle.std.specs.Prelude.{◌≡◌, ◌<◌, true, false, IfOk, OnErr, OnOk};
+ghost use Rattle.model.specs.Step.{Is};
 ghost use Rattle.model.specs.Phases.{is_running};
 ghost use Rattle.model.specs.State.{after_move};
 ghost use Rattle.model.specs.Arrivals.{IsSaid};
@@ -9,7 +9,7 @@ ghost use Rattle.model.specs.Sending.{AreCarried, AreOwn};
 ghost use Rattle.broker.specs.Turns.{topology_kept, broker_of};
 ghost use Rattle.broker.specs.Waiting.{NobodyIsPutBack, NoneIsLater};
 ghost use Rattle.engine.specs.Performing.{IsAskedBy, session_after, AnswersByPhase, IsAnswerTo, PausesOr, PerformsByPhase};
-ghost use Rattle.engine.specs.Wanting.{brings_message as brings, AreWithin, room_wanted};
+ghost use Rattle.engine.specs.Allocating.{brings_message as brings, AreWithin, room_wanted};
 ghost use Rattle.outputs.specs.Storages.{IsReleased, IsWhole};
 
 use crate::reserve::{self, hold_for};

@@ -16,7 +16,7 @@ ghost use Rattle.commands.specs.Judged.{IsAsked};
 ghost use Rattle.commands.specs.Picked.{IsPick, DeliversTo};
 ghost use Rattle.commands.specs.Steps.{AddressesOwn};
 ghost use Rattle.engine.specs.Performing.{AnswersByPhase, IsAskedBy};
-ghost use Rattle.engine.specs.Wanting.{brings_message as brings, allowance_after as allowed, room_wanted as wants, KeepsLarge};
+ghost use Rattle.engine.specs.Allocating.{brings_message as brings, allowance_after as allowed, room_wanted as wants, KeepsLarge};
 ghost use Rattle.outputs.specs.Storages.{IsReleased, IsWhole, room_of, spare_for};
 ghost use Rattle.outputs.specs.declared.room.Room.TheVariants as room;
 

@@ -12,7 +12,7 @@ ghost use Rattle.assembly.specs.Held.{stream_of};
 ghost use Rattle.engine.specs.Reading.{IsKeptEvent, HasMore, kept_of};
 ghost use Rattle.engine.specs.Performing.{IsAskedBy, PausesOr, rules_in};
 ghost use Rattle.engine.specs.Turning.{has_performed as performs, Performed, DidNext, ConnectionStays, ConnectionWaits, MayTurn, OnIdle, TakesTurn};
-ghost use Rattle.engine.specs.Wanting.{brings_message as brings, allowance_after, KeepsLarge, KeepsLargeFor};
+ghost use Rattle.engine.specs.Allocating.{brings_message as brings, allowance_after, KeepsLarge, KeepsLargeFor};
 ghost use Rattle.outputs.specs.Storages.{AreAtMost, IsWhole, room_of, spare_for};
 ghost use Rattle.engine.specs.World.{wire_in};
 ghost use Rattle.engine.specs.Waiting.{TurnLeaves};

@@ -1,7 +1,8 @@
 //! Computes encoded lengths and flags, and finds out whether properties can be encoded.
 
-ghost use Rattle.std.specs.Prelude.{◌≡◌, ◌+◌, ◌<◌, ◌≤◌, ◌^◌, length, is_some, MatchOption, IfSome};
+ghost use Rattle.std.specs.Prelude.{◌≡◌, ◌+◌, ◌<◌, ◌≤◌, ◌^◌, length, is_some, IfSome};
 ghost use Rattle.model.specs.Headers.{text_of, table_of, octet_of, time_of, value_of, IsValue};
+ghost use Rattle.field_table.specs.Writing.{GivesLength};
 ghost use Rattle.headers.specs.Writing;
 ghost use Rattle.headers.specs.Writing.{front_of, back_of, values, AreValues};
 
@@ -10,7 +11,7 @@ use model::{Fields, Table, Text};
 
 /// Returns the encoded length in bytes of the first seven properties (content-type to reply-to), or `None` if they can't be encoded.
 pub(crate) fn front_len(p: &Fields) -> Option<usize>
-    ensures cases { MatchOption result (AreValues (front_of p.now) → ⊥) (λ n. AreValues (front_of p.now) × (n ≡ length (values (front_of p.now)))) }
+    ensures cases { GivesLength (AreValues (front_of p.now)) (values (front_of p.now)) result }
     ensures bound { IfSome result (λ n. n < 2 ^ 34) }
 {
     let content_type = text_len(&p.content_type)?;
@@ -24,7 +25,7 @@ pub(crate) fn front_len(p: &Fields) -> Option<usize>
 
 /// Returns the encoded length in bytes of the last seven properties (expiration to the reserved one), or `None` if they can't be encoded.
 pub(crate) fn back_len(p: &Fields) -> Option<usize>
-    ensures cases { MatchOption result (AreValues (back_of p.now) → ⊥) (λ n. AreValues (back_of p.now) × (n ≡ length (values (back_of p.now)))) }
+    ensures cases { GivesLength (AreValues (back_of p.now)) (values (back_of p.now)) result }
     ensures bound { IfSome result (λ n. n < 2 ^ 12) }
 {
     let expiration = text_len(&p.expiration)?;
@@ -38,7 +39,7 @@ pub(crate) fn back_len(p: &Fields) -> Option<usize>
 }
 
 fn text_len(text: &Option<Text>) -> Option<usize>
-    ensures cases { MatchOption result (IsValue (text_of text.now) → ⊥) (λ n. IsValue (text_of text.now) × (n ≡ length (value_of (text_of text.now)))) }
+    ensures cases { GivesLength (IsValue (text_of text.now)) (value_of (text_of text.now)) result }
     ensures bound { IfSome result (λ n. n ≤ 256) }
 {
     match text {
@@ -54,7 +55,7 @@ fn text_len(text: &Option<Text>) -> Option<usize>
 }
 
 fn table_len(table: &Option<Table>) -> Option<usize>
-    ensures cases { MatchOption result (IsValue (table_of table.now) → ⊥) (λ n. IsValue (table_of table.now) × (n ≡ length (value_of (table_of table.now)))) }
+    ensures cases { GivesLength (IsValue (table_of table.now)) (value_of (table_of table.now)) result }
     ensures bound { IfSome result (λ n. n < 2 ^ 33) }
 {
     match table {

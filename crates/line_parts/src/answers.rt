@@ -1,6 +1,6 @@
 //! The answer to a line: a text that is written piece by piece, or why there is none. Start with [`LineAnswer`].
 
-ghost use Rattle.std.specs.Prelude.{◌≡◌, [], length, codes, decimal, Some, None, string_bytes, if◌then◌else◌};
+ghost use Rattle.std.specs.Prelude.{◌≡◌, [], length, codes, decimal, MatchResult, Some, None, string_bytes, if◌then◌else◌};
 ghost use Rattle.hex.specs.Hex.{encode_lower};
 ghost use Rattle.line_parts.specs.Answers.{PutsPiece, failed};
 
@@ -60,6 +60,27 @@ impl LineAnswer {
     {
         if self.lack.is_none() {
             self.lack = Some(why);
+        }
+    }
+
+    /// Returns the value of `outcome`, or records `why` there is no answer.
+    pub fn value_of<T, E: Drop>(&mut self, outcome: Result<T, E>, why: Unanswered) -> Option<T>
+        ensures value { MatchResult outcome (λ value. result ≡ Some value) (λ _. result ≡ None) }
+        ensures lack { MatchResult outcome (λ _. self.new ≡ self.old) (λ _. self.new ≡ failed why self.old) }
+    {
+        match outcome {
+            Ok(value) => Some(value),
+            Err(_) => {
+                self.fail(why);
+                None
+            }
+        }
+    }
+
+    /// Appends `item` to `list`, or records that an allocation failed.
+    pub fn push<T: Drop>(&mut self, list: &mut Vec<T>, item: T) {
+        if list.push(item).is_err() {
+            self.fail(Unanswered::Memory);
         }
     }
 

@@ -4,7 +4,9 @@
 //! the number in place of TEXT's first `%`, if it has one.
 
 use crate::answers::{LineAnswer, Unanswered};
+use crate::hex_words::bytes_of;
 use crate::words::{cut, number_of};
+use definitions::FileCause;
 use std::fs;
 
 /// Appends `text`, with `number` in place of its first `%`, if it has one.
@@ -103,7 +105,7 @@ fn edited(out: &mut LineAnswer, text: String, edits: &str) -> String {
 
 /// Reads the file that `FILE | OLD => NEW | OLD => NEW` names, and edits it. Fails with [`Unanswered::File`] if it can't be read,
 /// or doesn't contain an edit's OLD.
-pub fn source_of(out: &mut LineAnswer, rt: &HostRuntime, asked: &str) -> String {
+fn source_of(out: &mut LineAnswer, rt: &HostRuntime, asked: &str) -> String {
     match asked.split_once(" | ") {
         None => file_of(out, rt, asked),
         Some((name, edits)) => {
@@ -125,11 +127,29 @@ fn edit_last(out: &mut LineAnswer, texts: &mut [String], edit: &str) {
     out.fail(Unanswered::File);
 }
 
-/// Reads the file `name`, and appends it to `files`.
-fn put_file(out: &mut LineAnswer, rt: &HostRuntime, files: &mut Vec<String>, name: &str) {
-    let file = file_of(out, rt, name);
-    if files.push(file).is_err() {
-        out.fail(Unanswered::Memory);
+/// Returns the bytes that a line of kind `kind` is about: those that it writes in hex if the kind ends in `-hex`, otherwise those of its file.
+pub fn text_of_kind(out: &mut LineAnswer, rt: &HostRuntime, kind: &str, asked: &str) -> Vec<u8> {
+    if kind.ends_with("-hex") {
+        bytes_of(out, asked)
+    } else {
+        source_of(out, rt, asked).into_bytes()
+    }
+}
+
+/// Appends why a file is refused.
+pub fn put_refused(out: &mut LineAnswer, cause: FileCause) {
+    out.put("refused ");
+    out.put_number(u64::from(cause.number()));
+}
+
+/// Appends the number of entries that were read of a file, or why it is refused.
+pub fn put_read(out: &mut LineAnswer, read: Result<usize, FileCause>) {
+    match read {
+        Ok(entries) => {
+            out.put("read ");
+            out.put_number(entries as u64);
+        }
+        Err(cause) => put_refused(out, cause),
     }
 }
 
@@ -142,19 +162,15 @@ pub fn sources_of(
 ) -> Vec<String> {
     let mut files = Vec::new(out.alloc());
     for name in names {
-        put_file(out, rt, &mut files, name);
+        let file = file_of(out, rt, name);
+        out.push(&mut files, file);
     }
     if let Some(edits) = edits {
-        edit_all(out, files.as_mut_slice(), edits);
+        for edit in edits.split(" | ") {
+            edit_last(out, files.as_mut_slice(), edit);
+        }
     }
     files
-}
-
-/// Applies edits to `texts`, one after another.
-fn edit_all(out: &mut LineAnswer, texts: &mut [String], edits: &str) {
-    for edit in edits.split(" | ") {
-        edit_last(out, texts, edit);
-    }
 }
 
 /// Splits a line into what it names, and its edits if it has some.

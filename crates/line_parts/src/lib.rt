@@ -12,6 +12,6 @@ pub mod stores;
 mod words;
 
 pub use answers::{LineAnswer, Unanswered};
-pub use files::{file_of, named_and_edits, source_of, sources_of};
+pub use files::{file_of, named_and_edits, put_read, put_refused, sources_of, text_of_kind};
 pub use hex_words::bytes_of;
 pub use words::{cut, number_of, words_of};

@@ -4,13 +4,8 @@ use crate::answers::{LineAnswer, Unanswered};
 
 /// Parses a number. Fails with [`Unanswered::Form`] if `word` is none.
 pub fn number_of(out: &mut LineAnswer, word: &str) -> u32 {
-    match word.parse::<u32>() {
-        Ok(number) => number,
-        Err(_) => {
-            out.fail(Unanswered::Form);
-            0
-        }
-    }
+    out.value_of(word.parse::<u32>(), Unanswered::Form)
+        .unwrap_or(0)
 }
 
 /// Splits `text` at its first space. Fails with [`Unanswered::Form`] if it has none.
@@ -41,9 +36,7 @@ fn take_word<'a>(out: &mut LineAnswer, words: &mut Vec<&'a str>, text: &'a str) 
         out.fail(Unanswered::Form);
         return "";
     };
-    if words.push(word).is_err() {
-        out.fail(Unanswered::Memory);
-    }
+    out.push(words, word);
     after
 }
 

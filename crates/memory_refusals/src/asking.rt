@@ -18,9 +18,31 @@ pub struct Setting<'a> {
     pub certificates: &'a str,
 }
 
+/// Makes a call, and makes it once more if its outcome matches `$lack`, since an allocation failed; `$sum` counts that.
+macro_rules! again {
+    ($call:expr, $lack:pat, $sum:expr) => {
+        match $call {
+            $lack => {
+                count(&mut $sum);
+                $call
+            }
+            outcome => outcome,
+        }
+    };
+}
+
 /// Returns the error for a file of the input that is refused.
 fn malformed() -> io::Error {
     io::Error::from(ErrorKind::InvalidData)
+}
+
+/// Returns what was read of a file of the input.
+fn value_of<T>(read: Result<T, FileCause>) -> io::Result<T> {
+    match read {
+        Ok(value) => Ok(value),
+        Err(FileCause::Memory) => Err(io::Error::from(AllocError)),
+        Err(_) => Err(malformed()),
+    }
 }
 
 /// Reads the definitions file.
@@ -30,18 +52,11 @@ fn definitions_of(
     counts: &mut Counts,
 ) -> io::Result<Definitions> {
     let bytes = setting.definitions.as_bytes();
-    let read = match read_definitions(alloc, bytes) {
-        Err(FileCause::Memory) => {
-            count(&mut counts.definitions);
-            read_definitions(alloc, bytes)
-        }
-        read => read,
-    };
-    match read {
-        Ok(definitions) => Ok(definitions),
-        Err(FileCause::Memory) => Err(io::Error::from(AllocError)),
-        Err(_) => Err(malformed()),
-    }
+    value_of(again!(
+        read_definitions(alloc, bytes),
+        Err(FileCause::Memory),
+        counts.definitions
+    ))
 }
 
 /// Reads the guarantees file.
@@ -52,18 +67,11 @@ fn guarantees_of(
     counts: &mut Counts,
 ) -> io::Result<Vec<Guarantee>> {
     let bytes = setting.guarantees.as_bytes();
-    let read = match read_guarantees(alloc, bytes, topology) {
-        Err(FileCause::Memory) => {
-            count(&mut counts.guarantees);
-            read_guarantees(alloc, bytes, topology)
-        }
-        read => read,
-    };
-    match read {
-        Ok(guarantees) => Ok(guarantees),
-        Err(FileCause::Memory) => Err(io::Error::from(AllocError)),
-        Err(_) => Err(malformed()),
-    }
+    value_of(again!(
+        read_guarantees(alloc, bytes, topology),
+        Err(FileCause::Memory),
+        counts.guarantees
+    ))
 }
 
 /// Reads the topology of the definitions file, and the guarantees for it.
@@ -79,11 +87,7 @@ pub fn stated(
 
 /// Reads the certificates file.
 pub fn certificates_of(alloc: Global, setting: Setting<'_>) -> io::Result<Vec<Certificate>> {
-    match Certificate::read(alloc, setting.certificates.as_bytes()) {
-        Ok(certificates) => Ok(certificates),
-        Err(FileCause::Memory) => Err(io::Error::from(AllocError)),
-        Err(_) => Err(malformed()),
-    }
+    value_of(Certificate::read(alloc, setting.certificates.as_bytes()))
 }
 
 /// Checks a certificate. Fails with its first fault.
@@ -94,13 +98,11 @@ pub fn checked(
     certificate: &Certificate,
     counts: &mut Counts,
 ) -> Result<(), CertFault> {
-    match check(alloc, topology, guarantee, certificate) {
-        Err(CertFault::Memory) => {
-            count(&mut counts.checks);
-            check(alloc, topology, guarantee, certificate)
-        }
-        outcome => outcome,
-    }
+    again!(
+        check(alloc, topology, guarantee, certificate),
+        Err(CertFault::Memory),
+        counts.checks
+    )
 }
 
 /// Admits what the files state. Reads them again for a retry, since `admit` takes the topology and the guarantees.
@@ -142,13 +144,7 @@ pub fn searched(
     guarantee: &Guarantee,
     counts: &mut Counts,
 ) -> Result<Verdict, AllocError> {
-    match search(alloc, topology, guarantee) {
-        Err(_) => {
-            count(&mut counts.searches);
-            search(alloc, topology, guarantee)
-        }
-        verdict => verdict,
-    }
+    again!(search(alloc, topology, guarantee), Err(_), counts.searches)
 }
 
 /// Returns whether the refutation disproves the guarantee. A `false` of `disprove` may mean that an allocation failed: then it is

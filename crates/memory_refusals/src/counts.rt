@@ -3,7 +3,7 @@
 use std::io::{self, Write};
 
 /// How often each kind of call was retried because an allocation failed.
-#[derive(Clone, Copy, Drop)]
+#[derive(Clone, Copy, Default, Drop)]
 pub struct Counts {
     pub opens: u64,
     pub feeds: u64,
@@ -23,25 +23,6 @@ pub struct Counts {
 }
 
 impl Counts {
-    /// Returns counts of 0.
-    pub fn new() -> Counts {
-        Counts {
-            opens: 0,
-            feeds: 0,
-            turns: 0,
-            pumps: 0,
-            reloads: 0,
-            definitions: 0,
-            guarantees: 0,
-            checks: 0,
-            admits: 0,
-            searches: 0,
-            disproves: 0,
-            differing: 0,
-            wholes: 0,
-        }
-    }
-
     /// Returns whether every output was the same after each failed call.
     pub fn is_sound(&self) -> bool {
         self.differing == 0

@@ -30,11 +30,11 @@ fn input(rt: &HostRuntime) -> io::Result<String> {
 
 /// Runs the sections. If an allocation fails outside of their calls, runs them all again, which is counted, too.
 fn tried(alloc: Global, input: &str) -> io::Result<(String, Counts)> {
-    let mut counts = Counts::new();
+    let mut counts = Counts::default();
     match answered(alloc, input, &mut counts) {
         Ok(text) => Ok((text, counts)),
         Err(error) if error.kind() == ErrorKind::OutOfMemory => {
-            let mut counts = Counts::new();
+            let mut counts = Counts::default();
             counts.wholes = 1;
             let text = answered(alloc, input, &mut counts)?;
             Ok((text, counts))

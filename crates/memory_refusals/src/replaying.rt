@@ -8,13 +8,28 @@ use crate::sections::{Section, text_of};
 use engine::{Engine, Refused, Turn};
 use model::{Arrival, Note};
 use notes::Notes;
-use runs::{Delivered, ReloadFault};
+use runs::ReloadFault;
 use scripts::{ReloadFiles, put_line};
 use std::alloc::{AllocError, Global};
 use std::io;
 
 /// The number of commands that one event brings at most.
 const MOST_COMMANDS: u64 = 1 << 32;
+
+/// Makes a call of `$replay`'s engine, and makes it once more if it fails, since an allocation failed. Counts that in `$counts.$sum`, and whether an
+/// output differs after it.
+macro_rules! again {
+    ($replay:expr, $call:expr, $counts:ident.$sum:ident) => {
+        match $call {
+            Err(_) => {
+                count(&mut $counts.$sum);
+                $replay.compare($counts);
+                $call
+            }
+            outcome => outcome,
+        }
+    };
+}
 
 /// An engine, with what it has sent and noted.
 #[derive(Drop)]
@@ -87,53 +102,31 @@ impl Replay {
     /// Opens a connection from which no byte has come.
     fn open(&mut self, alloc: Global, counts: &mut Counts) -> Result<(), AllocError> {
         self.look()?;
-        let number = match number_of(self.engine.open(alloc)) {
-            Ok(number) => number,
-            Err(_) => {
-                count(&mut counts.opens);
-                self.compare(counts);
-                number_of(self.engine.open(alloc))?
-            }
-        };
+        let number = again!(self, number_of(self.engine.open(alloc)), counts.opens)?;
         self.add(alloc, number)
     }
 
     /// Opens a connection that is running with channels 1 to `k`.
     fn open_ready(&mut self, alloc: Global, k: u8, counts: &mut Counts) -> Result<(), AllocError> {
         self.look()?;
-        let number = match number_of(self.engine.open_ready(alloc, k)) {
-            Ok(number) => number,
-            Err(_) => {
-                count(&mut counts.opens);
-                self.compare(counts);
-                number_of(self.engine.open_ready(alloc, k))?
-            }
-        };
+        let number = again!(
+            self,
+            number_of(self.engine.open_ready(alloc, k)),
+            counts.opens
+        )?;
         self.add(alloc, number)
     }
 
     /// Feeds `bytes` to connection `c`.
     fn feed(&mut self, c: u64, bytes: &[u8], counts: &mut Counts) -> Result<(), AllocError> {
         self.look()?;
-        if self.engine.feed(c, bytes).is_ok() {
-            return Ok(());
-        }
-        count(&mut counts.feeds);
-        self.compare(counts);
-        self.engine.feed(c, bytes)
+        again!(self, self.engine.feed(c, bytes), counts.feeds)
     }
 
     /// Performs the next command of connection `c`.
     fn turn(&mut self, alloc: Global, c: u64, counts: &mut Counts) -> Result<Turn, AllocError> {
         self.look()?;
-        match self.engine.turn(alloc, c) {
-            Ok(turn) => Ok(turn),
-            Err(_) => {
-                count(&mut counts.turns);
-                self.compare(counts);
-                self.engine.turn(alloc, c)
-            }
-        }
+        again!(self, self.engine.turn(alloc, c), counts.turns)
     }
 
     /// Writes down the notes of a command or a delivery.
@@ -145,21 +138,8 @@ impl Replay {
     /// Makes a delivery, if one can be made.
     fn pump(&mut self, alloc: Global, counts: &mut Counts) -> Result<(), AllocError> {
         self.look()?;
-        let delivered = match self.engine.pump(alloc) {
-            Ok(delivered) => delivered,
-            Err(_) => {
-                count(&mut counts.pumps);
-                self.compare(counts);
-                self.engine.pump(alloc)?
-            }
-        };
-        match delivered {
-            Some(
-                Delivered {
-                    connection: _,
-                    notes,
-                },
-            ) => self.note(notes),
+        match again!(self, self.engine.pump(alloc), counts.pumps)? {
+            Some(delivered) => self.note(delivered.notes),
             None => Ok(()),
         }
     }

@@ -2,24 +2,18 @@
 
 mod written;
 
-use crate::emptied::written::{ack, declare, deliver, get, get_ok, publish, purge, reject};
+use crate::emptied::written::{ack, declare, deliver, get_ok, publish, purge, reject};
 use crate::room::Room;
 use engine::{Engine, Turn};
 use scenario_parts::{
-    ACKED, OPENED, OPENING, PUBLISH, Unmet, expect, expect_bytes, new_broker, value_of,
+    ACKED, CONSUME, CONSUMED, GET, OPENED, OPENING, PUBLISH, Unmet, expect, expect_bytes,
+    new_broker, perform_all, value_of,
 };
 use std::alloc::Global;
 
 /// basic.consume of `audit` on channel 1 with the consumer tag `t` and acknowledgements.
-const CONSUME: &[u8] =
+const CONSUME_WITH_ACKS: &[u8] =
     b"\x01\x00\x01\x00\x00\x00\x13\x00\x3c\x00\x14\x00\x00\x05audit\x01t\x00\x00\x00\x00\x00\xce";
-
-/// [`CONSUME`] without acknowledgements.
-const CONSUME_WITHOUT_ACKS: &[u8] =
-    b"\x01\x00\x01\x00\x00\x00\x13\x00\x3c\x00\x14\x00\x00\x05audit\x01t\x02\x00\x00\x00\x00\xce";
-
-/// consume-ok, the answer to [`CONSUME`] and to [`CONSUME_WITHOUT_ACKS`].
-const CONSUMED: &[u8] = b"\x01\x00\x01\x00\x00\x00\x06\x00\x3c\x00\x15\x01t\xce";
 
 /// basic.cancel of the consumer `t`.
 const CANCEL: &[u8] = b"\x01\x00\x01\x00\x00\x00\x07\x00\x3c\x00\x1e\x01t\x00\xce";
@@ -114,14 +108,7 @@ impl Emptying {
 
     /// Performs all commands that the client wrote, and checks that it receives `expected`.
     fn exchange(&mut self, alloc: Global) -> Result<(), Unmet> {
-        let fed = self.engine.feed(self.client, self.input.as_slice());
-        value_of("Engine::feed", fed)?;
-        for _ in 0..u64::MAX {
-            let turn = value_of("Engine::turn", self.engine.turn(alloc, self.client))?;
-            if !matches!(turn, Turn::Did(_)) {
-                break;
-            }
-        }
+        perform_all(alloc, &mut self.engine, self.client, self.input.as_slice())?;
         self.take()
     }
 
@@ -175,7 +162,7 @@ impl Emptying {
     fn get(&mut self, alloc: Global, is_redelivered: bool) -> Result<(), Unmet> {
         self.count();
         let left = self.left();
-        value_of("get", get(&mut self.input))?;
+        value_of("get", self.input.extend_from_slice(GET))?;
         let expected = get_ok(
             &mut self.expected,
             self.tag,
@@ -226,7 +213,7 @@ impl Emptying {
 
     /// Consumes `count` messages, and acknowledges each.
     fn consume(&mut self, alloc: Global, count: u64) -> Result<(), Unmet> {
-        self.write(alloc, CONSUME, CONSUMED)?;
+        self.write(alloc, CONSUME_WITH_ACKS, CONSUMED)?;
         for _ in 0..count {
             self.deliver(alloc)?;
             self.ack(alloc)?;
@@ -236,7 +223,7 @@ impl Emptying {
 
     /// Consumes `count` messages without acknowledgements.
     fn consume_without_acks(&mut self, alloc: Global, count: u64) -> Result<(), Unmet> {
-        self.write(alloc, CONSUME_WITHOUT_ACKS, CONSUMED)?;
+        self.write(alloc, CONSUME, CONSUMED)?;
         for _ in 0..count {
             self.deliver(alloc)?;
         }

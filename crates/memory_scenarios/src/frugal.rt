@@ -1,6 +1,6 @@
 //! Calls that never allocate, made while no memory is left. Start with [`Frugal`].
 
-use crate::parts::{Stated, checked, command, new_engine, publish};
+use crate::parts::{checked, command, new_engine, publish};
 use crate::room::Room;
 use assembly::{Fault, Stream};
 use broker::Broker;
@@ -11,7 +11,9 @@ use frame::{Read, read_frame};
 use headers::read_size;
 use model::{Get, Holder, Message, Method, Nack, Taker, Text, User};
 use queue::{Indexed, Store};
-use scenario_parts::{MESSAGE, Unmet, expect, expect_bytes, expect_number, in_force, value_of};
+use scenario_parts::{
+    MESSAGE, Stated, Unmet, expect, expect_bytes, expect_number, in_force, value_of,
+};
 use session::{Session, accepts};
 use std::alloc::{AllocError, Global};
 

@@ -1,7 +1,7 @@
 //! Calls that are made while no memory is left, and again after it was given back.
 
 use crate::frugal::Frugal;
-use crate::parts::{Stated, checked, engine_after};
+use crate::parts::{checked, engine_after};
 use crate::room::{Room, can_be_taken};
 use certificate::{CertFault, Certificate, Checked, Refutation, check, disprove};
 use definitions::{FileCause, read_definitions};
@@ -11,7 +11,9 @@ use guarantees::read_guarantees;
 use model::{Note, Text};
 use runs::ReloadFault;
 use scenario_parts::files::{CERTIFICATES, DEFINITIONS, GUARANTEES};
-use scenario_parts::{CONSUME, MESSAGE, Unmet, expect, expect_bytes, value_of};
+use scenario_parts::{
+    CONSUME, GET_WITHOUT_ACK, MESSAGE, Stated, Unmet, expect, expect_bytes, value_of,
+};
 use std::alloc::Global;
 
 /// The outcome of a call.
@@ -22,6 +24,17 @@ enum Outcome {
     /// An allocation failed.
     Wanting,
     Other,
+}
+
+/// The outcome of a call whose error matches `$memory` if an allocation failed.
+macro_rules! outcome_of {
+    ($called:expr, $memory:pat) => {
+        match $called {
+            Ok(_) => Outcome::Done,
+            Err($memory) => Outcome::Wanting,
+            Err(_) => Outcome::Other,
+        }
+    };
 }
 
 /// The guarantee that every key reaches the queue, which doesn't hold: `pay` does not.
@@ -42,9 +55,6 @@ const FIRST_HEARTBEATS: usize = 512;
 
 /// A heartbeat frame.
 const HEARTBEAT: &[u8] = b"\x08\x00\x00\x00\x00\x00\x00\xce";
-
-/// A get from the queue while it is empty. It leaves the output with room for a content, so no delivery there gives a small storage back.
-const GET: &[u8] = b"\x01\x00\x01\x00\x00\x00\x0d\x00\x3c\x00\x46\x00\x00\x05audit\x01\xce";
 
 /// get-empty, and consume-ok of the consumer `t`.
 const CONSUMED: &[u8] =
@@ -101,7 +111,8 @@ impl Calls {
     /// Builds the values, while there is memory.
     fn new(alloc: Global) -> Result<Calls, Unmet> {
         Ok(Calls {
-            engine: engine_after(alloc, &[GET, CONSUME, MESSAGE])?,
+            // a get of the empty queue leaves the output with room for a content, so no delivery there gives a small storage back
+            engine: engine_after(alloc, &[GET_WITHOUT_ACK, CONSUME, MESSAGE])?,
             first_heartbeats: heartbeats(alloc, FIRST_HEARTBEATS)?,
             heartbeats: heartbeats(alloc, HEARTBEATS)?,
             stated: Stated::with(alloc, GUARANTEES)?,
@@ -124,11 +135,7 @@ impl Calls {
 
     /// Opens a connection that is running.
     fn open_ready(&mut self, alloc: Global) -> Outcome {
-        match self.engine.open_ready(alloc, 1) {
-            Ok(_) => Outcome::Done,
-            Err(Refused::Memory) => Outcome::Wanting,
-            Err(_) => Outcome::Other,
-        }
+        outcome_of!(self.engine.open_ready(alloc, 1), Refused::Memory)
     }
 
     /// Feeds the first heartbeats to the second connection, which has not performed a publish.
@@ -195,23 +202,15 @@ impl Calls {
 
     /// Checks the outcome of reading each kind of file.
     fn expect_readings(&self, alloc: Global, expected: Outcome) -> Result<(), Unmet> {
-        let definitions = match read_definitions(alloc, DEFINITIONS) {
-            Ok(_) => Outcome::Done,
-            Err(FileCause::Memory) => Outcome::Wanting,
-            Err(_) => Outcome::Other,
-        };
+        let definitions = outcome_of!(read_definitions(alloc, DEFINITIONS), FileCause::Memory);
         expect_outcome("read_definitions does as expected", definitions, expected)?;
-        let guarantees = match read_guarantees(alloc, GUARANTEES, &self.stated.topology) {
-            Ok(_) => Outcome::Done,
-            Err(FileCause::Memory) => Outcome::Wanting,
-            Err(_) => Outcome::Other,
-        };
+        let topology = &self.stated.topology;
+        let guarantees = outcome_of!(
+            read_guarantees(alloc, GUARANTEES, topology),
+            FileCause::Memory
+        );
         expect_outcome("read_guarantees does as expected", guarantees, expected)?;
-        let certificates = match Certificate::read(alloc, CERTIFICATES) {
-            Ok(_) => Outcome::Done,
-            Err(FileCause::Memory) => Outcome::Wanting,
-            Err(_) => Outcome::Other,
-        };
+        let certificates = outcome_of!(Certificate::read(alloc, CERTIFICATES), FileCause::Memory);
         expect_outcome("Certificate::read does as expected", certificates, expected)
     }
 
@@ -224,11 +223,8 @@ impl Calls {
         ) else {
             return Outcome::Other;
         };
-        match check(alloc, &stated.topology, guarantee, certificate) {
-            Ok(()) => Outcome::Done,
-            Err(CertFault::Memory) => Outcome::Wanting,
-            Err(_) => Outcome::Other,
-        }
+        let checked = check(alloc, &stated.topology, guarantee, certificate);
+        outcome_of!(checked, CertFault::Memory)
     }
 
     /// Searches for a certificate of the guarantee.
@@ -270,11 +266,8 @@ impl Calls {
 
     /// Reloads the engine.
     fn reload(&mut self, alloc: Global, checked: Checked) -> Outcome {
-        match self.engine.reload(alloc, checked, Vec::new(alloc)) {
-            Ok(()) => Outcome::Done,
-            Err(ReloadFault::Memory) => Outcome::Wanting,
-            Err(_) => Outcome::Other,
-        }
+        let reloaded = self.engine.reload(alloc, checked, Vec::new(alloc));
+        outcome_of!(reloaded, ReloadFault::Memory)
     }
 
     /// Checks that the output of the first connection is `consumer`, and that the second has none.
@@ -286,11 +279,7 @@ impl Calls {
 
 /// Admits what the files state.
 fn admission(alloc: Global, stated: Stated) -> Outcome {
-    match stated.admitted(alloc) {
-        Ok(_) => Outcome::Done,
-        Err((_, CertFault::Memory)) => Outcome::Wanting,
-        Err(_) => Outcome::Other,
-    }
+    outcome_of!(stated.admitted(alloc), (_, CertFault::Memory))
 }
 
 /// Makes each call while memory is ample, so that the stack has grown to what they need.

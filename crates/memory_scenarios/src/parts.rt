@@ -1,52 +1,13 @@
-//! The values that the scenarios make calls on: files, what they state, and an engine.
+//! The values that the scenarios make calls on: methods, what files state, and an engine.
 
 ghost use Rattle.commands.specs.Judged.{IsAsked};
 
-use certificate::{CertFault, Certificate, Checked, admit};
-use definitions::read_definitions;
-use engine::{Engine, Turn};
-use exchange_graph::Topology;
-use guarantees::{Guarantee, read_guarantees};
+use certificate::Checked;
+use engine::Engine;
 use model::{Body, Consume, Content, Event, Method, Properties, Publish, Table, Text};
-use scenario_parts::files::{CERTIFICATES, DEFINITIONS, GUARANTEES};
-use scenario_parts::{CONSUME, MESSAGE, Unmet, expect, new_broker, value_of};
+use scenario_parts::files::GUARANTEES;
+use scenario_parts::{CONSUME, MESSAGE, Stated, Unmet, new_broker, perform, value_of};
 use std::alloc::Global;
-
-/// What the three files state.
-#[derive(Drop)]
-pub(crate) struct Stated {
-    pub(crate) topology: Topology,
-    pub(crate) guarantees: Vec<Guarantee>,
-    pub(crate) certificates: Vec<Certificate>,
-}
-
-impl Stated {
-    /// Reads the files, with `guarantees` as the guarantees file.
-    pub(crate) fn with(alloc: Global, guarantees: &[u8]) -> Result<Stated, Unmet> {
-        let definitions = value_of("read_definitions", read_definitions(alloc, DEFINITIONS))?;
-        let (topology, _) = definitions.into_parts();
-        let guarantees = value_of(
-            "read_guarantees",
-            read_guarantees(alloc, guarantees, &topology),
-        )?;
-        let certificates = value_of("Certificate::read", Certificate::read(alloc, CERTIFICATES))?;
-        Ok(Stated {
-            topology,
-            guarantees,
-            certificates,
-        })
-    }
-
-    /// Admits what the files state.
-    pub(crate) fn admitted(self, alloc: Global) -> Result<Checked, (usize, CertFault)> {
-        let Stated {
-            topology,
-            guarantees,
-            certificates,
-        } = self;
-        admit(alloc, topology, guarantees, certificates.as_slice())
-    }
-}
 
 /// Returns a publish to the queue `audit` by the default exchange, with an empty body.
 pub(crate) fn publish() -> (Publish, Content) {
@@ -110,9 +71,7 @@ pub(crate) fn engine_after(alloc: Global, commands: &[&[u8]]) -> Result<Engine, 
         value_of("Engine::open_ready", engine.open_ready(alloc, 1))?;
     }
     for command in commands {
-        value_of("Engine::feed", engine.feed(1, command))?;
-        let turn = value_of("Engine::turn", engine.turn(alloc, 1))?;
-        expect("the command is performed", matches!(turn, Turn::Did(_)))?;
+        perform(alloc, &mut engine, 1, command)?;
     }
     value_of("Engine::feed", engine.feed(2, MESSAGE))?;
     engine.lose(3);

@@ -5,4 +5,4 @@ pub use Rattle.serving.specs.Answered.{accept_call, read_call, write_call}
 pub use Rattle.serving.specs.Joined.{written_to}
 pub use Rattle.serving.specs.Story.{Served, calls, served}
 pub use Rattle.serving.specs.Wire.{Accepted, Call, Closed, Follows, Farewell, Rested, AddsCalls, Traffic, Welcomed, is_failed}
-pub use Rattle.std.proofs.Common.{Bool, List, None, Option, Some, [], ap, append-nil, append_assoc, arith, count_by, drop, false, flat_map, if◌then◌else◌, inl, inr, length, map, refl, slice_get, subst, suc, sym, true, zero, ℕ, ◌++◌, ◌+◌, ◌<◌, ◌∙◌, ◌∷◌, ◌≡◌, ◌≤◌}
+pub use Rattle.std.proofs.Common.{Bool, List, None, Option, Some, [], ap, arith, count_by, drop, false, flat_map, if◌then◌else◌, inl, inr, length, map, refl, subst, sym, true, ℕ, ◌++◌, ◌+◌, ◌<◌, ◌∙◌, ◌∷◌, ◌≡◌, ◌≤◌}

@@ -1,6 +1,5 @@
 -- What is told by a log, call by call, and where it is whole.
-use Rattle.memory_wire.proofs.Names.{◌≡◌, ◌+◌, ◌≤◌, ◌<◌, ℕ, zero, suc, List, [], ◌∷◌, ◌++◌, map, drop, length, Option, Some, None, Bool, true, false, slice_get, sym, ap, append_assoc, append-nil, ◌∙◌, subst, inl, inr, arith, flat_map, count_by, if◌then◌else◌, Call, Accepted, Traffic, AddsCalls, Follows, is_failed, accept_call, read_call, write_call, Served, calls, written_to, call_of, logged_calls, traffic_with, Log}
-use Rattle.std.specs.Prelude.{nat_lt}
+use Rattle.memory_wire.proofs.Names.{◌≡◌, ◌+◌, ◌≤◌, ◌<◌, ℕ, List, [], ◌∷◌, ◌++◌, map, Option, Some, None, Bool, true, false, sym, ap, ◌∙◌, inl, inr, arith, flat_map, count_by, if◌then◌else◌, Call, Accepted, Traffic, AddsCalls, Follows, is_failed, accept_call, read_call, write_call, Served, calls, call_of, logged_calls, traffic_with, Log}
 use Rattle.std.proofs.lemmas.Bool.{ltb-true, lt-ltb}
 use Rattle.std.proofs.lemmas.Option.{none-some}
 use Rattle.model.specs.Topology.{IsIn}
@@ -14,7 +13,6 @@ use Rattle.serving.specs.declared.wire.Write.{Write}
 use Rattle.serving.specs.declared.wire.Write.TheVariants as write
 use Rattle.serving.specs.Whole.{IsServed}
 use Rattle.memory_wire.specs.Served.{LogsBytes}
-use Rattle.memory_wire.specs.declared.logs.Logged.{Logged}
 
 -- a call that didn't fail adds no failure
 pub none_failed : (call : Call) → is_failed call ≡ false → 0 ≡ 0 + count_by is_failed (call ∷ [])
@@ -24,15 +22,12 @@ none_failed call e =
 
 -- ---- one call
 
-given_is : (s come : ℕ) → s < come → nat_lt s come ≡ true
-given_is s come lt = lt-ltb s come lt
-
 pub tells_one : (old new : Option (List Call)) (come more : ℕ) (call : Call) → Follows old (call ∷ []) new → is_failed call ≡ false → come ≤ more → ((s : ℕ) → Accepted s ≡ call → s < more) → AddsCalls (traffic_with old come) (call ∷ []) (traffic_with new more)
 tells_one old new come more call follows fine le accepted = record {
   calls = follows;
   failures = none_failed call fine;
-  kept = λ s e. let lt = ltb-true s come e in given_is s more (omega (arith, lt, le));
-  given = λ s i. given_is s more (is_one s i);
+  kept = λ s e. let lt = ltb-true s come e in lt-ltb s more (omega (arith, lt, le));
+  given = λ s i. lt-ltb s more (is_one s i);
   totals = λ s t e. absurd (none-some t e);
 }
   where
@@ -91,24 +86,3 @@ tells_bytes L f old new l v is none last whole s =
       joined = s.joined;
       written = s.written;
     }
-
--- one call's bytes go from what is left to what is there
-pub taken_on : (s : ℕ) (ls : List Logged) (i : ℕ) (l : Logged) (there : List ℕ) → slice_get ls i ≡ Some l
-    → (there ++ written_to s (call_of l)) ++ flat_map (written_to s) (map call_of (drop (i + 1) ls)) ≡ there ++ flat_map (written_to s) (map call_of (drop i ls))
-taken_on s ls i l there e =
-    let next : suc i ≡ i + 1 = omega arith in
-    subst (λ (n : ℕ). (there ++ written_to s (call_of l)) ++ flat_map (written_to s) (map call_of (drop n ls)) ≡ there ++ flat_map (written_to s) (map call_of (drop i ls))) next (go ls i e)
-  where
-    go : (ls : List Logged) (i : ℕ) → slice_get ls i ≡ Some l → (there ++ written_to s (call_of l)) ++ flat_map (written_to s) (map call_of (drop (suc i) ls)) ≡ there ++ flat_map (written_to s) (map call_of (drop i ls))
-    go [] i e = absurd (cc e)
-    go (y ∷ ys) zero e =
-        let same : l ≡ y = cc e in
-        append_assoc there (written_to s (call_of l)) (flat_map (written_to s) (map call_of ys)) ∙ ap (λ (m : Logged). there ++ (written_to s (call_of m) ++ flat_map (written_to s) (map call_of ys))) same
-    go (y ∷ ys) (suc i) e = go ys i e
-
--- behind the end nothing is left
-pub taken_all : (s : ℕ) (ls : List Logged) (i : ℕ) (there : List ℕ) → length ls ≤ i → there ++ flat_map (written_to s) (map call_of (drop i ls)) ≡ there
-taken_all s [] zero there le = append-nil there
-taken_all s [] (suc i) there le = append-nil there
-taken_all s (y ∷ ys) zero there le = absurd (omega (arith, le))
-taken_all s (y ∷ ys) (suc i) there le = taken_all s ys i there (omega (arith, le))

@@ -1,28 +1,54 @@
 -- What was read of the arguments tells what the payload says.
-use Rattle.methods.proofs.Names.{◌≡◌, ℕ, ◌^◌, ◌<◌, ◌≤◌, Bool, true, false, cond, List, [], ◌++◌, map, length, drop, Result, Ok, Err, ◌⊎◌, inl, inr, append_assoc, refl, sym, ap, subst, ◌∙◌, append-nil, arith, ◌==◌, ◌||◌, ◌&&◌, w16, to_be_bytes, AllByRecursion, flat_map, Argument, argument, IsArgument, Ids, ids, ids_of, arguments, method_bytes, IsMethod, class_at, method_at, is_known, is_left_out, is_unread, Spells, exact, any_rest, SaysMethod, said, too_short, unknown, left_out, bad_arguments, Method, ConnectionCloseOk, ExchangeDelete, ExchangeBind, ExchangeUnbind, QueueBind, QueueDelete, QueueUnbind, kind_of, arguments_at}
+use Rattle.methods.proofs.Names.{◌≡◌, ℕ, ◌^◌, ◌<◌, ◌≤◌, Bool, true, false, List, [], ◌∷◌, ◌++◌, map, length, drop, Result, Ok, Err, ◌⊎◌, inl, inr, append_assoc, refl, sym, ap, subst, ◌∙◌, append-nil, arith, ◌==◌, ◌||◌, ◌&&◌, w16, to_be_bytes, AllByRecursion, flat_map, Argument, argument, IsArgument, Ids, ids, ids_of, arguments, method_bytes, IsMethod, class_at, method_at, is_known, is_left_out, is_unread, Spells, exact, any_rest, SaysMethod, said, too_short, unknown, left_out, bad_arguments, Method, ConnectionCloseOk, ExchangeDelete, ExchangeBind, ExchangeUnbind, QueueBind, QueueDelete, QueueUnbind, kind_of, arguments_at}
 use Rattle.std.proofs.Common.{Option, Some}
-use Rattle.std.proofs.lemmas.Bool.{eqb-true}
+use Rattle.std.proofs.lemmas.Bool.{eqb-true, leb-true}
+use Rattle.std.specs.Prelude.{leb}
 use Rattle.methods.specs.Laws.{OneMethod}
 use Rattle.std.proofs.lemmas.Nat.{from_be_bytes-to_be_bytes_2}
-use Rattle.field_table.specs.Arguments.{Kind}
+use Rattle.field_table.specs.Arguments.{Kind, some_bits}
 use Rattle.field_table.proofs.Exactly.{IsBytes, IsBytes-drop, IsKind, arguments_take, arguments_again, all_fit, all_sized, all_whole}
 use Rattle.methods.specs.declared.refusals.BadMethod.{BadMethod}
 use Rattle.methods.specs.declared.refusals.BadMethod.TheVariants.{FrameError, SyntaxError, CommandInvalid, NotImplemented, Memory}
-use Rattle.methods.specs.Kinds.{close_kinds, declare_exchange_kinds, tag_kinds, connection_kinds, channel_kinds, exchange_kinds, queue_class_kinds, basic_kinds, confirm_kinds, kinds_of}
+use Rattle.methods.specs.Kinds.{kinds_of}
 use Rattle.methods.specs.Reading.{MethodIsRefused, ReturnsMethod, IsMethodOr, BeginsMethod, IsRead, FailsToRead, ReadsArguments}
 use Rattle.methods.proofs.Rebuilt.{same_method}
 
 -- ---- the table
+
+abbrev AreKinds : List Kind → Type 0
+AreKinds ks = AllByRecursion IsKind ks
+
+-- whether at most eight bits share an octet
+abbrev pub is_kind : Kind → Bool
+is_kind (some_bits n) = leb n 8
+is_kind _ = true
+
+abbrev pub are_kinds : List Kind → Bool
+are_kinds [] = true
+are_kinds (k ∷ ks) = is_kind k && are_kinds ks
+
+both_true : (a b : Bool) → a && b ≡ true → (a ≡ true) × (b ≡ true)
+both_true true b e = (refl, e)
+both_true false b e = absurd (let h : false ≡ true = e in cc)
+
+kind_fits : (k : Kind) → is_kind k ≡ true → IsKind k
+kind_fits (some_bits n) e = leb-true n 8 e
+kind_fits _ e = tt
+
+kinds_fit : (ks : List Kind) → are_kinds ks ≡ true → AreKinds ks
+kinds_fit [] e = tt
+kinds_fit (k ∷ ks) e = let b = both_true (is_kind k) (are_kinds ks) e in (kind_fits k b.0, kinds_fit ks b.1)
 
 -- the row of a method in the table
 pub record Row (x : Method) : Type 0 where
   pub kinds : kinds_of (ids_of x).class (ids_of x).method ≡ map kind_of (arguments x)
   pub known : is_known (ids_of x).class (ids_of x).method ≡ true
   pub built : is_left_out (ids_of x).class (ids_of x).method ≡ false
+  pub fit : are_kinds (kinds_of (ids_of x).class (ids_of x).method) ≡ true
 
 row : (x : Method) → Row x
-row ConnectionCloseOk = record { kinds = refl; known = refl; built = refl }
-row _ = record { kinds = refl; known = refl; built = refl }
+row ConnectionCloseOk = record { kinds = refl; known = refl; built = refl; fit = refl }
+row _ = record { kinds = refl; known = refl; built = refl; fit = refl }
 
 -- what is not read of a method is nothing
 bare : (x : Method) → is_unread (ids_of x).class (ids_of x).method ≡ true → arguments x ≡ []
@@ -41,74 +67,6 @@ record AreSmall (i : Ids) : Type 0 where
 ids_fit : (x : Method) → AreSmall (ids_of x)
 ids_fit ConnectionCloseOk = record { class = omega arith; method = omega arith }
 ids_fit _ = record { class = omega arith; method = omega arith }
-
-abbrev AreKinds : List Kind → Type 0
-AreKinds ks = AllByRecursion IsKind ks
-
-either : (b : Bool) (xs ys : List Kind) → AreKinds xs → AreKinds ys → AreKinds (cond b xs ys)
-either true xs ys p q = p
-either false xs ys p q = q
-
-tag_fit : (n : ℕ) → n ≤ 8 → AreKinds (tag_kinds n)
-tag_fit n h = (tt, (h, tt))
-
-connection_fit : (m : ℕ) → AreKinds (connection_kinds m)
-connection_fit m =
-    either (m == 10) _ _ (tt, (tt, (tt, (tt, (tt, tt)))))
-    (either (m == 11) _ _ (tt, (tt, (tt, (tt, tt))))
-    (either (m == 30) _ _ (tt, (tt, (tt, tt)))
-    (either (m == 31) _ _ (tt, (tt, (tt, tt)))
-    (either (m == 40) _ _ (tt, (tt, (omega arith, tt)))
-    (either (m == 41) _ _ (tt, tt)
-    (either (m == 50) close_kinds [] (tt, (tt, (tt, (tt, tt)))) tt))))))
-
-channel_fit : (m : ℕ) → AreKinds (channel_kinds m)
-channel_fit m =
-    either (m == 10) _ _ (tt, tt)
-    (either (m == 11) _ _ (tt, tt)
-    (either (m == 20) _ _ (omega arith, tt)
-    (either (m == 21) _ _ (omega arith, tt)
-    (either (m == 40) close_kinds [] (tt, (tt, (tt, (tt, tt)))) tt))))
-
-exchange_fit : (m : ℕ) → AreKinds (exchange_kinds m)
-exchange_fit m = either (m == 10) declare_exchange_kinds [] (tt, (tt, (tt, (omega arith, (tt, tt))))) tt
-
-queue_fit : (m : ℕ) → AreKinds (queue_class_kinds m)
-queue_fit m =
-    either (m == 10) _ _ (tt, (tt, (omega arith, (tt, tt))))
-    (either (m == 11) _ _ (tt, (tt, (tt, tt)))
-    (either (m == 30) _ _ (tt, (tt, (omega arith, tt)))
-    (either (m == 31) _ [] (tt, tt) tt)))
-
-basic_fit : (m : ℕ) → AreKinds (basic_kinds m)
-basic_fit m =
-    either (m == 10) _ _ (tt, (tt, (omega arith, tt)))
-    (either (m == 20) _ _ (tt, (tt, (tt, (omega arith, (tt, tt)))))
-    (either (m == 21) _ _ (tt, tt)
-    (either (m == 30) _ _ (tt, (omega arith, tt))
-    (either (m == 31) _ _ (tt, tt)
-    (either (m == 40) _ _ (tt, (tt, (tt, (omega arith, tt))))
-    (either (m == 50) _ _ (tt, (tt, (tt, (tt, tt))))
-    (either (m == 60) _ _ (tt, (tt, (omega arith, (tt, (tt, tt)))))
-    (either (m == 70) _ _ (tt, (tt, (omega arith, tt)))
-    (either (m == 71) _ _ (tt, (omega arith, (tt, (tt, (tt, tt)))))
-    (either (m == 72) _ _ (tt, tt)
-    (either (m == 80) _ _ (tag_fit 1 (omega arith))
-    (either (m == 90) _ _ (tag_fit 1 (omega arith))
-    (either (m == 110) _ _ (omega arith, tt)
-    (either (m == 120) (tag_kinds 2) [] (tag_fit 2 (omega arith)) tt))))))))))))))
-
-confirm_fit : (m : ℕ) → AreKinds (confirm_kinds m)
-confirm_fit m = either (m == 10) _ [] (omega arith, tt) tt
-
-kinds_fit : (c m : ℕ) → AreKinds (kinds_of c m)
-kinds_fit c m =
-    either (c == 10) _ _ (connection_fit m)
-    (either (c == 20) _ _ (channel_fit m)
-    (either (c == 40) _ _ (exchange_fit m)
-    (either (c == 50) _ _ (queue_fit m)
-    (either (c == 60) _ _ (basic_fit m)
-    (either (c == 85) _ [] (confirm_fit m) tt)))))
 
 -- ---- what a payload says
 
@@ -176,7 +134,8 @@ said_read : (payload rest : List ℕ) (c m : ℕ) (x : Method) (b : Bool) → is
 said_read payload rest c m x false u are starts reads =
     let given = reads.given u in
     let rest_fits : IsBytes rest = subst (λ (z : List ℕ). IsBytes z) (ap (λ (z : List ℕ). drop 4 z) starts.parts) (IsBytes-drop 4 payload are) in
-    let a = arguments_take (kinds_of c m) rest (arguments x) (kinds_fit c m) rest_fits given.0 in
+    let kinds : AreKinds (kinds_of c m) = subst (λ (i : Ids). AreKinds (kinds_of i.class i.method)) reads.ids_are (kinds_fit _ (row x).fit) in
+    let a = arguments_take (kinds_of c m) rest (arguments x) kinds rest_fits given.0 in
     said {m = x} (all_fit (arguments x) a.fit given.1)
     (exact (its_front payload rest c m x starts reads.ids_are ∙ ap (λ (z : List ℕ). to_be_bytes w16 (ids_of x).class ++ to_be_bytes w16 (ids_of x).method ++ z) a.parts))
 said_read payload rest c m x true u are starts reads =
@@ -255,10 +214,6 @@ same_said payload x y fits s also t =
 either_true : (a b : Bool) → a || b ≡ true → (a ≡ true) ⊎ (b ≡ true)
 either_true true b e = inl refl
 either_true false b e = inr e
-
-both_true : (a b : Bool) → a && b ≡ true → (a ≡ true) × (b ≡ true)
-both_true true b e = (refl, e)
-both_true false b e = absurd (let h : false ≡ true = e in cc)
 
 -- what is left out is not in the table
 not_both_known : (c m : ℕ) → is_left_out c m ≡ true → is_known c m ≡ true → ⊥

@@ -2,82 +2,37 @@
 use Rattle.std.specs.Prelude.{◌==◌, ℕ, List, [], ◌∷◌, if◌then◌else◌}
 use Rattle.field_table.specs.Arguments.{Kind, an_octet, a_short, a_long, a_long_long, a_short_text, a_long_text, a_field_table, some_bits}
 
--- the arguments of connection.start: version-major, version-minor, server-properties, mechanisms, locales
-abbrev pub start_kinds : List Kind
-start_kinds = an_octet ∷ an_octet ∷ a_field_table ∷ a_long_text ∷ a_long_text ∷ []
+-- ---- arguments that several methods have
 
--- the arguments of connection.start-ok: client-properties, mechanism, response, locale
-abbrev pub start_ok_kinds : List Kind
-start_ok_kinds = a_field_table ∷ a_short_text ∷ a_long_text ∷ a_short_text ∷ []
-
--- the arguments of connection.tune and connection.tune-ok: channel-max, frame-max, heartbeat
+-- connection.tune and connection.tune-ok: channel-max, frame-max, heartbeat
 abbrev pub tuning_kinds : List Kind
 tuning_kinds = a_short ∷ a_long ∷ a_short ∷ []
 
--- the arguments of connection.open: virtual-host and two reserved ones
-abbrev pub open_kinds : List Kind
-open_kinds = a_short_text ∷ a_short_text ∷ some_bits 1 ∷ []
-
--- the arguments of connection.close and channel.close: reply-code, reply-text, class-id, method-id
+-- connection.close and channel.close: reply-code, reply-text, class-id, method-id
 abbrev pub close_kinds : List Kind
 close_kinds = a_short ∷ a_short_text ∷ a_short ∷ a_short ∷ []
 
--- the arguments of exchange.declare: a reserved one, exchange, type, five bits, arguments
-abbrev pub declare_exchange_kinds : List Kind
-declare_exchange_kinds = a_short ∷ a_short_text ∷ a_short_text ∷ some_bits 5 ∷ a_field_table ∷ []
-
--- the arguments of queue.declare: a reserved one, queue, five bits, arguments
-abbrev pub declare_queue_kinds : List Kind
-declare_queue_kinds = a_short ∷ a_short_text ∷ some_bits 5 ∷ a_field_table ∷ []
-
--- the arguments of queue.declare-ok: queue, message-count, consumer-count
-abbrev pub declared_kinds : List Kind
-declared_kinds = a_short_text ∷ a_long ∷ a_long ∷ []
-
--- the arguments of queue.purge (its bit is no-wait) and basic.get (no-ack): a reserved one, queue, a bit
+-- queue.purge (its bit is no-wait) and basic.get (no-ack): a reserved one, queue, a bit
 abbrev pub queue_kinds : List Kind
 queue_kinds = a_short ∷ a_short_text ∷ some_bits 1 ∷ []
 
--- the arguments of basic.qos: prefetch-size, prefetch-count, global
-abbrev pub qos_kinds : List Kind
-qos_kinds = a_long ∷ a_short ∷ some_bits 1 ∷ []
-
--- the arguments of basic.consume: a reserved one, queue, consumer-tag, four bits, arguments
-abbrev pub consume_kinds : List Kind
-consume_kinds = a_short ∷ a_short_text ∷ a_short_text ∷ some_bits 4 ∷ a_field_table ∷ []
-
--- the arguments of basic.cancel: consumer-tag, no-wait
-abbrev pub cancel_kinds : List Kind
-cancel_kinds = a_short_text ∷ some_bits 1 ∷ []
-
--- the arguments of basic.publish: a reserved one, exchange, routing-key, two bits
-abbrev pub publish_kinds : List Kind
-publish_kinds = a_short ∷ a_short_text ∷ a_short_text ∷ some_bits 2 ∷ []
-
--- the arguments of basic.return: reply-code, reply-text, exchange, routing-key
-abbrev pub return_kinds : List Kind
-return_kinds = a_short ∷ a_short_text ∷ a_short_text ∷ a_short_text ∷ []
-
--- the arguments of basic.deliver: consumer-tag, delivery-tag, redelivered, exchange, routing-key
-abbrev pub deliver_kinds : List Kind
-deliver_kinds = a_short_text ∷ a_long_long ∷ some_bits 1 ∷ a_short_text ∷ a_short_text ∷ []
-
--- the arguments of basic.get-ok: delivery-tag, redelivered, exchange, routing-key, message-count
-abbrev pub get_ok_kinds : List Kind
-get_ok_kinds = a_long_long ∷ some_bits 1 ∷ a_short_text ∷ a_short_text ∷ a_long ∷ []
-
--- a delivery tag and `n` bits: the arguments of basic.ack and basic.reject (1), basic.nack (2)
+-- a delivery tag and `n` bits: basic.ack and basic.reject (1), basic.nack (2)
 abbrev pub tag_kinds : ℕ → List Kind
 tag_kinds n = a_long_long ∷ some_bits n ∷ []
+
+-- ---- by class and method
 
 -- the arguments of each method of the connection class, by its id; close-ok (51) has none
 abbrev pub connection_kinds : ℕ → List Kind
 connection_kinds m =
-    if m == 10 then start_kinds
-    else if m == 11 then start_ok_kinds
+    -- start: version-major, version-minor, server-properties, mechanisms, locales
+    if m == 10 then an_octet ∷ an_octet ∷ a_field_table ∷ a_long_text ∷ a_long_text ∷ []
+    -- start-ok: client-properties, mechanism, response, locale
+    else if m == 11 then a_field_table ∷ a_short_text ∷ a_long_text ∷ a_short_text ∷ []
     else if m == 30 then tuning_kinds
     else if m == 31 then tuning_kinds
-    else if m == 40 then open_kinds
+    -- open: virtual-host and two reserved ones
+    else if m == 40 then a_short_text ∷ a_short_text ∷ some_bits 1 ∷ []
     else if m == 41 then a_short_text ∷ []
     else if m == 50 then close_kinds
     else []
@@ -92,15 +47,18 @@ channel_kinds m =
     else if m == 40 then close_kinds
     else []
 
--- the arguments of exchange.declare (10); declare-ok (11) has none, and those of delete, bind and unbind are not read
+-- the arguments of exchange.declare (10): a reserved one, exchange, type, five bits, arguments; declare-ok (11) has none, and those of
+-- delete, bind and unbind are not read
 abbrev pub exchange_kinds : ℕ → List Kind
-exchange_kinds m = if m == 10 then declare_exchange_kinds else []
+exchange_kinds m = if m == 10 then a_short ∷ a_short_text ∷ a_short_text ∷ some_bits 5 ∷ a_field_table ∷ [] else []
 
 -- the arguments of each method of the queue class, by its id; those of bind (20), delete (40) and unbind (50) are not read
 abbrev pub queue_class_kinds : ℕ → List Kind
 queue_class_kinds m =
-    if m == 10 then declare_queue_kinds
-    else if m == 11 then declared_kinds
+    -- declare: a reserved one, queue, five bits, arguments
+    if m == 10 then a_short ∷ a_short_text ∷ some_bits 5 ∷ a_field_table ∷ []
+    -- declare-ok: queue, message-count, consumer-count
+    else if m == 11 then a_short_text ∷ a_long ∷ a_long ∷ []
     else if m == 30 then queue_kinds
     else if m == 31 then a_long ∷ []
     else []
@@ -108,16 +66,23 @@ queue_class_kinds m =
 -- the arguments of each method of the basic class, by its id; qos-ok (11) and recover-ok (111) have none
 abbrev pub basic_kinds : ℕ → List Kind
 basic_kinds m =
-    if m == 10 then qos_kinds
-    else if m == 20 then consume_kinds
+    -- qos: prefetch-size, prefetch-count, global
+    if m == 10 then a_long ∷ a_short ∷ some_bits 1 ∷ []
+    -- consume: a reserved one, queue, consumer-tag, four bits, arguments
+    else if m == 20 then a_short ∷ a_short_text ∷ a_short_text ∷ some_bits 4 ∷ a_field_table ∷ []
     else if m == 21 then a_short_text ∷ []
-    else if m == 30 then cancel_kinds
+    -- cancel: consumer-tag, no-wait
+    else if m == 30 then a_short_text ∷ some_bits 1 ∷ []
     else if m == 31 then a_short_text ∷ []
-    else if m == 40 then publish_kinds
-    else if m == 50 then return_kinds
-    else if m == 60 then deliver_kinds
+    -- publish: a reserved one, exchange, routing-key, two bits
+    else if m == 40 then a_short ∷ a_short_text ∷ a_short_text ∷ some_bits 2 ∷ []
+    -- return: reply-code, reply-text, exchange, routing-key
+    else if m == 50 then a_short ∷ a_short_text ∷ a_short_text ∷ a_short_text ∷ []
+    -- deliver: consumer-tag, delivery-tag, redelivered, exchange, routing-key
+    else if m == 60 then a_short_text ∷ a_long_long ∷ some_bits 1 ∷ a_short_text ∷ a_short_text ∷ []
     else if m == 70 then queue_kinds
-    else if m == 71 then get_ok_kinds
+    -- get-ok: delivery-tag, redelivered, exchange, routing-key, message-count
+    else if m == 71 then a_long_long ∷ some_bits 1 ∷ a_short_text ∷ a_short_text ∷ a_long ∷ []
     else if m == 72 then a_short_text ∷ []
     else if m == 80 then tag_kinds 1
     else if m == 90 then tag_kinds 1

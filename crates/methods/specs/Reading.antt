@@ -51,14 +51,6 @@ AreWhole given = AllByRecursion IsArgumentWhole given
 abbrev pub LacksArguments : Option (List Argument) → Type 0
 LacksArguments read = (given : List Argument) → read ≡ Some given → AreWhole given → ⊥
 
--- the error is right: a syntax error only if no arguments were read or a table among them is not one; an allocation may always fail
-abbrev pub WantsArguments : Option (List Argument) → BadMethod → Type 0
-WantsArguments read FrameError = ⊥
-WantsArguments read SyntaxError = LacksArguments read
-WantsArguments read CommandInvalid = ⊥
-WantsArguments read NotImplemented = ⊥
-WantsArguments read Memory = ⊤
-
 -- the error is right: it is an allocation failure, or it is a syntax error and `pairs` are not a table's pairs
 abbrev pub NoTable : List ℕ → BadMethod → Type 0
 NoTable pairs FrameError = ⊥
@@ -71,11 +63,6 @@ NoTable pairs Memory = ⊤
 abbrev pub MakesTable : List ℕ → Result (List ℕ) BadMethod → Type 0
 MakesTable pairs (Ok t) = (t ≡ pairs) × IsTable pairs
 MakesTable pairs (Err e) = NoTable pairs e
-
--- the result has exactly the arguments that were read, and each table among them is well-formed, or the error is correct
-abbrev pub GivesArguments : {X : Type 0} → (X → List Argument) → Result X BadMethod → Option (List Argument) → Type 0
-GivesArguments view (Ok x) read = (read ≡ Some (view x)) × AreWhole (view x)
-GivesArguments view (Err e) read = WantsArguments read e
 
 -- `x` is a known method with these ids; its arguments are exactly what the bytes say, if the arguments of such a method are read
 pub record IsRead (c m : ℕ) (bytes : List ℕ) (x : Method) : Type 0 where

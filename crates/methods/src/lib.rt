@@ -8,7 +8,6 @@
 
 mod classes;
 mod cursor;
-mod fields;
 mod laws;
 mod lines;
 mod pieces;

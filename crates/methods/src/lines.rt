@@ -2,287 +2,139 @@
 
 ghost use Rattle.std.specs.Prelude.{◌≡◌};
 ghost use Rattle.model.specs.Grammar.{arguments};
-ghost use Rattle.model.specs.declared.methods.Method.TheVariants as method;
-ghost use Rattle.methods.specs.declared.pieces.Piece.TheVariants.{Nothing};
 ghost use Rattle.methods.specs.Pieces.{given};
 
-use crate::pieces::{NOTHING, Piece, Pieces};
-use model::{
-    Ack, Cancel, Close, Consume, Deliver, Get, GetOk, Method, Nack, Open, Publish, Purge, Qos,
-    QueueDeclared, Reject, Return, Start, StartOk, Tuning,
+use crate::pieces::Piece::{
+    Bit, FiveBits, FourBits, Long, LongLong, LongText, Nothing, Octet, Short, ShortText, Table,
+    TwoBits,
 };
+use crate::pieces::{NOTHING, Pieces};
+use model::Method;
+
+/// Lists up to five arguments.
+macro_rules! pieces {
+    ($first:expr, $second:expr, $third:expr, $fourth:expr, $fifth:expr) => {
+        Pieces { first: $first, second: $second, third: $third, fourth: $fourth, fifth: $fifth }
+    };
+    ($($piece:expr),+) => { pieces!($($piece),+, Nothing) };
+}
 
 /// Returns the arguments of `method` in wire order.
 pub(crate) fn arguments_of(method: &Method) -> Pieces<'_>
     ensures { given result ≡ arguments method.now }
 {
     match method {
-        Method::ConnectionStart(s) => of_start(s),
-        Method::ConnectionStartOk(s) => of_start_ok(s),
-        Method::ConnectionTune(t) => of_tuning(t),
-        Method::ConnectionTuneOk(t) => of_tuning(t),
-        Method::ConnectionOpen(o) => of_open(o),
-        Method::ConnectionOpenOk { reserved } => one(Piece::ShortText(reserved.as_bytes())),
-        Method::ConnectionClose(c) => of_close(c),
-        Method::ChannelOpen { reserved } => one(Piece::ShortText(reserved.as_bytes())),
-        Method::ChannelOpenOk { reserved } => one(Piece::LongText(reserved.as_bytes())),
-        Method::ChannelFlow { active } => one(Piece::Bit(*active)),
-        Method::ChannelFlowOk { active } => one(Piece::Bit(*active)),
-        Method::ChannelClose(c) => of_close(c),
-        Method::ExchangeDeclare(d) => of_exchange_declare(d),
-        Method::QueueDeclare(d) => of_queue_declare(d),
-        Method::QueueDeclareOk(d) => of_queue_declared(d),
-        Method::QueuePurge(p) => of_purge(p),
-        Method::QueuePurgeOk { message_count } => one(Piece::Long(*message_count)),
-        Method::BasicQos(q) => of_qos(q),
-        Method::BasicConsume(c) => of_consume(c),
-        Method::BasicConsumeOk { consumer_tag } => one(Piece::ShortText(consumer_tag.as_bytes())),
-        Method::BasicCancel(c) => of_cancel(c),
-        Method::BasicCancelOk { consumer_tag } => one(Piece::ShortText(consumer_tag.as_bytes())),
-        Method::BasicPublish(p) => of_publish(p),
-        Method::BasicReturn(r) => of_return(r),
-        Method::BasicDeliver(d) => of_deliver(d),
-        Method::BasicGet(g) => of_get(g),
-        Method::BasicGetOk(g) => of_get_ok(g),
-        Method::BasicGetEmpty { reserved } => one(Piece::ShortText(reserved.as_bytes())),
-        Method::BasicAck(a) => of_ack(a),
-        Method::BasicReject(r) => of_reject(r),
-        Method::BasicRecover { requeue } => one(Piece::Bit(*requeue)),
-        Method::BasicNack(n) => of_nack(n),
-        Method::ConfirmSelect { no_wait } => one(Piece::Bit(*no_wait)),
+        Method::ConnectionStart(s) => pieces!(
+            Octet(s.version_major),
+            Octet(s.version_minor),
+            Table(s.server_properties.as_bytes()),
+            LongText(s.mechanisms.as_bytes()),
+            LongText(s.locales.as_bytes())
+        ),
+        Method::ConnectionStartOk(s) => pieces!(
+            Table(s.client_properties.as_bytes()),
+            ShortText(s.mechanism.as_bytes()),
+            LongText(s.response.as_bytes()),
+            ShortText(s.locale.as_bytes())
+        ),
+        Method::ConnectionTune(t) | Method::ConnectionTuneOk(t) => pieces!(
+            Short(t.channel_max),
+            Long(t.frame_max),
+            Short(t.heartbeat)
+        ),
+        Method::ConnectionOpen(o) => pieces!(
+            ShortText(o.virtual_host.as_bytes()),
+            ShortText(o.reserved_text.as_bytes()),
+            Bit(o.reserved_bit)
+        ),
+        Method::ConnectionOpenOk { reserved } => pieces!(ShortText(reserved.as_bytes())),
+        Method::ConnectionClose(c) | Method::ChannelClose(c) => {
+            pieces!(
+                Short(c.reply_code),
+                ShortText(c.reply_text.as_bytes()),
+                Short(c.class_id),
+                Short(c.method_id)
+            )
+        }
+        Method::ChannelOpen { reserved } => pieces!(ShortText(reserved.as_bytes())),
+        Method::ChannelOpenOk { reserved } => pieces!(LongText(reserved.as_bytes())),
+        Method::ChannelFlow { active } | Method::ChannelFlowOk { active } => pieces!(Bit(*active)),
+        Method::ExchangeDeclare(e) => pieces!(
+            Short(e.reserved),
+            ShortText(e.exchange.as_bytes()),
+            ShortText(e.kind.as_bytes()),
+            FiveBits(e.passive, e.durable, e.auto_delete, e.internal, e.no_wait),
+            Table(e.arguments.as_bytes())
+        ),
+        Method::QueueDeclare(q) => pieces!(
+            Short(q.reserved),
+            ShortText(q.queue.as_bytes()),
+            FiveBits(q.passive, q.durable, q.exclusive, q.auto_delete, q.no_wait),
+            Table(q.arguments.as_bytes())
+        ),
+        Method::QueueDeclareOk(q) => pieces!(
+            ShortText(q.queue.as_bytes()),
+            Long(q.message_count),
+            Long(q.consumer_count)
+        ),
+        Method::QueuePurge(p) => pieces!(
+            Short(p.reserved),
+            ShortText(p.queue.as_bytes()),
+            Bit(p.no_wait)
+        ),
+        Method::QueuePurgeOk { message_count } => pieces!(Long(*message_count)),
+        Method::BasicQos(q) => pieces!(
+            Long(q.prefetch_size),
+            Short(q.prefetch_count),
+            Bit(q.global)
+        ),
+        Method::BasicConsume(c) => pieces!(
+            Short(c.reserved),
+            ShortText(c.queue.as_bytes()),
+            ShortText(c.consumer_tag.as_bytes()),
+            FourBits(c.no_local, c.no_ack, c.exclusive, c.no_wait),
+            Table(c.arguments.as_bytes())
+        ),
+        Method::BasicConsumeOk { consumer_tag } => pieces!(ShortText(consumer_tag.as_bytes())),
+        Method::BasicCancel(c) => pieces!(ShortText(c.consumer_tag.as_bytes()), Bit(c.no_wait)),
+        Method::BasicCancelOk { consumer_tag } => pieces!(ShortText(consumer_tag.as_bytes())),
+        Method::BasicPublish(p) => pieces!(
+            Short(p.reserved),
+            ShortText(p.exchange.as_bytes()),
+            ShortText(p.routing_key.as_bytes()),
+            TwoBits(p.mandatory, p.immediate)
+        ),
+        Method::BasicReturn(r) => pieces!(
+            Short(r.reply_code),
+            ShortText(r.reply_text.as_bytes()),
+            ShortText(r.exchange.as_bytes()),
+            ShortText(r.routing_key.as_bytes())
+        ),
+        Method::BasicDeliver(d) => pieces!(
+            ShortText(d.consumer_tag.as_bytes()),
+            LongLong(d.delivery_tag),
+            Bit(d.redelivered),
+            ShortText(d.exchange.as_bytes()),
+            ShortText(d.routing_key.as_bytes())
+        ),
+        Method::BasicGet(g) => pieces!(
+            Short(g.reserved),
+            ShortText(g.queue.as_bytes()),
+            Bit(g.no_ack)
+        ),
+        Method::BasicGetOk(g) => pieces!(
+            LongLong(g.delivery_tag),
+            Bit(g.redelivered),
+            ShortText(g.exchange.as_bytes()),
+            ShortText(g.routing_key.as_bytes()),
+            Long(g.message_count)
+        ),
+        Method::BasicGetEmpty { reserved } => pieces!(ShortText(reserved.as_bytes())),
+        Method::BasicAck(a) => pieces!(LongLong(a.delivery_tag), Bit(a.multiple)),
+        Method::BasicReject(r) => pieces!(LongLong(r.delivery_tag), Bit(r.requeue)),
+        Method::BasicRecover { requeue } => pieces!(Bit(*requeue)),
+        Method::BasicNack(n) => pieces!(LongLong(n.delivery_tag), TwoBits(n.multiple, n.requeue)),
+        Method::ConfirmSelect { no_wait } => pieces!(Bit(*no_wait)),
         _ => NOTHING,
-    }
-}
-
-/// Returns a list of one argument.
-fn one(first: Piece<'_>) -> Pieces<'_>
-    ensures { result ≡ record { first = first.entry; second = Nothing; third = Nothing; fourth = Nothing; fifth = Nothing } }
-{
-    Pieces { first, ..NOTHING }
-}
-
-fn of_start(s: &Start) -> Pieces<'_>
-    ensures { given result ≡ arguments (method.ConnectionStart s.now) }
-{
-    Pieces {
-        first: Piece::Octet(s.version_major),
-        second: Piece::Octet(s.version_minor),
-        third: Piece::Table(s.server_properties.as_bytes()),
-        fourth: Piece::LongText(s.mechanisms.as_bytes()),
-        fifth: Piece::LongText(s.locales.as_bytes()),
-    }
-}
-
-fn of_start_ok(s: &StartOk) -> Pieces<'_>
-    ensures { given result ≡ arguments (method.ConnectionStartOk s.now) }
-{
-    Pieces {
-        first: Piece::Table(s.client_properties.as_bytes()),
-        second: Piece::ShortText(s.mechanism.as_bytes()),
-        third: Piece::LongText(s.response.as_bytes()),
-        fourth: Piece::ShortText(s.locale.as_bytes()),
-        ..NOTHING
-    }
-}
-
-fn of_tuning(t: &Tuning) -> Pieces<'_>
-    ensures { given result ≡ arguments (method.ConnectionTune t.now) }
-{
-    Pieces {
-        first: Piece::Short(t.channel_max),
-        second: Piece::Long(t.frame_max),
-        third: Piece::Short(t.heartbeat),
-        ..NOTHING
-    }
-}
-
-fn of_open(o: &Open) -> Pieces<'_>
-    ensures { given result ≡ arguments (method.ConnectionOpen o.now) }
-{
-    Pieces {
-        first: Piece::ShortText(o.virtual_host.as_bytes()),
-        second: Piece::ShortText(o.reserved_text.as_bytes()),
-        third: Piece::Bit(o.reserved_bit),
-        ..NOTHING
-    }
-}
-
-fn of_close(c: &Close) -> Pieces<'_>
-    ensures { given result ≡ arguments (method.ConnectionClose c.now) }
-{
-    Pieces {
-        first: Piece::Short(c.reply_code),
-        second: Piece::ShortText(c.reply_text.as_bytes()),
-        third: Piece::Short(c.class_id),
-        fourth: Piece::Short(c.method_id),
-        ..NOTHING
-    }
-}
-
-fn of_exchange_declare(e: &model::ExchangeDeclare) -> Pieces<'_>
-    ensures { given result ≡ arguments (method.ExchangeDeclare e.now) }
-{
-    Pieces {
-        first: Piece::Short(e.reserved),
-        second: Piece::ShortText(e.exchange.as_bytes()),
-        third: Piece::ShortText(e.kind.as_bytes()),
-        fourth: Piece::FiveBits(e.passive, e.durable, e.auto_delete, e.internal, e.no_wait),
-        fifth: Piece::Table(e.arguments.as_bytes()),
-    }
-}
-
-fn of_queue_declare(q: &model::QueueDeclare) -> Pieces<'_>
-    ensures { given result ≡ arguments (method.QueueDeclare q.now) }
-{
-    Pieces {
-        first: Piece::Short(q.reserved),
-        second: Piece::ShortText(q.queue.as_bytes()),
-        third: Piece::FiveBits(q.passive, q.durable, q.exclusive, q.auto_delete, q.no_wait),
-        fourth: Piece::Table(q.arguments.as_bytes()),
-        ..NOTHING
-    }
-}
-
-fn of_queue_declared(q: &QueueDeclared) -> Pieces<'_>
-    ensures { given result ≡ arguments (method.QueueDeclareOk q.now) }
-{
-    Pieces {
-        first: Piece::ShortText(q.queue.as_bytes()),
-        second: Piece::Long(q.message_count),
-        third: Piece::Long(q.consumer_count),
-        ..NOTHING
-    }
-}
-
-fn of_purge(p: &Purge) -> Pieces<'_>
-    ensures { given result ≡ arguments (method.QueuePurge p.now) }
-{
-    Pieces {
-        first: Piece::Short(p.reserved),
-        second: Piece::ShortText(p.queue.as_bytes()),
-        third: Piece::Bit(p.no_wait),
-        ..NOTHING
-    }
-}
-
-fn of_qos(q: &Qos) -> Pieces<'_>
-    ensures { given result ≡ arguments (method.BasicQos q.now) }
-{
-    Pieces {
-        first: Piece::Long(q.prefetch_size),
-        second: Piece::Short(q.prefetch_count),
-        third: Piece::Bit(q.global),
-        ..NOTHING
-    }
-}
-
-fn of_consume(c: &Consume) -> Pieces<'_>
-    ensures { given result ≡ arguments (method.BasicConsume c.now) }
-{
-    Pieces {
-        first: Piece::Short(c.reserved),
-        second: Piece::ShortText(c.queue.as_bytes()),
-        third: Piece::ShortText(c.consumer_tag.as_bytes()),
-        fourth: Piece::FourBits(c.no_local, c.no_ack, c.exclusive, c.no_wait),
-        fifth: Piece::Table(c.arguments.as_bytes()),
-    }
-}
-
-fn of_cancel(c: &Cancel) -> Pieces<'_>
-    ensures { given result ≡ arguments (method.BasicCancel c.now) }
-{
-    Pieces {
-        first: Piece::ShortText(c.consumer_tag.as_bytes()),
-        second: Piece::Bit(c.no_wait),
-        ..NOTHING
-    }
-}
-
-fn of_publish(p: &Publish) -> Pieces<'_>
-    ensures { given result ≡ arguments (method.BasicPublish p.now) }
-{
-    Pieces {
-        first: Piece::Short(p.reserved),
-        second: Piece::ShortText(p.exchange.as_bytes()),
-        third: Piece::ShortText(p.routing_key.as_bytes()),
-        fourth: Piece::TwoBits(p.mandatory, p.immediate),
-        ..NOTHING
-    }
-}
-
-fn of_return(r: &Return) -> Pieces<'_>
-    ensures { given result ≡ arguments (method.BasicReturn r.now) }
-{
-    Pieces {
-        first: Piece::Short(r.reply_code),
-        second: Piece::ShortText(r.reply_text.as_bytes()),
-        third: Piece::ShortText(r.exchange.as_bytes()),
-        fourth: Piece::ShortText(r.routing_key.as_bytes()),
-        ..NOTHING
-    }
-}
-
-fn of_deliver(d: &Deliver) -> Pieces<'_>
-    ensures { given result ≡ arguments (method.BasicDeliver d.now) }
-{
-    Pieces {
-        first: Piece::ShortText(d.consumer_tag.as_bytes()),
-        second: Piece::LongLong(d.delivery_tag),
-        third: Piece::Bit(d.redelivered),
-        fourth: Piece::ShortText(d.exchange.as_bytes()),
-        fifth: Piece::ShortText(d.routing_key.as_bytes()),
-    }
-}
-
-fn of_get(g: &Get) -> Pieces<'_>
-    ensures { given result ≡ arguments (method.BasicGet g.now) }
-{
-    Pieces {
-        first: Piece::Short(g.reserved),
-        second: Piece::ShortText(g.queue.as_bytes()),
-        third: Piece::Bit(g.no_ack),
-        ..NOTHING
-    }
-}
-
-fn of_get_ok(g: &GetOk) -> Pieces<'_>
-    ensures { given result ≡ arguments (method.BasicGetOk g.now) }
-{
-    Pieces {
-        first: Piece::LongLong(g.delivery_tag),
-        second: Piece::Bit(g.redelivered),
-        third: Piece::ShortText(g.exchange.as_bytes()),
-        fourth: Piece::ShortText(g.routing_key.as_bytes()),
-        fifth: Piece::Long(g.message_count),
-    }
-}
-
-fn of_ack(a: &Ack) -> Pieces<'_>
-    ensures { given result ≡ arguments (method.BasicAck a.now) }
-{
-    Pieces {
-        first: Piece::LongLong(a.delivery_tag),
-        second: Piece::Bit(a.multiple),
-        ..NOTHING
-    }
-}
-
-fn of_reject(r: &Reject) -> Pieces<'_>
-    ensures { given result ≡ arguments (method.BasicReject r.now) }
-{
-    Pieces {
-        first: Piece::LongLong(r.delivery_tag),
-        second: Piece::Bit(r.requeue),
-        ..NOTHING
-    }
-}
-
-fn of_nack(n: &Nack) -> Pieces<'_>
-    ensures { given result ≡ arguments (method.BasicNack n.now) }
-{
-    Pieces {
-        first: Piece::LongLong(n.delivery_tag),
-        second: Piece::TwoBits(n.multiple, n.requeue),
-        ..NOTHING
     }
 }

@@ -1,7 +1,8 @@
 //! Writes certificates to a file, and checks what is reported of that file.
 
+use crate::disk::{read_bytes, words_of};
 use certificate::{Certificate, Draft, Form, Unwritten};
-use model::{Text, limits};
+use model::Text;
 use scenario_parts::files::{CERTIFICATES, DEFINITIONS, GUARANTEES};
 use scenario_parts::{Unmet, expect, expect_bytes, expect_number, value_of};
 use server::{Files, NotWritten, Unread, program};
@@ -36,11 +37,7 @@ impl Files for OpenDisk {
         let Some(bytes) = self.bytes(name) else {
             return Err(Unread::Failed);
         };
-        match Vec::from_slice(alloc, bytes) {
-            Ok(bytes) if bytes.len() <= limits::FILE_BYTES => Ok(bytes),
-            Ok(_) => Err(Unread::TooLong),
-            Err(_) => Err(Unread::Memory),
-        }
+        read_bytes(Vec::from_slice(alloc, bytes))
     }
 
     fn write(&mut self, name: &str, bytes: &[u8]) -> Result<(), NotWritten> {
@@ -56,16 +53,17 @@ impl Files for OpenDisk {
     }
 }
 
-/// Checks that the program, run with `words`, prints `printed` and no complaint, with status 0.
+/// Checks that the program, run by the command line `line`, prints `printed` and no complaint, with status 0.
 fn expect_printed(
     alloc: Global,
     disk: &mut OpenDisk,
-    words: &[&'static str],
+    line: &str,
     printed: &[u8],
 ) -> Result<(), Unmet> {
+    let words = words_of(alloc, line)?;
     let mut out: Vec<u8> = Vec::new(alloc);
     let mut err: Vec<u8> = Vec::new(alloc);
-    let status = program(alloc, words, disk, &mut out, &mut err);
+    let status = program(alloc, words.as_slice(), disk, &mut out, &mut err);
     expect_number("the status", u64::from(status), 0)?;
     expect("there is no complaint", err.is_empty())?;
     expect_bytes("the output", out.as_slice(), printed)
@@ -77,25 +75,12 @@ pub(crate) fn certificates_that_are_written_are_accepted(alloc: Global) -> Resul
         written: None,
         alloc,
     };
-    let check = [
-        "warren",
-        "check",
-        "definitions",
-        "guarantees",
-        "--out",
-        "certificates",
-    ];
-    expect_printed(alloc, &mut disk, check.as_slice(), b"1 yes states 5\n")?;
+    let check = "warren check definitions guarantees --out certificates";
+    expect_printed(alloc, &mut disk, check, b"1 yes states 5\n")?;
     let written = value_of("the file", disk.bytes("certificates").ok_or(NotWritten))?;
     expect_bytes("the file", written, CERTIFICATES)?;
-    let verify = [
-        "warren",
-        "verify",
-        "definitions",
-        "guarantees",
-        "certificates",
-    ];
-    expect_printed(alloc, &mut disk, verify.as_slice(), b"1 ok\n")
+    let verify = "warren verify definitions guarantees certificates";
+    expect_printed(alloc, &mut disk, verify, b"1 ok\n")
 }
 
 /// The number of states of the large certificate.

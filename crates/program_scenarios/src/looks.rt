@@ -2,11 +2,12 @@
 
 ghost use Rattle.std.specs.Prelude.{⊤};
 
+use crate::disk::{read_bytes, words_of};
 use memory_wire::{Client, MemoryWire};
-use model::limits;
 use reload_loop::program_with_sockets;
 use scenario_parts::{
-    Closed, MESSAGE, OPENED, OPENING, Unmet, expect, expect_bytes, expect_number, joined, value_of,
+    Closed, GET_EMPTY, MESSAGE, OPENED, OPENING, Unmet, expect, expect_bytes, expect_number,
+    joined, memory_client, value_of,
 };
 use server::{Files, Listener, Listening, NotWritten, Unread};
 use std::alloc::{AllocError, Global};
@@ -153,11 +154,7 @@ impl Files for Replaced {
     ghost holds = { λ _ _. Unknown };
 
     fn read(&mut self, alloc: Global, name: &str) -> Result<Vec<u8>, Unread> {
-        match self.text(alloc, name) {
-            Ok(bytes) if bytes.len() <= limits::FILE_BYTES => Ok(bytes),
-            Ok(_) => Err(Unread::TooLong),
-            Err(_) => Err(Unread::Memory),
-        }
+        read_bytes(self.text(alloc, name))
     }
 
     fn write(&mut self, _name: &str, _bytes: &[u8]) -> Result<(), NotWritten> {
@@ -195,19 +192,8 @@ impl Listener for InMemory {
 }
 
 /// The words that ask to serve fourteen rounds, with a look at the files after every second one but the last.
-const WORDS: [&str; 11] = [
-    "warren",
-    "serve",
-    "definitions",
-    "guarantees",
-    "certificates",
-    "--listen",
-    "here",
-    "--turns",
-    "14",
-    "--reload",
-    "2",
-];
+const WORDS: &str =
+    "warren serve definitions guarantees certificates --listen here --turns 14 --reload 2";
 
 /// The number of reads of the definitions if the first of six looks finds other files: one at the start, one at each look to compare them
 /// with those in force, and one more if they differ.
@@ -227,9 +213,6 @@ const GOT: &[u8] = b"\x01\x00\x01\x00\x00\x00\x1c\x00\x3c\x00\x47";
 const BEHIND_TAG: &[u8] =
     b"\x00\x06orders\x03new\x00\x00\x00\x00\xce\x02\x00\x01\x00\x00\x00\x0e\x00\x3c\x00\x00\x00\x00\x00\x00\x00\x00\x00\x02\x00\x00\xce\x03\x00\x01\x00\x00\x00\x02hi\xce";
 
-/// get-empty.
-const EMPTY: &[u8] = b"\x01\x00\x01\x00\x00\x00\x05\x00\x3c\x00\x48\x00\xce";
-
 /// Returns a client that opens in the first round, and publishes and gets from both queues in each later one.
 /// It writes as many bytes in each round as an opening has, so that one read returns those of one round.
 fn client(alloc: Global) -> Result<Client, Unmet> {
@@ -246,31 +229,26 @@ fn client(alloc: Global) -> Result<Client, Unmet> {
             input.extend_from_slice(turn.as_slice()),
         )?;
     }
-    Ok(Client {
-        input,
-        read: 0,
-        piece: OPENING.len(),
-        window: usize::MAX,
-    })
+    Ok(memory_client(input, OPENING.len(), usize::MAX))
 }
 
 /// Returns a wire with this client alone.
 fn wire(alloc: Global) -> Result<MemoryWire, Unmet> {
-    let mut clients = Vec::new(alloc);
-    value_of("push", clients.push(client(alloc)?))?;
+    let client = client(alloc)?;
+    let clients = value_of("vec", vec![in alloc; client])?;
     Ok(MemoryWire::new(alloc, clients))
 }
 
 /// Appends the replies to the gets of a round: one gets the message with delivery tag `tag`, the other nothing.
 fn add_gets(answer: &mut Vec<u8>, tag: u64, is_old: bool) -> Result<(), AllocError> {
     if !is_old {
-        answer.extend_from_slice(EMPTY)?;
+        answer.extend_from_slice(GET_EMPTY)?;
     }
     answer.extend_from_slice(GOT)?;
     answer.extend_from_slice(tag.to_be_bytes().as_slice())?;
     answer.extend_from_slice(BEHIND_TAG)?;
     if is_old {
-        answer.extend_from_slice(EMPTY)?;
+        answer.extend_from_slice(GET_EMPTY)?;
     }
     Ok(())
 }
@@ -298,9 +276,10 @@ fn serve_over<E: Write>(
     };
     let mut files = Replaced { versions, reads: 0 };
     let mut out: Vec<u8> = Vec::new(alloc);
+    let words = words_of(alloc, WORDS)?;
     let ended = program_with_sockets(
         alloc,
-        WORDS.as_slice(),
+        words.as_slice(),
         &mut listener,
         &mut files,
         &mut out,

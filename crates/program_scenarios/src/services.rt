@@ -2,7 +2,7 @@
 
 ghost use Rattle.std.specs.Prelude.{⊤};
 
-use crate::disk::ScenarioDisk;
+use crate::disk::{ScenarioDisk, words_of};
 use reload_loop::program_with_sockets;
 use scenario_parts::{
     Closed, Unmet, Watched, expect, expect_bytes, expect_number, expect_opened_and_acked,
@@ -51,26 +51,6 @@ impl<N: Net> Listener for Visited<N> {
     }
 }
 
-/// Returns the words that ask to serve the file `definitions` at `address`, for 16 rounds.
-fn words(alloc: Global, definitions: &str, address: &str) -> Result<Vec<String>, Unmet> {
-    let mut words = Vec::new(alloc);
-    for word in [
-        "warren",
-        "serve",
-        definitions,
-        "guarantees",
-        "certificates",
-        "--listen",
-        address,
-        "--turns",
-        "16",
-    ] {
-        let word = value_of("String::from_str", String::from_str(alloc, word))?;
-        value_of("Vec::push", words.push(word))?;
-    }
-    Ok(words)
-}
-
 /// An address of this machine with a free port.
 const FREE: &str = "127.0.0.1:0";
 
@@ -82,7 +62,7 @@ struct ServeOutcome<N: Net> {
     err: Vec<u8>,
 }
 
-/// Calls the program to serve the file `definitions` at `address`.
+/// Calls the program to serve the file `definitions` at `address`, for 16 rounds.
 fn serve<'a, N: Net, O: Write>(
     net: &'a N,
     alloc: Global,
@@ -97,7 +77,13 @@ fn serve<'a, N: Net, O: Write>(
     };
     let mut disk = ScenarioDisk { script: b"[" };
     let mut err: Vec<u8> = Vec::new(alloc);
-    let words = words(alloc, definitions, address)?;
+    let line = value_of(
+        "format",
+        format!(in alloc;
+            "warren serve {definitions} guarantees certificates --listen {address} --turns 16"
+        ),
+    )?;
+    let words = words_of(alloc, line.as_str())?;
     let ended = program_with_sockets(
         alloc,
         words.as_slice(),

@@ -1,9 +1,9 @@
 -- The calls of a queue in blocks.
-use Rattle.queue.proofs.Names.{◌≡◌, ℕ, ◌+◌, ◌-◌, ◌<◌, ◌≤◌, List, [], get_or, map, filter, sym, ap, ◌∙◌, subst, arith, Bool, true, Option, Some, None, find, is_some, false≢true, is_ready, body_bytes, freed, is_under, is_held_as, held_as, freed_now, change_first, without_first, Entry, Holder, requeued, joined, some_pass, size_of, IsCounted}
+use Rattle.queue.proofs.Names.{◌≡◌, ℕ, ◌+◌, ◌-◌, ◌<◌, ◌≤◌, List, [], length, get_or, map, filter, sym, ap, ◌∙◌, subst, arith, Bool, true, Option, Some, None, find, is_some, false≢true, is_ready, body_bytes, freed, is_under, is_held_as, held_as, freed_now, change_first, without_first, Entry, Holder, requeued, rules, vec_len, Stretch, parts, joined, some_pass, size_of, IsCounted, Vec}
 use Rattle.std.proofs.Common.{not}
 use Rattle.std.proofs.Math.ListN.{set}
-use Rattle.queue.proofs.Joined.{FirstIn, joined_found, joined_changed, joined_without, joined_none, nowhere_in, only_in, part_once, once_left_out, none_changed_in, none_without_in}
-use Rattle.queue.proofs.Slotted.{not_found}
+use Rattle.queue.proofs.Joined.{FirstIn, first_within, joined_found, joined_changed, joined_without, joined_none, nowhere_in, only_in, part_once, once_left_out, none_changed_in, none_without_in, not_found}
+use Rattle.queue.proofs.Signed.{parts-length}
 use Rattle.queue.proofs.Counts.{hold_counted, take_counted, remove_counted, release_counted, ready_least, held_least, freed_once}
 
 -- ---- what is found, or isn't
@@ -54,6 +54,14 @@ take_now ps now ready live bytes size i c f e s =
 -- nothing is held under this tag in any block
 pub free_there : (ps : List (List Entry)) (i : ℕ) (holder : Holder) → find (is_held_as holder) (joined ps) ≡ None → find (is_held_as holder) (get_or ps i []) ≡ None
 free_there ps i holder e = nowhere_in (is_held_as holder) ps i (not_found (is_held_as holder) (joined ps) e)
+
+-- a block with a message that passes is in the list
+pub block_within : (p : Entry → Bool) (blocks : Vec Stretch) (i : ℕ) → some_pass p (get_or (parts blocks.items) i []) ≡ true → i < vec_len blocks
+block_within p blocks i some =
+    let lt = first_within p (parts blocks.items) i some in
+    let n = parts-length blocks.items in
+    let l : vec_len blocks ≡ length blocks.items = search rules in
+    omega (arith, lt)
 
 -- ---- what is held under a tag
 
@@ -118,20 +126,16 @@ remove_now ps now ready live bytes i holder c h e =
 
 -- ---- nothing is found
 
--- No block has one that passes.
-pub record NoneIn {X : Type 0} (p : X → Bool) (ps : List (List X)) : Type 0 where
-  pub no : (k : ℕ) → find p (get_or ps k []) ≡ None
+pub nothing_found : {X : Type 0} (p : X → Bool) (ps : List (List X)) → ((k : ℕ) → find p (get_or ps k []) ≡ None) → find p (joined ps) ≡ None
+nothing_found p ps n = joined_none p ps (λ k. ap is_some (n k))
 
-pub nothing_found : {X : Type 0} (p : X → Bool) (ps : List (List X)) → NoneIn p ps → find p (joined ps) ≡ None
-nothing_found p ps n = joined_none p ps (λ k. ap is_some (n.no k))
-
-pub nothing_freed : (ps : List (List Entry)) (holder : Holder) → NoneIn (is_held_as holder) ps → requeued (is_under holder) (joined ps) ≡ joined ps
+pub nothing_freed : (ps : List (List Entry)) (holder : Holder) → ((k : ℕ) → find (is_held_as holder) (get_or ps k []) ≡ None) → requeued (is_under holder) (joined ps) ≡ joined ps
 nothing_freed ps holder n =
     let none = nothing_found (is_held_as holder) ps n in
     freed_once (joined ps) holder (let z = not_found (is_held_as holder) (joined ps) none in omega arith)
     ∙ none_changed_in (is_held_as holder) freed_now (joined ps) none
 
-pub nothing_left_out : (ps : List (List Entry)) (holder : Holder) → NoneIn (is_held_as holder) ps → filter (λ e. not (is_held_as holder e)) (joined ps) ≡ joined ps
+pub nothing_left_out : (ps : List (List Entry)) (holder : Holder) → ((k : ℕ) → find (is_held_as holder) (get_or ps k []) ≡ None) → filter (λ e. not (is_held_as holder e)) (joined ps) ≡ joined ps
 nothing_left_out ps holder n =
     let none = nothing_found (is_held_as holder) ps n in
     once_left_out (is_held_as holder) (joined ps) (let z = not_found (is_held_as holder) (joined ps) none in omega arith)

@@ -2,8 +2,8 @@
 use Rattle.queue.proofs.Names.{◌≡◌, ℕ, suc, ◌+◌, ◌*◌, ◌<◌, ◌≤◌, List, [], ◌∷◌, ◌++◌, length, map, filter, refl, sym, ap, ◌∙◌, subst, arith, Bool, true, false, cond, Option, Some, None, find, is_some, false≢true, le-ltb, ltb-false, is_ready, body_bytes, freed, is_under, is_held_as, held_as, freed_now, change_first, without_first, Entry, Message, Holder, Ready, num, tally, some_pass, total, ready_size, is_long, IsCounted}
 use Rattle.std.proofs.Common.{not}
 use Rattle.queue.proofs.Places.{tally-most}
-use Rattle.queue.proofs.Joined.{once_mapped, once_left_out}
-use Rattle.queue.proofs.Slotted.{held_not_ready, freed_there, freed_same, same_held, same_count, not_found}
+use Rattle.queue.proofs.Joined.{not_found, once_mapped, once_left_out}
+use Rattle.queue.proofs.Slotted.{held_not_ready, freed_there, freed_same, same_held, same_count}
 
 -- ---- sums
 

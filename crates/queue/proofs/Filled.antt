@@ -1,8 +1,6 @@
 -- Blocks that need the slots they keep.
-use Rattle.queue.proofs.Names.{◌≡◌, ℕ, zero, suc, ◌+◌, ◌-◌, ◌*◌, ◌<◌, ◌≤◌, List, [], ◌∷◌, ◌++◌, length, get_or, map, filter, refl, sym, ap, ◌∙◌, subst, arith, Bool, true, false, cond, inl, inr, nat_lt, ◌||◌, ◌⊎◌, ltb-false, eqb_tells, leb_tells, get_or-set_same, get_or-set_other, length-set, length-append, survived_now, Stretch, parts, joined, is_in_use, survived_block, no_stretch, block_at, slots_of, AreFilled, AreFilledBut, IsFilled, IsHeld, IsBounded, NeedBoth, NeedBothAt, IsSpent, IsNotSpent, AreNeeded, AreJoined, AreWhole, HasRoom, LastIsShort, last_room}
+use Rattle.queue.proofs.Names.{◌≡◌, ℕ, zero, suc, ◌+◌, ◌-◌, ◌*◌, ◌<◌, ◌≤◌, List, [], ◌∷◌, ◌++◌, length, get_or, map, filter, refl, sym, ap, ◌∙◌, subst, arith, Bool, true, false, cond, inl, inr, nat_lt, ◌||◌, ◌⊎◌, ltb-false, eqb_tells, leb_tells, get_or-set_same, get_or-set_other, length-set, length-append, survived_now, Stretch, parts, joined, is_in_use, survived_block, no_stretch, block_at, slots_of, AreFilled, AreFilledBut, IsFilled, IsHeld, IsBounded, NeedBoth, NeedBothAt, IsNotSpent, AreNeeded, AreJoined, AreWhole, HasRoom, LastIsShort, get_or_append_left, get_or_default, length-map, Vec, vec_len, rules}
 use Rattle.std.proofs.Math.ListN.{set}
-use Rattle.queue.proofs.Signed.{at_default}
-use Rattle.queue.proofs.Stood.{length-mapped}
 
 -- how many messages stand in the block at this place
 abbrev live : List Stretch → ℕ → ℕ
@@ -26,7 +24,7 @@ need_at bs i j e n = subst (λ (k : ℕ). NeedBothAt bs k) e n
 -- ---- one block is changed
 
 pub at_block : (bs : List Stretch) (i : ℕ) (d : Stretch) → i < length bs → d ≡ get_or bs i d → d ≡ block_at bs i
-at_block bs i d lt at = at ∙ at_default bs i d no_stretch lt
+at_block bs i d lt at = at ∙ get_or_default bs i d no_stretch lt
 
 pub there : (bs : List Stretch) (i j : ℕ) (b : Stretch) → i < length bs → j ≡ i → block_at (set bs i b) j ≡ b
 there bs i j b lt e = same_at (set bs i b) j i e ∙ get_or-set_same bs i b no_stretch lt
@@ -71,9 +69,6 @@ alike_set bs i d b lt at same many = record {
   ];
 }
 
-pub filled_kept : (most : ℕ) (bs : List Stretch) (i : ℕ) (d b : Stretch) → i < length bs → d ≡ get_or bs i d → b.slots ≡ d.slots → length b.entries ≡ length d.entries → AreFilled most bs → AreFilled most (set bs i b)
-filled_kept most bs i d b lt at same many f = filled_alike most bs (set bs i b) (alike_set bs i d b lt at same many) f
-
 -- the last one is short where it was
 pub short_alike : (bs cs : List Stretch) → AreAlike bs cs → LastIsShort bs → LastIsShort cs
 short_alike bs cs a s i last none =
@@ -82,9 +77,6 @@ short_alike bs cs a s i last none =
     let v = a.live i in
     let h = s i (omega (arith, n, last)) (omega (arith, v, none)) in
     omega (arith, e, h)
-
-pub short_kept : (bs : List Stretch) (i : ℕ) (d b : Stretch) → i < length bs → d ≡ get_or bs i d → b.slots ≡ d.slots → length b.entries ≡ length d.entries → LastIsShort bs → LastIsShort (set bs i b)
-short_kept bs i d b lt at same many s = short_alike bs (set bs i b) (alike_set bs i d b lt at same many) s
 
 -- a last one that holds a message needs none of it
 pub short_held : (bs : List Stretch) (i : ℕ) (b : Stretch) → i + 1 ≡ length bs → IsHeld b → LastIsShort (set bs i b)
@@ -317,9 +309,7 @@ narrow_end most (x ∷ xs) b le n zero = n 0
 narrow_end most (x ∷ xs) b le n (suc i) = narrow_end most xs b le (λ j. n (suc j)) i
 
 at_front : (bs : List Stretch) (b : Stretch) (i : ℕ) → i < length bs → block_at (bs ++ b ∷ []) i ≡ block_at bs i
-at_front [] b i lt = absurd (omega arith)
-at_front (x ∷ xs) b zero lt = refl
-at_front (x ∷ xs) b (suc i) lt = at_front xs b i (omega arith)
+at_front bs b i lt = get_or_append_left bs (b ∷ []) no_stretch i lt
 
 -- what was the last may not be needed
 pub but_end : (most : ℕ) (bs : List Stretch) (b : Stretch) (i : ℕ) → i ≡ length bs - 1 → b.slots ≤ most → AreFilled most bs → AreFilledBut i most (bs ++ b ∷ [])
@@ -389,9 +379,9 @@ stood_at (b ∷ bs) (suc i) = stood_at bs i
 
 pub stood_alike : (bs : List Stretch) → AreAlike bs (map survived_block bs)
 stood_alike bs = record {
-  len = length-mapped survived_block bs;
+  len = length-map bs survived_block;
   slots = λ i. slots_at _ _ (stood_at bs i);
-  live = λ i. live_at _ _ (stood_at bs i) ∙ length-mapped survived_now (block_at bs i).entries;
+  live = λ i. live_at _ _ (stood_at bs i) ∙ length-map (block_at bs i).entries survived_now;
 }
 
 -- ---- all of them
@@ -427,12 +417,14 @@ slots-spare : (bs : List Stretch) → AreWhole bs → slots_of bs ≡ length bs 
 slots-spare [] w = refl
 slots-spare (b ∷ bs) w = let s = (w 0 b (omega arith)).slots in let r = slots-spare bs (λ i d lt. w (suc i) d (omega (arith, lt))) in omega (arith, s, r)
 
-pub bounded : (room live count : ℕ) (bs spares : List Stretch) → count ≡ length spares → AreFilled 1024 bs → (room ≡ 0 → LastIsShort bs) → AreWhole spares → HasRoom room (last_room bs) count live → IsBounded room bs spares
-bounded room live count bs spares len f short w has = record {
-  filled = f;
-  short = short;
-  few = (let n = few 1024 bs f in let s = slots-spare spares w in elim (leb_tells 1 count) [
-    | inl p ↦ let q = p.1 in let h = has.needed (omega (arith, q)) in omega (arith, n, s, h, len)
-    | inr p ↦ let z = p.1 in omega (arith, n, s, z, len)
-  ]);
-}
+pub bounded : (room live : ℕ) (bs : List Stretch) (spares : Vec Stretch) → AreFilled 1024 bs → AreWhole spares.items → HasRoom room bs (vec_len spares) → room + live ≤ 18446744073709551615
+    → IsBounded room live bs spares.items
+bounded room live bs spares f w has fits =
+    let len : vec_len spares ≡ length spares.items = search rules in record {
+      filled = f;
+      few = (let n = few 1024 bs f in let s = slots-spare spares.items w in elim (leb_tells 1 (vec_len spares)) [
+        | inl p ↦ let q = p.1 in let h = has.needed (omega (arith, q)) in omega (arith, n, s, h, len)
+        | inr p ↦ let z = p.1 in omega (arith, n, s, z, len)
+      ]);
+      fits = fits;
+    }

@@ -77,6 +77,14 @@ none_pass p (x ∷ xs) e = go (p x) (none_pass p xs) e
     go true r e = absurd (omega arith)
     go false r e = r (omega arith)
 
+pub not_found : {X : Type 0} (p : X → Bool) (xs : List X) → find p xs ≡ None → tally p xs ≡ 0
+not_found p [] e = refl
+not_found p (x ∷ xs) e = go (p x) refl (not_found p xs) e
+  where
+    go : (b : Bool) → p x ≡ b → (find p xs ≡ None → tally p xs ≡ 0) → cond b (Some x) (find p xs) ≡ None → tally p (x ∷ xs) ≡ 0
+    go true h r e = absurd (cc)
+    go false h r e = let a = ap num h in let b = r e in omega arith
+
 -- ---- the first block in which one passes
 
 pub record FirstIn {X : Type 0} (p : X → Bool) (xss : List (List X)) (i : ℕ) : Type 0 where
@@ -149,7 +157,7 @@ before_once p (xs ∷ xss) (suc i) (suc k) lt h le = before_once p xss i k (omeg
 pub only_in : {X : Type 0} (p : X → Bool) (xss : List (List X)) (i : ℕ) → some_pass p (get_or xss i []) ≡ true → tally p (joined xss) ≤ 1 → FirstIn p xss i
 only_in p xss i h le = record { there = h; before = λ k lt. before_once p xss i k lt h le }
 
-mapped_none : {X : Type 0} (p : X → Bool) (f : X → X) → ((x : X) → p x ≡ false → f x ≡ x) → (xs : List X) → tally p xs ≡ 0 → map f xs ≡ xs
+pub mapped_none : {X : Type 0} (p : X → Bool) (f : X → X) → ((x : X) → p x ≡ false → f x ≡ x) → (xs : List X) → tally p xs ≡ 0 → map f xs ≡ xs
 mapped_none p f same [] e = refl
 mapped_none {X = X} p f same (x ∷ xs) e = go (p x) refl (mapped_none p f same xs) e
   where
@@ -157,7 +165,7 @@ mapped_none {X = X} p f same (x ∷ xs) e = go (p x) refl (mapped_none p f same 
     go true h r e = absurd (omega arith)
     go false h r e = ap (λ (y : X). y ∷ map f xs) (same x h) ∙ ap (λ (ys : List X). x ∷ ys) (r (omega arith))
 
-left_out_none : {X : Type 0} (p : X → Bool) (xs : List X) → tally p xs ≡ 0 → filter (λ x. not (p x)) xs ≡ xs
+pub left_out_none : {X : Type 0} (p : X → Bool) (xs : List X) → tally p xs ≡ 0 → filter (λ x. not (p x)) xs ≡ xs
 left_out_none p [] e = refl
 left_out_none {X = X} p (x ∷ xs) e = go (p x) (left_out_none p xs) e
   where

@@ -2,6 +2,7 @@
 use Rattle.queue.proofs.Names.{◌≡◌, ℕ, zero, suc, ◌+◌, ◌<◌, ◌≤◌, List, [], ◌∷◌, ◌++◌, length, get_or, map, filter, refl, ap, ◌∙◌, arith, Bool, true, false, cond, Option, Some, None, find, is_some, false≢true, change_first, without_first, somes, slot_has, changed, num, tally}
 use Rattle.std.proofs.Common.{not}
 use Rattle.std.proofs.Math.ListN.{set}
+use Rattle.queue.proofs.Joined.{left_out_none, mapped_none, none_changed_in, none_without_in, not_found, once_left_out, once_mapped}
 
 pub num-some : (b : Bool) → num b ≡ 1 → b ≡ true
 num-some true e = refl
@@ -70,24 +71,16 @@ none_found p (None ∷ xs) h = none_found p xs (none_later h)
 none_found p (Some x ∷ xs) h = rw (h.no 0) (none_found p xs (none_later h))
 
 pub none_changed : {X : Type 0} (p : X → Bool) (f : X → X) (slots : List (Option X)) → NonePasses p slots → change_first p f (somes slots) ≡ somes slots
-none_changed p f [] h = refl
-none_changed p f (None ∷ xs) h = none_changed p f xs (none_later h)
-none_changed p f (Some x ∷ xs) h = rw (h.no 0) (ap (λ (ys : List _). x ∷ ys) (none_changed p f xs (none_later h)))
+none_changed p f slots n = none_changed_in p f (somes slots) (none_found p slots n)
 
 pub none_removed : {X : Type 0} (p : X → Bool) (slots : List (Option X)) → NonePasses p slots → without_first p (somes slots) ≡ somes slots
-none_removed p [] h = refl
-none_removed p (None ∷ xs) h = none_removed p xs (none_later h)
-none_removed p (Some x ∷ xs) h = rw (h.no 0) (ap (λ (ys : List _). x ∷ ys) (none_removed p xs (none_later h)))
+none_removed p slots n = none_without_in p (somes slots) (none_found p slots n)
 
 pub none_mapped : {X : Type 0} (p : X → Bool) (f : X → X) → ((x : X) → p x ≡ false → f x ≡ x) → (slots : List (Option X)) → NonePasses p slots → map f (somes slots) ≡ somes slots
-none_mapped p f same [] h = refl
-none_mapped p f same (None ∷ xs) h = none_mapped p f same xs (none_later h)
-none_mapped p f same (Some x ∷ xs) h = rw (same x (h.no 0)) (ap (λ (ys : List _). x ∷ ys) (none_mapped p f same xs (none_later h)))
+none_mapped p f same slots n = mapped_none p f same (somes slots) (not_found p (somes slots) (none_found p slots n))
 
 pub none_left_out : {X : Type 0} (p : X → Bool) (slots : List (Option X)) → NonePasses p slots → filter (λ x. not (p x)) (somes slots) ≡ somes slots
-none_left_out p [] h = refl
-none_left_out p (None ∷ xs) h = none_left_out p xs (none_later h)
-none_left_out p (Some x ∷ xs) h = rw (h.no 0) (ap (λ (ys : List _). x ∷ ys) (none_left_out p xs (none_later h)))
+none_left_out p slots n = left_out_none p (somes slots) (not_found p (somes slots) (none_found p slots n))
 
 -- ---- how many pass
 
@@ -113,13 +106,6 @@ counted p (None ∷ xs) zero h = absurd (false≢true h)
 counted p (Some x ∷ xs) zero h = let n = ap num h in omega arith
 counted p (None ∷ xs) (suc i) h = counted p xs i h
 counted p (Some x ∷ xs) (suc i) h = let r = counted p xs i h in omega arith
-
-pub uncounted : {X : Type 0} (p : X → Bool) (slots : List (Option X)) → tally p (somes slots) ≡ 0 → NonePasses p slots
-uncounted p slots e = record { no = λ k. go k (slot_has p (get_or slots k None)) refl }
-  where
-    go : (k : ℕ) (b : Bool) → slot_has p (get_or slots k None) ≡ b → slot_has p (get_or slots k None) ≡ false
-    go k true h = absurd (let c = counted p slots k h in omega arith)
-    go k false h = h
 
 -- one slot is written
 pub count-set : {X : Type 0} (p : X → Bool) (slots : List (Option X)) (i : ℕ) (v : Option X) → i < length slots
@@ -158,9 +144,6 @@ pub record OnlyAt {X : Type 0} (p : X → Bool) (slots : List (Option X)) (i : �
   pub there : slot_has p (get_or slots i None) ≡ true
   pub only : tally p (somes slots) ≤ 1
 
-rest_none : {X : Type 0} (p : X → Bool) (x : X) (xs : List (Option X)) → p x ≡ true → tally p (somes (Some x ∷ xs)) ≤ 1 → NonePasses p xs
-rest_none p x xs h c = uncounted p xs (let e = ap num h in omega arith)
-
 not_yet : {X : Type 0} (p : X → Bool) (x : X) (xs : List (Option X)) (i : ℕ) (b : Bool) → p x ≡ b → OnlyAt p (Some x ∷ xs) (suc i) → p x ≡ false
 not_yet p x xs i true e h = absurd (let a = counted p xs i h.there in let n = ap num e in let o = h.only in omega arith)
 not_yet p x xs i false e h = e
@@ -183,16 +166,8 @@ only_first p (x ∷ xs) (suc i) h = record { there = h.there; before = λ k lt. 
 -- all that pass are changed
 pub only_mapped : {X : Type 0} (p : X → Bool) (f : X → X) → ((x : X) → p x ≡ false → f x ≡ x) → (slots : List (Option X)) (i : ℕ) → OnlyAt p slots i
     → map f (somes slots) ≡ somes (set slots i (changed f (get_or slots i None)))
-only_mapped p f same [] i h = absurd (false≢true h.there)
-only_mapped p f same (None ∷ xs) zero h = absurd (false≢true h.there)
-only_mapped p f same (Some x ∷ xs) zero h = ap (λ (ys : List _). f x ∷ ys) (none_mapped p f same xs (rest_none p x xs h.there h.only))
-only_mapped p f same (None ∷ xs) (suc i) h = only_mapped p f same xs i (only_later p None xs i h)
-only_mapped p f same (Some x ∷ xs) (suc i) h = rw (same x (not_yet p x xs i (p x) refl h)) (ap (λ (ys : List _). x ∷ ys) (only_mapped p f same xs i (only_later p (Some x) xs i h)))
+only_mapped p f same slots i h = once_mapped p f f same (λ x e. refl) (somes slots) h.only ∙ change_at p f slots i (only_first p slots i h)
 
 -- all that pass are left out
 pub only_left_out : {X : Type 0} (p : X → Bool) (slots : List (Option X)) (i : ℕ) → OnlyAt p slots i → filter (λ x. not (p x)) (somes slots) ≡ somes (set slots i None)
-only_left_out p [] i h = absurd (false≢true h.there)
-only_left_out p (None ∷ xs) zero h = absurd (false≢true h.there)
-only_left_out p (Some x ∷ xs) zero h = rw h.there (none_left_out p xs (rest_none p x xs h.there h.only))
-only_left_out p (None ∷ xs) (suc i) h = only_left_out p xs i (only_later p None xs i h)
-only_left_out p (Some x ∷ xs) (suc i) h = rw (not_yet p x xs i (p x) refl h) (ap (λ (ys : List _). x ∷ ys) (only_left_out p xs i (only_later p (Some x) xs i h)))
+only_left_out p slots i h = once_left_out p (somes slots) h.only ∙ remove_at p slots i (only_first p slots i h)

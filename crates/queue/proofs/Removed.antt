@@ -1,10 +1,10 @@
 -- A block goes, and what stood in it stands in the one before it.
-use Rattle.queue.proofs.Names.{◌≡◌, ℕ, zero, suc, ◌+◌, ◌<◌, ◌≤◌, List, [], ◌∷◌, ◌++◌, length, get_or, refl, sym, ap, ◌∙◌, subst, arith, append_assoc, Bool, remove, length-set, is_held_as, Entry, Holder, tally, Stretch, parts, joined, no_stretch, block_at, room_after, last_room, AreJoined, AreHeldOnce}
+use Rattle.queue.proofs.Names.{◌≡◌, ℕ, zero, suc, ◌+◌, ◌<◌, ◌≤◌, List, [], ◌∷◌, ◌++◌, length, get_or, refl, sym, ap, ◌∙◌, subst, arith, append_assoc, Bool, remove, is_held_as, Entry, Holder, tally, Stretch, parts, joined, no_stretch, block_at, room_after, last_room, AreHeldOnce}
 use Rattle.std.proofs.Math.ListN.{set}
-use Rattle.std.proofs.lemmas.List.Edits.{length-remove, get_or-remove_below, get_or-remove_above}
+use Rattle.std.proofs.lemmas.List.Edits.{length-remove, get_or-remove_below}
 use Rattle.queue.proofs.Joined.{tally-both}
 use Rattle.queue.proofs.Signed.{parts-at}
-use Rattle.queue.proofs.Filled.{at_block, there, elsewhere}
+use Rattle.queue.proofs.Filled.{at_block}
 
 -- the block at this place, once the next is gone
 pub still_there : (bs : List Stretch) (i : ℕ) (d : Stretch) → i + 1 < length bs → d ≡ get_or (remove bs (i + 1)) i d → d ≡ block_at bs i

@@ -1,24 +1,20 @@
 -- Blocks, the bits that say which of them have a ready message, and the room of the last.
-use Rattle.queue.proofs.Names.{◌≡◌, ℕ, zero, suc, ◌+◌, ◌-◌, ◌<◌, ◌≤◌, List, [], ◌∷◌, ◌++◌, length, get_or, map, filter, refl, sym, ap, ◌∙◌, subst, arith, Bool, true, false, cond, Some, find, is_some, inl, inr, nat_lt, ◌==◌, ◌||◌, false≢true, ltb-false, eqb_tells, leb_tells, get_or-set_same, get_or-set_other, map-set, is_ready, survived_now, Entry, Message, Ready, IsNextMark, bit_of, num, SlotBits, BitTurned, Stretch, parts, joined, room_after, last_room, some_pass, is_in_use, survived_block, AreBlocksSigned}
+use Rattle.queue.proofs.Names.{◌≡◌, ℕ, zero, suc, ◌+◌, ◌-◌, ◌<◌, ◌≤◌, List, [], ◌∷◌, ◌++◌, length, get_or, map, filter, refl, sym, ap, ◌∙◌, subst, arith, Bool, true, false, cond, Some, find, is_some, nat_lt, ◌==◌, ◌||◌, false≢true, ltb-false, get_or-set_same, map-set, is_ready, survived_now, Entry, Message, Ready, IsNextMark, bit_of, num, SlotBits, BitTurned, Stretch, parts, joined, room_after, last_room, some_pass, is_in_use, survived_block, AreBlocksSigned, get_or-map, get_or_default, get_or_past, length-map, set-get_or, Vec, vec_len, rules}
 use Rattle.std.proofs.Math.ListN.{set}
 use Rattle.queue.proofs.Places.{num-some, num-none}
+use Rattle.queue.proofs.Slotted.{set_turned}
 use Rattle.queue.proofs.Joined.{FirstIn, joined_mapped}
 
 -- ---- blocks and what stands in them
 
 pub parts-length : (bs : List Stretch) → length (parts bs) ≡ length bs
-parts-length [] = refl
-parts-length (b ∷ bs) = ap suc (parts-length bs)
+parts-length bs = length-map bs (λ (b : Stretch). b.entries)
 
 pub parts-past : (bs : List Stretch) (k : ℕ) → length bs ≤ k → get_or (parts bs) k [] ≡ []
-parts-past [] k h = refl
-parts-past (b ∷ bs) zero h = absurd (omega arith)
-parts-past (b ∷ bs) (suc k) h = parts-past bs k (omega arith)
+parts-past bs k h = get_or_past (parts bs) k [] (let n = parts-length bs in omega (arith, n, h))
 
 pub parts-at : (bs : List Stretch) (i : ℕ) (d : Stretch) → i < length bs → (get_or bs i d).entries ≡ get_or (parts bs) i []
-parts-at [] i d lt = absurd (omega arith)
-parts-at (b ∷ bs) zero d lt = refl
-parts-at (b ∷ bs) (suc i) d lt = parts-at bs i d (omega arith)
+parts-at bs i d lt = sym (get_or-map (λ (b : Stretch). b.entries) bs i d [] lt)
 
 -- what stands in this one
 pub part_of : (bs : List Stretch) (i : ℕ) (d : Stretch) → i < length bs → d ≡ get_or bs i d → d.entries ≡ get_or (parts bs) i []
@@ -31,14 +27,9 @@ parts-written bs i d b f lt e w =
     map-set (λ (x : Stretch). x.entries) bs i b
     ∙ ap (λ (v : List Entry). set (parts bs) i v) (w ∙ ap f (part_of bs i d lt e))
 
-set_same : {X : Type 0} (xs : List X) (i : ℕ) (d : X) → set xs i (get_or xs i d) ≡ xs
-set_same [] i d = refl
-set_same (x ∷ xs) zero d = refl
-set_same {X = X} (x ∷ xs) (suc i) d = ap (λ (ys : List X). x ∷ ys) (set_same xs i d)
-
 -- it has the same entries as before
 pub parts-kept : (bs : List Stretch) (i : ℕ) (d b : Stretch) → i < length bs → d ≡ get_or bs i d → b.entries ≡ d.entries → parts (set bs i b) ≡ parts bs
-parts-kept bs i d b lt e w = parts-written bs i d b (λ es. es) lt e w ∙ set_same (parts bs) i []
+parts-kept bs i d b lt e w = parts-written bs i d b (λ es. es) lt e w ∙ set-get_or (parts bs) i []
 
 pub parts-end : (bs : List Stretch) (b : Stretch) → b.entries ≡ [] → parts (bs ++ b ∷ []) ≡ parts bs ++ [] ∷ []
 parts-end [] b e = ap (λ (es : List Entry). es ∷ []) e
@@ -51,34 +42,23 @@ room-written r [] i b lt e = refl
 room-written r (x ∷ xs) zero b lt e = ap (λ (n : ℕ). room_after n xs) e
 room-written r (x ∷ xs) (suc i) b lt e = room-written x.room xs i b (omega arith) e
 
-pub at_default : (bs : List Stretch) (i : ℕ) (d b : Stretch) → i < length bs → get_or bs i d ≡ get_or bs i b
-at_default [] i d b lt = absurd (omega arith)
-at_default (x ∷ xs) zero d b lt = refl
-at_default (x ∷ xs) (suc i) d b lt = at_default xs i d b (omega arith)
-
 -- a block is changed, with the same room
 pub room_kept : (bs : List Stretch) (i : ℕ) (d b : Stretch) → i < length bs → d ≡ get_or bs i d → b.room ≡ d.room → last_room (set bs i b) ≡ last_room bs
-room_kept bs i d b lt e w = room-written 0 bs i b lt (w ∙ ap (λ (x : Stretch). x.room) (e ∙ at_default bs i d b lt))
+room_kept bs i d b lt e w = room-written 0 bs i b lt (w ∙ ap (λ (x : Stretch). x.room) (e ∙ get_or_default bs i d b lt))
 
--- a block that isn't the last is changed
-room-inner : (r : ℕ) (bs : List Stretch) (i : ℕ) (b : Stretch) → i + 1 < length bs → room_after r (set bs i b) ≡ room_after r bs
+-- a block that isn't the last is changed: with 0 this is `last_room`, here and below
+pub room-inner : (r : ℕ) (bs : List Stretch) (i : ℕ) (b : Stretch) → i + 1 < length bs → room_after r (set bs i b) ≡ room_after r bs
 room-inner r [] i b lt = refl
 room-inner r (x ∷ []) zero b lt = absurd (omega arith)
 room-inner r (x ∷ y ∷ ys) zero b lt = refl
 room-inner r (x ∷ xs) (suc i) b lt = room-inner x.room xs i b (omega arith)
 
-pub room_inside : (bs : List Stretch) (i : ℕ) (b : Stretch) → i + 1 < length bs → last_room (set bs i b) ≡ last_room bs
-room_inside bs i b lt = room-inner 0 bs i b lt
-
 -- the last one is changed
-room-last : (r : ℕ) (bs : List Stretch) (i : ℕ) (b : Stretch) → i + 1 ≡ length bs → room_after r (set bs i b) ≡ b.room
+pub room-last : (r : ℕ) (bs : List Stretch) (i : ℕ) (b : Stretch) → i + 1 ≡ length bs → room_after r (set bs i b) ≡ b.room
 room-last r [] i b e = absurd (omega arith)
 room-last r (x ∷ []) zero b e = refl
 room-last r (x ∷ y ∷ ys) zero b e = absurd (omega arith)
 room-last r (x ∷ xs) (suc i) b e = room-last x.room xs i b (omega arith)
-
-pub room_at_last : (bs : List Stretch) (i : ℕ) (b : Stretch) → i + 1 ≡ length bs → last_room (set bs i b) ≡ b.room
-room_at_last bs i b e = room-last 0 bs i b e
 
 room-is : (r : ℕ) (bs : List Stretch) (i : ℕ) (d : Stretch) → i + 1 ≡ length bs → room_after r bs ≡ (get_or bs i d).room
 room-is r [] i d e = absurd (omega arith)
@@ -90,12 +70,9 @@ room-is r (x ∷ xs) (suc i) d e = room-is x.room xs i d (omega arith)
 pub room_is : (bs : List Stretch) (i : ℕ) (d : Stretch) → i + 1 ≡ length bs → d ≡ get_or bs i d → last_room bs ≡ d.room
 room_is bs i d e at = room-is 0 bs i d e ∙ ap (λ (x : Stretch). x.room) (sym at)
 
-room-end : (r : ℕ) (bs : List Stretch) (b : Stretch) → room_after r (bs ++ b ∷ []) ≡ b.room
+pub room-end : (r : ℕ) (bs : List Stretch) (b : Stretch) → room_after r (bs ++ b ∷ []) ≡ b.room
 room-end r [] b = refl
 room-end r (x ∷ xs) b = room-end x.room xs b
-
-pub room_at_end : (bs : List Stretch) (b : Stretch) → last_room (bs ++ b ∷ []) ≡ b.room
-room_at_end bs b = room-end 0 bs b
 
 -- where there is room there is a block
 pub room_somewhere : (bs : List Stretch) → 0 < last_room bs → 0 < length bs
@@ -107,14 +84,16 @@ pub some_there : (n : ℕ) → (n == 0) ≡ false → 0 < n
 some_there zero h = absurd (false≢true (sym h))
 some_there (suc n) h = omega arith
 
+-- where there is room the last block is at the index before the length
+pub last_index : (bs : Vec Stretch) (len : ℕ) → 0 < last_room bs.items → len ≡ vec_len bs → (len - 1) + 1 ≡ length bs.items
+last_index bs len some is =
+    let there = room_somewhere bs.items some in
+    let l : vec_len bs ≡ length bs.items = search rules in
+    omega (arith, there, l, is)
+
 -- where there are some the last has a place
 pub last_place : (n len k : ℕ) → n ≡ k → (n == 0) ≡ false → len ≡ n → (len - 1) + 1 ≡ k
 last_place n len k same filled is = let some = some_there n filled in omega arith
-
--- it has a last one
-pub some_block : (bs : List Stretch) → (length bs == 0) ≡ false → 0 < length bs
-some_block [] h = absurd (false≢true (sym h))
-some_block (b ∷ bs) h = omega arith
 
 -- ---- blocks that were given back go
 
@@ -161,12 +140,9 @@ parts-stood (b ∷ bs) = ap (λ (ps : List (List Entry)). map survived_now b.ent
 pub joined_stood : (bs : List Stretch) → joined (parts (map survived_block bs)) ≡ map survived_now (joined (parts bs))
 joined_stood bs = ap (λ (ps : List (List Entry)). joined ps) (parts-stood bs) ∙ joined_mapped survived_now (parts bs)
 
-room-stood : (r : ℕ) (bs : List Stretch) → room_after r (map survived_block bs) ≡ room_after r bs
+pub room-stood : (r : ℕ) (bs : List Stretch) → room_after r (map survived_block bs) ≡ room_after r bs
 room-stood r [] = refl
 room-stood r (b ∷ bs) = room-stood b.room bs
-
-pub room_stood : (bs : List Stretch) → last_room (map survived_block bs) ≡ last_room bs
-room_stood bs = room-stood 0 bs
 
 part-stood : (ps : List (List Entry)) (i : ℕ) → get_or (map (λ (es : List Entry). map survived_now es) ps) i [] ≡ map survived_now (get_or ps i [])
 part-stood [] i = refl
@@ -193,19 +169,11 @@ pub none_signed : (ps : List (List Entry)) (bits : SlotBits) → AreBlocksSigned
 none_signed ps bits s z k = num-none _ (sym (s k) ∙ z k)
 
 -- a block is changed, and its bit with it
-pub signed_at : (ps : List (List Entry)) (v : List Entry) (bits bits' : SlotBits) (i : ℕ) → i < length ps → AreBlocksSigned ps bits
-    → BitTurned bits bits' i (num (some_pass is_ready v)) → AreBlocksSigned (set ps i v) bits'
-signed_at ps v bits bits' i lt s t j = elim (eqb_tells j i) [
-  | inl q ↦ ap (bit_of bits'.ready) q.1 ∙ t.turned.there ∙ ap (λ (es : List Entry). num (some_pass is_ready es)) (sym (get_or-set_same ps i v [] lt) ∙ ap (λ (k : ℕ). get_or (set ps i v) k []) (sym q.1))
-  | inr q ↦ t.turned.others j q.1 ∙ s j ∙ ap (λ (es : List Entry). num (some_pass is_ready es)) (sym (get_or-set_other ps i j v [] q.1))
-]
-
--- so it is where the bit was set as the changed block is
 pub signed_now : (ps now : List (List Entry)) (v : List Entry) (bits bits' : SlotBits) (i : ℕ) → i < length ps → AreBlocksSigned ps bits → now ≡ set ps i v
     → BitTurned bits bits' i (num (some_pass is_ready (get_or now i []))) → AreBlocksSigned now bits'
 signed_now ps now v bits bits' i lt s e t =
     subst (λ (xs : List (List Entry)). AreBlocksSigned xs bits') (sym e)
-    (signed_at ps v bits bits' i lt s (subst (λ (es : List Entry). BitTurned bits bits' i (num (some_pass is_ready es))) (ap (λ (xs : List (List Entry)). get_or xs i []) e ∙ get_or-set_same ps i v [] lt) t))
+    (set_turned (some_pass is_ready) [] ps v bits bits' i lt s (subst (λ (es : List Entry). BitTurned bits bits' i (num (some_pass is_ready es))) (ap (λ (xs : List (List Entry)). get_or xs i []) e ∙ get_or-set_same ps i v [] lt) t))
 
 pub ready_at_end : (es : List Entry) (m : Message) → some_pass is_ready (es ++ record { message = m; mark = Ready } ∷ []) ≡ true
 ready_at_end [] m = refl
@@ -227,26 +195,3 @@ empty-end (p ∷ ps) (suc i) = empty-end ps i
 -- an empty block comes
 pub signed_end : (ps : List (List Entry)) (bits : SlotBits) → AreBlocksSigned ps bits → AreBlocksSigned (ps ++ [] ∷ []) bits
 signed_end ps bits s i = s i ∙ ap (λ (es : List Entry). num (some_pass is_ready es)) (sym (empty-end ps i))
-
--- ---- bits set one after another
-
--- The bits below a place are as their blocks are, and those from `places` on are 0.
-pub record SignedBelow (ps : List (List Entry)) (bits : SlotBits) (place places : ℕ) : Type 0 where
-  pub below : (k : ℕ) → k < place → bit_of bits.ready k ≡ num (some_pass is_ready (get_or ps k []))
-  pub above : (k : ℕ) → places ≤ k → bit_of bits.ready k ≡ 0
-
-pub signed_more : (ps : List (List Entry)) (bits bits' : SlotBits) (place places : ℕ) → place < places → SignedBelow ps bits place places
-    → BitTurned bits bits' place (num (some_pass is_ready (get_or ps place []))) → SignedBelow ps bits' (place + 1) places
-signed_more ps bits bits' place places lt s t = record {
-  below = λ k l. elim (eqb_tells k place) [
-    | inl q ↦ ap (bit_of bits'.ready) q.1 ∙ t.turned.there ∙ ap (λ (j : ℕ). num (some_pass is_ready (get_or ps j []))) (sym q.1)
-    | inr q ↦ let ne = q.1 in t.turned.others k q.1 ∙ s.below k (omega arith)
-  ];
-  above = λ k ge. t.turned.others k (λ e. absurd (omega arith)) ∙ s.above k ge;
-}
-
-pub signed_done : (bs : List Stretch) (bits : SlotBits) (place places : ℕ) → places ≤ place → length bs ≤ places → SignedBelow (parts bs) bits place places → AreBlocksSigned (parts bs) bits
-signed_done bs bits place places le len s k = elim (leb_tells places k) [
-  | inl q ↦ s.above k q.1 ∙ sym (ap (λ (es : List Entry). num (some_pass is_ready es)) (parts-past bs k (let h = q.1 in omega arith)))
-  | inr q ↦ let h = q.1 in s.below k (omega arith)
-]

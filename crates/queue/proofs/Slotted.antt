@@ -1,9 +1,10 @@
 -- What is kept beside the slots of a queue, at each change.
-use Rattle.queue.proofs.Names.{◌≡◌, ℕ, zero, suc, ◌+◌, ◌<◌, ◌≤◌, List, [], ◌∷◌, ◌++◌, length, get_or, map, filter, refl, sym, ap, ◌∙◌, subst, arith, Bool, true, false, cond, Option, Some, None, find, is_some, inl, inr, eqb, append_assoc, ◌&&◌, ◌==◌, IfSome, IfNone, false≢true, eqb_tells, leb_tells, get_or-set_same, get_or-set_other, map-set, is_ready, freed, is_under, is_held_by, is_held_as, held_as, freed_now, without_first, number_of, Entry, Message, Holder, Ready, Held, IsNextMark, Differs, bit_of, ready_count, Slot, somes, slot_has, changed, num, tally, SlotBits, BitTurned, SlotsAreMarked, AreSigned, BitsShow, HasPlaces, contents}
+use Rattle.queue.proofs.Names.{◌≡◌, ℕ, zero, suc, ◌+◌, ◌<◌, ◌≤◌, List, [], ◌∷◌, ◌++◌, length, get_or, map, filter, refl, sym, ap, ◌∙◌, subst, arith, Bool, true, false, cond, Option, Some, None, find, is_some, inl, inr, eqb, append_assoc, ◌&&◌, ◌==◌, IfSome, IfNone, false≢true, eqb_tells, leb_tells, get_or-set_same, get_or-set_other, map-set, is_ready, freed, is_under, is_held_by, is_held_as, held_as, freed_now, without_first, number_of, Entry, Message, Holder, Ready, Held, IsNextMark, bit_of, ready_count, Slot, somes, slot_has, changed, num, tally, SlotBits, BitTurned, AreSetBy, AreSigned, BitsShow, HasPlaces, contents, get_or-map, get_or_past, get_or_push, length-map, map-append}
 use Rattle.std.proofs.Common.{not}
 use Rattle.std.proofs.Math.ListN.{set}
 use Rattle.model.specs.declared.messages.Mark.{Mark}
-use Rattle.queue.proofs.Places.{num-some, num-none, within, FirstAt, NonePasses, counted, tally-most, somes-most, count-set, length-set, OnlyAt, only_first, some_at, none_found}
+use Rattle.queue.proofs.Joined.{not_found}
+use Rattle.queue.proofs.Places.{num-some, num-none, within, FirstAt, NonePasses, counted, tally-most, somes-most, count-set, length-set, OnlyAt, only_first, somes-append, some_at, none_found}
 
 -- ---- one entry
 
@@ -91,36 +92,21 @@ pub same_count : {X : Type 0} (p q : X → Bool) → ((x : X) → p x ≡ q x) �
 same_count p q s [] = refl
 same_count p q s (x ∷ xs) = let a = ap num (s x) in let b = same_count p q s xs in omega arith
 
-pub not_found : {X : Type 0} (p : X → Bool) (xs : List X) → find p xs ≡ None → tally p xs ≡ 0
-not_found p [] e = refl
-not_found p (x ∷ xs) e = go (p x) refl (not_found p xs) e
-  where
-    go : (b : Bool) → p x ≡ b → (find p xs ≡ None → tally p xs ≡ 0) → cond b (Some x) (find p xs) ≡ None → tally p (x ∷ xs) ≡ 0
-    go true h r e = absurd (cc)
-    go false h r e = let a = ap num h in let b = r e in omega arith
-
 -- ---- the marks
 
-pub first_by_marks : (p : Entry → Bool) (slots : List (Option Entry)) (bit : ℕ → ℕ) (i : ℕ) → SlotsAreMarked p slots bit → IsNextMark bit 0 i → FirstAt p slots i
+pub first_by_marks : (p : Entry → Bool) (slots : List (Option Entry)) (bit : ℕ → ℕ) (i : ℕ) → ((k : ℕ) → bit k ≡ num (slot_has p (get_or slots k None))) → IsNextMark bit 0 i → FirstAt p slots i
 first_by_marks p slots bit i m n = record { there = num-some _ (sym (m i) ∙ n.there); before = λ k lt. num-none _ (sym (m k) ∙ n.before k (omega arith) lt) }
 
-pub none_by_marks : (p : Entry → Bool) (slots : List (Option Entry)) (bit : ℕ → ℕ) → SlotsAreMarked p slots bit → ((k : ℕ) → bit k ≡ 0) → NonePasses p slots
+pub none_by_marks : (p : Entry → Bool) (slots : List (Option Entry)) (bit : ℕ → ℕ) → ((k : ℕ) → bit k ≡ num (slot_has p (get_or slots k None))) → ((k : ℕ) → bit k ≡ 0) → NonePasses p slots
 none_by_marks p slots bit m z = record { no = λ k. num-none _ (sym (m k) ∙ z k) }
 
-marked_set : (p : Entry → Bool) (slots : List (Option Entry)) (v : Option Entry) (bit bit' : ℕ → ℕ) (i : ℕ) → i < length slots → SlotsAreMarked p slots bit
-    → Differs bit bit' i (num (slot_has p v)) → SlotsAreMarked p (set slots i v) bit'
-marked_set p slots v bit bit' i lt m d j = elim (eqb_tells j i) [
-  | inl q ↦ ap bit' q.1 ∙ d.there ∙ ap (λ (o : Option Entry). num (slot_has p o)) (sym (get_or-set_same slots i v None lt) ∙ ap (λ (k : ℕ). get_or (set slots i v) k None) (sym q.1))
-  | inr q ↦ d.others j q.1 ∙ m j ∙ ap (λ (o : Option Entry). num (slot_has p o)) (sym (get_or-set_other slots i j v None q.1))
+-- an element is changed, and its bit with it
+pub set_turned : {X : Type 0} (p : X → Bool) (none : X) (xs : List X) (v : X) (bits bits' : SlotBits) (i : ℕ) → i < length xs → AreSetBy p none xs bits
+    → BitTurned bits bits' i (num (p v)) → AreSetBy p none (set xs i v) bits'
+set_turned {X = X} p none xs v bits bits' i lt s t j = elim (eqb_tells j i) [
+  | inl q ↦ ap (bit_of bits'.ready) q.1 ∙ t.turned.there ∙ ap (λ (x : X). num (p x)) (sym (get_or-set_same xs i v none lt) ∙ ap (λ (k : ℕ). get_or (set xs i v) k none) (sym q.1))
+  | inr q ↦ t.turned.others j q.1 ∙ s j ∙ ap (λ (x : X). num (p x)) (sym (get_or-set_other xs i j v none q.1))
 ]
-
-pub signed_set : (slots : List (Option Entry)) (v : Option Entry) (bits bits' : SlotBits) (i : ℕ) → i < length slots → AreSigned slots bits
-    → BitTurned bits bits' i (num (slot_has is_ready v)) → AreSigned (set slots i v) bits'
-signed_set slots v bits bits' i lt s t = marked_set is_ready slots v _ _ i lt s t.turned
-
-at_end : (xs : List (Option Entry)) (v : Option Entry) → get_or (xs ++ v ∷ []) (length xs) None ≡ v
-at_end [] v = refl
-at_end (x ∷ xs) v = at_end xs v
 
 not_end : (xs : List (Option Entry)) (v : Option Entry) (j : ℕ) → ((j ≡ length xs) → ⊥) → get_or (xs ++ v ∷ []) j None ≡ get_or xs j None
 not_end [] v zero h = absurd (h refl)
@@ -128,11 +114,10 @@ not_end [] v (suc j) h = refl
 not_end (x ∷ xs) v zero h = refl
 not_end (x ∷ xs) v (suc j) h = not_end xs v j (λ e. h (ap suc e))
 
-marked_push : (p : Entry → Bool) (slots : List (Option Entry)) (v : Option Entry) (bit bit' : ℕ → ℕ) → SlotsAreMarked p slots bit
-    → Differs bit bit' (length slots) (num (slot_has p v)) → SlotsAreMarked p (slots ++ v ∷ []) bit'
-marked_push p slots v bit bit' m d j = elim (eqb_tells j (length slots)) [
-  | inl q ↦ ap bit' q.1 ∙ d.there ∙ ap (λ (o : Option Entry). num (slot_has p o)) (sym (at_end slots v) ∙ ap (λ (k : ℕ). get_or (slots ++ v ∷ []) k None) (sym q.1))
-  | inr q ↦ d.others j q.1 ∙ m j ∙ ap (λ (o : Option Entry). num (slot_has p o)) (sym (not_end slots v j q.1))
+signed_push : (slots : List (Option Entry)) (v : Option Entry) (bits bits' : SlotBits) → AreSigned slots bits → BitTurned bits bits' (length slots) (num (slot_has is_ready v)) → AreSigned (slots ++ v ∷ []) bits'
+signed_push slots v bits bits' s t j = elim (eqb_tells j (length slots)) [
+  | inl q ↦ ap (bit_of bits'.ready) q.1 ∙ t.turned.there ∙ ap (λ (o : Option Entry). num (slot_has is_ready o)) (sym (get_or_push slots v None (length slots) refl) ∙ ap (λ (k : ℕ). get_or (slots ++ v ∷ []) k None) (sym q.1))
+  | inr q ↦ t.turned.others j q.1 ∙ s j ∙ ap (λ (o : Option Entry). num (slot_has is_ready o)) (sym (not_end slots v j q.1))
 ]
 
 -- ---- one slot is written
@@ -147,7 +132,7 @@ record Written (slots : List (Option Entry)) (v : Option Entry) (bits bits' : Sl
 shows_set : (slots : List (Option Entry)) (v : Option Entry) (bits bits' : SlotBits) (live live' i : ℕ) → BitsShow slots bits live
     → Written slots v bits bits' live live' i → BitsShow (set slots i v) bits' live'
 shows_set slots v bits bits' live live' i s w = record {
-  signed = signed_set slots v bits bits' i w.there s.signed w.turned;
+  signed = set_turned (slot_has is_ready) None slots v bits bits' i w.there s.signed w.turned;
   live_count = (let a = s.live_count in let b = w.live_count in let c = length-set slots i v w.there in omega arith);
   distinct = w.distinct;
 }
@@ -228,7 +213,7 @@ pub push_shows : (slots now : List (Option Entry)) (bits bits' : SlotBits) (live
 push_shows slots now bits bits' live live' m s t e l =
     let v : Entry = record { message = m; mark = Ready } in
     subst (λ (xs : List (Option Entry)). BitsShow xs bits' live') (sym e) (record {
-      signed = marked_push is_ready slots (Some v) _ _ s.signed t.turned;
+      signed = signed_push slots (Some v) _ _ s.signed t;
       live_count = (let a = s.live_count in let b = length_end slots v in omega arith);
       distinct = λ h. (let a = s.distinct h in let b = counted_end (is_held_as h) slots v in omega arith);
     })
@@ -285,18 +270,13 @@ same_bits capacity capacity' places places' h a b = omega arith
 -- ---- slots and what stands in them
 
 pub contents-length : (slots : List Slot) → length (contents slots) ≡ length slots
-contents-length [] = refl
-contents-length (s ∷ ss) = ap suc (contents-length ss)
+contents-length slots = length-map slots (λ (s : Slot). s.entry)
 
 pub contents-past : (p : Entry → Bool) (slots : List Slot) (k : ℕ) → length slots ≤ k → slot_has p (get_or (contents slots) k None) ≡ false
-contents-past p [] k h = refl
-contents-past p (s ∷ ss) zero h = absurd (omega arith)
-contents-past p (s ∷ ss) (suc k) h = contents-past p ss k (omega arith)
+contents-past p slots k h = ap (λ (o : Option Entry). slot_has p o) (get_or_past (contents slots) k None (let n = contents-length slots in omega (arith, n, h)))
 
 pub contents-at : (slots : List Slot) (i : ℕ) (d : Slot) → i < length slots → (get_or slots i d).entry ≡ get_or (contents slots) i None
-contents-at [] i d lt = absurd (omega arith)
-contents-at (s ∷ ss) zero d lt = refl
-contents-at (s ∷ ss) (suc i) d lt = contents-at ss i d (omega arith)
+contents-at slots i d lt = sym (get_or-map (λ (s : Slot). s.entry) slots i d None lt)
 
 -- a slot is written, where this one stood
 pub contents-written : (slots : List Slot) (i : ℕ) (d s : Slot) (o : Option Entry) (f : Option Entry → Option Entry) → i < length slots → d ≡ get_or slots i d → s.entry ≡ f d.entry
@@ -315,12 +295,7 @@ somes-skip (Some x) xs ys h e = absurd (false≢true (sym h))
 
 -- one list of slots behind the other
 pub entries-both : (xs ys : List Slot) → somes (contents (xs ++ ys)) ≡ somes (contents xs) ++ somes (contents ys)
-entries-both [] ys = refl
-entries-both (s ∷ ss) ys = go s.entry (entries-both ss ys)
-  where
-    go : (o : Option Entry) → somes (contents (ss ++ ys)) ≡ somes (contents ss) ++ somes (contents ys) → somes (o ∷ contents (ss ++ ys)) ≡ somes (o ∷ contents ss) ++ somes (contents ys)
-    go None r = r
-    go (Some x) r = ap (λ (es : List Entry). x ∷ es) r
+entries-both xs ys = ap somes (map-append (λ (s : Slot). s.entry) xs ys) ∙ somes-append (contents xs) (contents ys)
 
 -- the empty slots are taken out
 pub somes-dropped : (slots : List Slot) → somes (contents (filter (λ (s : Slot). is_some s.entry) slots)) ≡ somes (contents slots)
@@ -348,37 +323,27 @@ length-dropped (s ∷ ss) = go s.entry (length-dropped ss)
 
 -- ---- bits set one after another
 
--- The bits below a place are as their slots are, and those from `places` on are 0.
-pub record MarkedBelow (p : Entry → Bool) (slots : List (Option Entry)) (bit : ℕ → ℕ) (place places : ℕ) : Type 0 where
-  pub below : (k : ℕ) → k < place → bit k ≡ num (slot_has p (get_or slots k None))
-  pub above : (k : ℕ) → places ≤ k → bit k ≡ 0
+-- The bits below `place` are as their elements are, and those from `places` on are 0.
+pub record SignedBelow {X : Type 0} (p : X → Bool) (none : X) (xs : List X) (bits : SlotBits) (place places : ℕ) : Type 0 where
+  pub below : (k : ℕ) → k < place → bit_of bits.ready k ≡ num (p (get_or xs k none))
+  pub above : (k : ℕ) → places ≤ k → bit_of bits.ready k ≡ 0
 
-marked_more : (p : Entry → Bool) (slots : List (Option Entry)) (bit bit' : ℕ → ℕ) (place places : ℕ) → place < places → MarkedBelow p slots bit place places
-    → Differs bit bit' place (num (slot_has p (get_or slots place None))) → MarkedBelow p slots bit' (place + 1) places
-marked_more p slots bit bit' place places lt m d = record {
+pub signed_more : {X : Type 0} (p : X → Bool) (none : X) (xs : List X) (bits bits' : SlotBits) (place places : ℕ) → place < places → SignedBelow p none xs bits place places
+    → BitTurned bits bits' place (num (p (get_or xs place none))) → SignedBelow p none xs bits' (place + 1) places
+signed_more p none xs bits bits' place places lt s t = record {
   below = λ k l. elim (eqb_tells k place) [
-    | inl q ↦ ap bit' q.1 ∙ d.there ∙ ap (λ (j : ℕ). num (slot_has p (get_or slots j None))) (sym q.1)
-    | inr q ↦ let ne = q.1 in d.others k q.1 ∙ m.below k (omega arith)
+    | inl q ↦ ap (bit_of bits'.ready) q.1 ∙ t.turned.there ∙ ap (λ (j : ℕ). num (p (get_or xs j none))) (sym q.1)
+    | inr q ↦ let ne = q.1 in t.turned.others k q.1 ∙ s.below k (omega arith)
   ];
-  above = λ k ge. d.others k (λ e. absurd (omega arith)) ∙ m.above k ge;
+  above = λ k ge. t.turned.others k (λ e. absurd (omega arith)) ∙ s.above k ge;
 }
 
-marked_done : (p : Entry → Bool) (slots : List Slot) (bit : ℕ → ℕ) (place places : ℕ) → places ≤ place → length slots ≤ places → MarkedBelow p (contents slots) bit place places → SlotsAreMarked p (contents slots) bit
-marked_done p slots bit place places le len m k = elim (leb_tells places k) [
-  | inl q ↦ m.above k q.1 ∙ sym (ap num (contents-past p slots k (let h = q.1 in omega arith)))
-  | inr q ↦ let h = q.1 in m.below k (omega arith)
+pub signed_done : {X : Type 0} (p : X → Bool) (none : X) (xs : List X) (bits : SlotBits) (place places len : ℕ) → places ≤ place → len ≤ places
+    → ((k : ℕ) → len ≤ k → p (get_or xs k none) ≡ false) → SignedBelow p none xs bits place places → AreSetBy p none xs bits
+signed_done p none xs bits place places len le few past s k = elim (leb_tells places k) [
+  | inl q ↦ s.above k q.1 ∙ sym (ap num (past k (let h = q.1 in omega arith)))
+  | inr q ↦ let h = q.1 in s.below k (omega arith)
 ]
-
--- so it is with the ready ones
-abbrev pub SignedBelow : List (Option Entry) → SlotBits → ℕ → ℕ → Type 0
-SignedBelow slots bits place places = MarkedBelow is_ready slots (bit_of bits.ready) place places
-
-pub signed_more : (slots : List (Option Entry)) (bits bits' : SlotBits) (place places : ℕ) → place < places → SignedBelow slots bits place places
-    → BitTurned bits bits' place (num (slot_has is_ready (get_or slots place None))) → SignedBelow slots bits' (place + 1) places
-signed_more slots bits bits' place places lt s t = marked_more is_ready slots _ _ place places lt s t.turned
-
-pub signed_done : (slots : List Slot) (bits : SlotBits) (place places : ℕ) → places ≤ place → length slots ≤ places → SignedBelow (contents slots) bits place places → AreSigned (contents slots) bits
-signed_done slots bits place places le len s = marked_done is_ready slots _ place places le len s
 
 -- ---- the ready ones taken out one by one
 

@@ -1,5 +1,5 @@
 -- What is kept beside the slots stays as it is where each message is marked as one that stood.
-use Rattle.queue.proofs.Names.{◌≡◌, ℕ, zero, suc, ◌<◌, ◌≤◌, List, [], ◌∷◌, ◌++◌, length, get_or, take, drop, map, refl, sym, ap, ◌∙◌, subst, arith, Bool, Option, Some, None, survived_now, is_ready, is_held_as, Entry, Slot, contents, somes, slot_has, changed, num, tally, SlotBits, BitsShow, total, ready_size, is_long, IsCounted}
+use Rattle.queue.proofs.Names.{◌≡◌, ℕ, zero, suc, ◌<◌, ◌≤◌, List, [], ◌∷◌, ◌++◌, length, get_or, take, drop, map, refl, sym, ap, ◌∙◌, subst, arith, Bool, Option, Some, None, survived_now, is_ready, is_held_as, Entry, Slot, contents, somes, slot_has, changed, num, tally, SlotBits, BitsShow, total, ready_size, is_long, IsCounted, get_or_default, length-map}
 use Rattle.std.proofs.Common.{set}
 use Rattle.queue.proofs.Slotted.{contents-length, contents-written}
 use Rattle.queue.proofs.Changing.{changed_next}
@@ -28,17 +28,13 @@ total-mapped : {X : Type 0} (g : X → ℕ) (f : X → X) → ((x : X) → g (f 
 total-mapped g f same [] = refl
 total-mapped g f same (x ∷ xs) = let a = same x in let b = total-mapped g f same xs in omega arith
 
-pub length-mapped : {X : Type 0} (f : X → X) (xs : List X) → length (map f xs) ≡ length xs
-length-mapped f [] = refl
-length-mapped f (x ∷ xs) = ap suc (length-mapped f xs)
-
 -- ---- the marks, the counts and the bytes
 
 pub stood_shows : (os : List (Option Entry)) (bits : SlotBits) (live : ℕ) → BitsShow os bits live → BitsShow (map (changed survived_now) os) bits live
 stood_shows os bits live s =
     let same = somes-changed survived_now os in record {
       signed = λ i. s.signed i ∙ ap num (sym (has_changed is_ready survived_now (λ e. refl) (get_or os i None)) ∙ ap (slot_has is_ready) (sym (there_changed survived_now os i)));
-      live_count = s.live_count ∙ sym (length-mapped survived_now (somes os)) ∙ ap length (sym same);
+      live_count = s.live_count ∙ sym (length-map (somes os) survived_now) ∙ ap length (sym same);
       distinct = λ holder. subst (λ (n : ℕ). n ≤ 1) (sym (tally-mapped (is_held_as holder) survived_now (λ e. refl) (somes os)) ∙ ap (tally (is_held_as holder)) (sym same)) (s.distinct holder);
     }
 
@@ -46,7 +42,7 @@ stood_shows os bits live s =
 pub stood_counted : (es : List Entry) (ready live bytes : ℕ) → IsCounted es ready live bytes → IsCounted (map survived_now es) ready live bytes
 stood_counted es ready live bytes c = record {
   ready_count = c.ready_count ∙ sym (tally-mapped is_ready survived_now (λ e. refl) es);
-  live_count = c.live_count ∙ sym (length-mapped survived_now es);
+  live_count = c.live_count ∙ sym (length-map es survived_now);
   sum = c.sum ∙ sym (total-mapped ready_size survived_now (λ e. refl) es);
   distinct = λ holder. subst (λ (n : ℕ). n ≤ 1) (sym (tally-mapped (is_held_as holder) survived_now (λ e. refl) es)) (c.distinct holder);
   short = tally-mapped is_long survived_now (λ e. refl) es ∙ c.short;
@@ -62,9 +58,4 @@ slot_next f slots start i j s d step lt at is new =
     let n = contents-length slots in
     let within : i < length (contents slots) = omega arith in
     contents-written slots i d s None (changed f) lt at new
-    ∙ changed_next (changed f) (contents slots) (contents start) i j (changed f (get_or (contents slots) i None)) (get_or (contents slots) i None) step within (there_any (contents slots) i within) is (ap (changed f) (there_any (contents slots) i within))
-  where
-    there_any : {X : Type 0} (xs : List (Option X)) (i : ℕ) → i < length xs → get_or xs i None ≡ get_or xs i (get_or xs i None)
-    there_any [] i h = absurd (omega arith)
-    there_any (x ∷ xs) zero h = refl
-    there_any (x ∷ xs) (suc i) h = there_any xs i (omega arith)
+    ∙ changed_next (changed f) (contents slots) (contents start) i j (changed f (get_or (contents slots) i None)) (get_or (contents slots) i None) step within (get_or_default (contents slots) i None (get_or (contents slots) i None) within) is (ap (changed f) (get_or_default (contents slots) i None (get_or (contents slots) i None) within))

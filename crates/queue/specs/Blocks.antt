@@ -7,8 +7,7 @@ use Rattle.model.specs.Entries.{is_held_as}
 use Rattle.model.specs.Reloading.{survived_now}
 use Rattle.model.specs.declared.messages.Entry.{Entry}
 use Rattle.model.specs.declared.messages.Holder.{Holder}
-use Rattle.marks.specs.Sets.{bit_of}
-use Rattle.queue.specs.Slots.{num, tally, SlotBits, HavePlaces}
+use Rattle.queue.specs.Slots.{tally, SlotBits, AreSetBy, HavePlaces, KeepsSize}
 
 -- a block: its entries, the number of pushes into it that need no allocation, and its number of slots
 pub record Stretch : Type 0 where
@@ -185,11 +184,31 @@ room_after room (b ∷ bs) = room_after b.room bs
 abbrev pub last_room : List Stretch → ℕ
 last_room blocks = room_after 0 blocks
 
--- The last block, with room `last`, and the spare blocks have the promised `room`, which needs all of them. `room` plus `live` fits in 64 bits.
-pub record HasRoom (room last spares live : ℕ) : Type 0 where
-  pub there : room ≤ last + spares * 1024
-  pub needed : 0 < spares → last + spares * 1024 < room + 1024
-  pub few : room + live ≤ 18446744073709551615
+-- The list's size and the last block's room stay, and the bounds on slots still hold.
+pub record KeepBounds (old new : Vec Stretch) : Type 0 where
+  pub size : KeepsSize old new
+  pub room : last_room new.items ≡ last_room old.items
+  pub filled : StayFilled old.items new.items
+  pub short : LastIsShort old.items → LastIsShort new.items
+
+-- The list's size and the last block's room stay. The bounds on slots hold, but at index `place` only with one more message.
+pub record KeepBoundsBut (place : ℕ) (old new : Vec Stretch) : Type 0 where
+  pub size : KeepsSize old new
+  pub room : last_room new.items ≡ last_room old.items
+  pub filled : (most : ℕ) → AreFilled most old.items → AreFilledBut place most new.items
+
+-- All messages stay in their order, the last block's room never shrinks, and the bounds on slots still hold.
+pub record HaveGrown (old new : List Stretch) : Type 0 where
+  pub entries : joined (parts new) ≡ joined (parts old)
+  pub kept : last_room old ≤ last_room new
+  pub filled : AreFilled 1024 old → AreFilled 1024 new
+
+-- The last block and the `spares` spare ones have the promised `room`, which needs all of them. If no room is promised, the last block has a
+-- message, or has fewer than 1,024 slots.
+pub record HasRoom (room : ℕ) (blocks : List Stretch) (spares : ℕ) : Type 0 where
+  pub there : room ≤ last_room blocks + spares * 1024
+  pub needed : 0 < spares → last_room blocks + spares * 1024 < room + 1024
+  pub short : room ≡ 0 → LastIsShort blocks
 
 -- The block has all 1,024 slots, and no message.
 pub record IsWhole (b : Stretch) : Type 0 where
@@ -205,18 +224,24 @@ AreWhole blocks = All IsWhole blocks
 abbrev pub HoldAsMany : Vec Stretch → SlotBits → Vec Stretch → SlotBits → Type 0
 HoldAsMany blocks bits blocks' bits' = (n : ℕ) → vec_len blocks + n ≤ bits.places → vec_len blocks' + n ≤ bits'.places
 
--- The `count` spare blocks are whole and empty, and `places` bits are enough for them and for the `used` blocks.
-pub record AreSpare (spares : List Stretch) (count used places : ℕ) : Type 0 where
-  pub whole : AreWhole spares
-  pub held : used + count ≤ places
-
 -- `p` is true of some element
 abbrev pub some_pass : {X : Type 0} → (X → Bool) → List X → Bool
 some_pass p xs = is_some (find p xs)
 
 -- The bit of each block says whether it has a ready message.
 abbrev pub AreBlocksSigned : List (List Entry) → SlotBits → Type 0
-AreBlocksSigned parts bits = (i : ℕ) → bit_of bits.ready i ≡ num (some_pass is_ready (get_or parts i []))
+AreBlocksSigned parts bits = AreSetBy (some_pass is_ready) [] parts bits
+
+-- Each block has a bit, which says whether it has a ready message. There are no more bits than the list has room for.
+pub record AreMarked (blocks : Vec Stretch) (bits : SlotBits) : Type 0 where
+  pub signed : AreBlocksSigned (parts blocks.items) bits
+  pub places : HavePlaces blocks bits
+
+-- The bits are right for the blocks, and suffice for the spare blocks, too, which are whole and empty.
+pub record AreKept (blocks : Vec Stretch) (bits : SlotBits) (spares : Vec Stretch) : Type 0 where
+  pub marked : AreMarked blocks bits
+  pub held : vec_len blocks + vec_len spares ≤ bits.places
+  pub whole : AreWhole spares.items
 
 -- the sum of `f` over the list
 abbrev pub total : {X : Type 0} → (X → ℕ) → List X → ℕ
@@ -245,16 +270,14 @@ pub record IsCounted (entries : List Entry) (ready live bytes : ℕ) : Type 0 wh
   pub distinct : (holder : Holder) → tally (is_held_as holder) entries ≤ 1
   pub short : tally is_long entries ≡ 0
 
--- The slots are at most twice the messages, plus the promised room, plus 3,072. If no room is promised the last block has a message,
--- or has fewer than 1,024 slots.
-pub record IsBounded (room : ℕ) (blocks spares : List Stretch) : Type 0 where
+-- The slots are at most twice the messages, plus the promised room, plus 3,072. The promised room plus the messages fit in 64 bits.
+pub record IsBounded (room live : ℕ) (blocks spares : List Stretch) : Type 0 where
   pub filled : AreFilled 1024 blocks
-  pub short : room ≡ 0 → LastIsShort blocks
   pub few : slots_of blocks + slots_of spares ≤ length (joined (parts blocks)) * 2 + room + 3072
+  pub fits : room + live ≤ 18446744073709551615
 
 -- The marks, counts, promised room and spare blocks that an `Indexed` keeps are right for its blocks.
 abbrev pub IsIndexed : Vec Stretch → Vec Stretch → SlotBits → (ready live bytes room : ℕ) → Type 0
 IsIndexed blocks spares bits ready live bytes room =
-    AreBlocksSigned (parts blocks.items) bits × HavePlaces blocks bits
-    × IsCounted (joined (parts blocks.items)) ready live bytes × HasRoom room (last_room blocks.items) (vec_len spares) live
-    × IsBounded room blocks.items spares.items × AreSpare spares.items (vec_len spares) (vec_len blocks) bits.places
+    AreKept blocks bits spares × IsCounted (joined (parts blocks.items)) ready live bytes × HasRoom room blocks.items (vec_len spares)
+    × IsBounded room live blocks.items spares.items

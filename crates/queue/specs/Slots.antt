@@ -36,6 +36,14 @@ slot_at slots place = get_or (contents slots) place None
 abbrev pub slot_changed : (Entry → Entry) → List Slot → ℕ → List (Option Entry)
 slot_changed f slots place = slice_set (contents slots) place (changed f (slot_at slots place))
 
+-- the vector is as long as before, and its capacity is the same
+abbrev pub KeepsSize : {X : Type 0} → Vec X → Vec X → Type 0
+KeepsSize old new = (vec_len new ≡ vec_len old) × (vec_capacity new ≡ vec_capacity old)
+
+-- the vector is no longer than before, and its capacity is the same
+abbrev pub IsNoLonger : {X : Type 0} → Vec X → Vec X → Type 0
+IsNoLonger old new = (vec_len new ≤ vec_len old) × (vec_capacity new ≡ vec_capacity old)
+
 -- 1 for yes, 0 for no
 abbrev pub num : Bool → ℕ
 num b = cond b 1 0
@@ -59,13 +67,13 @@ pub record BitTurned (old new : SlotBits) (place bit : ℕ) : Type 0 where
   pub turned : Differs (bit_of old.ready) (bit_of new.ready) place bit
   pub places : new.places ≡ old.places
 
--- the bit of each slot says whether it has an entry for which `p` is true
-abbrev pub SlotsAreMarked : (Entry → Bool) → List (Option Entry) → (ℕ → ℕ) → Type 0
-SlotsAreMarked p slots bit = (i : ℕ) → bit i ≡ num (slot_has p (get_or slots i None))
+-- the bit of each index says whether `p` is true of the element there, or of `none` if there is none
+abbrev pub AreSetBy : {X : Type 0} → (X → Bool) → X → List X → SlotBits → Type 0
+AreSetBy p none xs bits = (i : ℕ) → bit_of bits.ready i ≡ num (p (get_or xs i none))
 
 -- The bit of each slot says whether it has a ready message.
 abbrev pub AreSigned : List (Option Entry) → SlotBits → Type 0
-AreSigned slots bits = SlotsAreMarked is_ready slots (bit_of bits.ready)
+AreSigned slots bits = AreSetBy (slot_has is_ready) None slots bits
 
 -- The bits and the count kept beside the slots are right, and no two messages are held by the same holder.
 pub record BitsShow (slots : List (Option Entry)) (bits : SlotBits) (live : ℕ) : Type 0 where

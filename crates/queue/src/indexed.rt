@@ -6,11 +6,9 @@ ghost use Rattle.model.specs.Broker.{is_ready};
 ghost use Rattle.queue.specs.Line.{ready_count};
 ghost use Rattle.model.specs.Entries.{number_of};
 
-use crate::block::Block;
 use crate::blocks::{
-    Spot, first_ready_at, free_at, give_back_spare, held_at, held_bytes_at, hold_at, keep_room,
-    make_room, mark_reloaded_in, open_spare, push_last, ready_bytes_at, remove_at, settle, sign,
-    spot_held, take_at,
+    Chain, Spot, free_at, give_back_spare, hold_at, mark_reloaded_in, push_last, remove_at, settle,
+    sign, take_at,
 };
 use crate::signs::Signs;
 use crate::stores::Store;
@@ -26,11 +24,7 @@ use std::marker::Model;
 /// the front is freed. The number of ready messages and the bytes of their bodies are counted along.
 #[derive(Drop)]
 pub struct Indexed {
-    alloc: Global,
-    blocks: Vec<Block>,
-    /// Spare blocks, for promised room that the last of `blocks` doesn't have.
-    spares: Vec<Block>,
-    signs: Signs,
+    chain: Chain,
     ready_count: usize,
     /// The bytes of the bodies of the ready messages. 128 bits suffice for any number of bodies of any length.
     ready_bytes: u128,
@@ -48,9 +42,9 @@ impl Model for Indexed {
 
     ghost Value = { Line };
 
-    ghost view = { λ q. record { entries = joined (parts q.blocks.items); room = q.room } };
+    ghost view = { λ q. record { entries = joined (parts q.chain.blocks.items); room = q.room } };
 
-    ghost invariant = { λ q. IsIndexed q.blocks q.spares q.signs q.ready_count q.live q.ready_bytes q.room };
+    ghost invariant = { λ q. IsIndexed q.chain.blocks q.chain.spares q.chain.signs q.ready_count q.live q.ready_bytes q.room };
 }
 
 impl Store for Indexed {
@@ -58,10 +52,12 @@ impl Store for Indexed {
 
     fn new(alloc: Global) -> Indexed {
         Indexed {
-            alloc,
-            blocks: Vec::new(alloc),
-            spares: Vec::new(alloc),
-            signs: Signs::empty(alloc),
+            chain: Chain {
+                alloc,
+                blocks: Vec::new(alloc),
+                spares: Vec::new(alloc),
+                signs: Signs::empty(alloc),
+            },
             ready_count: 0,
             ready_bytes: 0,
             live: 0,
@@ -78,15 +74,7 @@ impl Store for Indexed {
         if more > usize::MAX - self.live {
             return Err(AllocError);
         }
-        make_room(
-            &mut self.blocks,
-            &mut self.signs,
-            &mut self.spares,
-            self.alloc,
-            self.arrived,
-            self.room,
-            more,
-        )?;
+        self.chain.make_room(self.arrived, self.room, more)?;
         self.room = more;
         Ok(())
     }
@@ -100,7 +88,7 @@ impl Store for Indexed {
             return;
         }
         self.room = 0;
-        keep_room(&mut self.blocks, &mut self.spares, 0, self.alloc);
+        self.chain.keep_room(0);
     }
 
     fn push(&mut self, message: Message) {
@@ -108,15 +96,9 @@ impl Store for Indexed {
         self.ready_bytes += message.content().body.len() as u128;
         self.live += 1;
         self.room -= 1;
-        open_spare(
-            &mut self.blocks,
-            &mut self.signs,
-            &mut self.spares,
-            self.alloc,
-            self.arrived,
-        );
-        let place = push_last(&mut self.blocks, self.arrived, message);
-        self.signs.set_ready(place);
+        self.chain.open_spare(self.arrived);
+        let place = push_last(&mut self.chain.blocks, self.arrived, message);
+        self.chain.signs.set_ready(place);
         self.arrived = self.arrived.wrapping_add(1);
     }
 
@@ -129,71 +111,81 @@ impl Store for Indexed {
     }
 
     fn first_ready(&self) -> Option<&Entry> {
-        match self.signs.first_ready() {
-            Some(place) => first_ready_at(&self.blocks, place),
+        match self.chain.signs.first_ready() {
+            Some(place) => self.chain.first_ready_at(place),
             None => None,
         }
     }
 
     /// Returns the number of the held message's arrival, by which binary search finds it again.
     fn hold(&mut self, holder: Holder) -> Option<u64> {
-        match self.signs.first_ready() {
+        match self.chain.signs.first_ready() {
             None => None,
             Some(place) => {
                 self.ready_count -= 1;
-                self.ready_bytes -= ready_bytes_at(&self.blocks, place) as u128;
-                let arrival = hold_at(&mut self.blocks, place, holder);
-                sign(&self.blocks, &mut self.signs, place);
+                self.ready_bytes -= self.chain.ready_bytes_at(place) as u128;
+                let arrival = hold_at(&mut self.chain.blocks, place, holder);
+                sign(&self.chain.blocks, &mut self.chain.signs, place);
                 arrival
             }
         }
     }
 
     fn take_first(&mut self) -> Option<Entry> {
-        match self.signs.first_ready() {
+        match self.chain.signs.first_ready() {
             None => None,
             Some(place) => {
                 self.ready_count -= 1;
-                self.ready_bytes -= ready_bytes_at(&self.blocks, place) as u128;
+                self.ready_bytes -= self.chain.ready_bytes_at(place) as u128;
                 self.live -= 1;
-                let entry = take_at(&mut self.blocks, place);
-                sign(&self.blocks, &mut self.signs, place);
-                settle(&mut self.blocks, &mut self.signs, place, self.alloc);
-                give_back_spare(&mut self.blocks, self.room, self.alloc);
+                let entry = take_at(&mut self.chain.blocks, place);
+                sign(&self.chain.blocks, &mut self.chain.signs, place);
+                settle(
+                    &mut self.chain.blocks,
+                    &mut self.chain.signs,
+                    place,
+                    self.chain.alloc,
+                );
+                give_back_spare(&mut self.chain.blocks, self.room, self.chain.alloc);
                 entry
             }
         }
     }
 
     fn held(&self, holder: &Holder, arrival: u64) -> Option<&Entry> {
-        match spot_held(&self.blocks, holder, arrival) {
-            Some(spot) => held_at(&self.blocks, spot.block, holder, spot.slot),
+        match self.chain.spot_held(holder, arrival) {
+            Some(spot) => self.chain.held_at(spot.block, holder, spot.slot),
             None => None,
         }
     }
 
     fn release(&mut self, holder: &Holder, arrival: u64) -> bool {
-        match spot_held(&self.blocks, holder, arrival) {
+        match self.chain.spot_held(holder, arrival) {
             None => false,
             Some(Spot { block, slot }) => {
                 self.ready_count += 1;
-                self.ready_bytes += held_bytes_at(&self.blocks, block, holder, slot) as u128;
-                free_at(&mut self.blocks, block, holder, slot);
-                sign(&self.blocks, &mut self.signs, block);
+                self.ready_bytes += self.chain.held_bytes_at(block, holder, slot) as u128;
+                free_at(&mut self.chain.blocks, block, holder, slot);
+                sign(&self.chain.blocks, &mut self.chain.signs, block);
                 true
             }
         }
     }
 
     fn remove(&mut self, holder: &Holder, arrival: u64) -> Option<Entry> {
-        match spot_held(&self.blocks, holder, arrival) {
+        match self.chain.spot_held(holder, arrival) {
             None => None,
             Some(Spot { block, slot }) => {
                 self.live -= 1;
-                let entry = remove_at(&mut self.blocks, block, holder, slot);
-                sign(&self.blocks, &mut self.signs, block);
-                settle(&mut self.blocks, &mut self.signs, block, self.alloc);
-                give_back_spare(&mut self.blocks, self.room, self.alloc);
+                let entry = remove_at(&mut self.chain.blocks, block, holder, slot);
+                sign(&self.chain.blocks, &mut self.chain.signs, block);
+                settle(
+                    &mut self.chain.blocks,
+                    &mut self.chain.signs,
+                    block,
+                    self.chain.alloc,
+                );
+                give_back_spare(&mut self.chain.blocks, self.room, self.chain.alloc);
                 entry
             }
         }
@@ -206,11 +198,11 @@ impl Store for Indexed {
 
     /// Takes a step for each slot.
     fn mark_reloaded(&mut self) {
-        mark_reloaded_in(&mut self.blocks);
+        mark_reloaded_in(&mut self.chain.blocks);
     }
 
     fn walk(&self) -> Walk<'_> {
-        Walk::of_blocks(&self.blocks)
+        Walk::of_blocks(&self.chain.blocks)
     }
 }
 

@@ -9,6 +9,7 @@ ghost use Rattle.model.specs.Reloading.{survived_now};
 ghost use Rattle.queue.specs.Line as seen_line;
 ghost use Rattle.queue.specs.Blocks as blocks;
 ghost use Rattle.queue.specs.Line.{requeued};
+ghost use Rattle.queue.specs.Slots.{IsNoLonger, KeepsSize};
 
 use crate::entries::{free_under, hold, is_free, is_held_under, mark_survived};
 use model::{Entry, Holder};
@@ -60,8 +61,7 @@ fn place_ready(entries: &[Entry]) -> Option<usize>
 pub(crate) fn hold_first(entries: &mut Vec<Entry>, holder: Holder) -> bool
     ensures reported { result ≡ is_some (find is_ready entries.old.items) }
     ensures entries { entries.new.items ≡ change_first is_ready (held_as holder) entries.old.items }
-    ensures len { vec_len entries.new ≡ vec_len entries.old }
-    ensures capacity { vec_capacity entries.new ≡ vec_capacity entries.old }
+    ensures size { KeepsSize entries.old entries.new }
 {
     match place_ready(entries) {
         None => false,
@@ -77,8 +77,7 @@ fn take_at(entries: &mut Vec<Entry>, place: usize) -> Entry
     requires { place < vec_len entries.old }
     ensures entry { result ≡ get_or entries.old.items place result }
     ensures entries { entries.new.items ≡ take place entries.old.items ++ drop (place + 1) entries.old.items }
-    ensures len { vec_len entries.new ≤ vec_len entries.old }
-    ensures capacity { vec_capacity entries.new ≡ vec_capacity entries.old }
+    ensures size { IsNoLonger entries.old entries.new }
 {
     entries.remove(place)
 }
@@ -87,8 +86,7 @@ fn take_at(entries: &mut Vec<Entry>, place: usize) -> Entry
 pub(crate) fn take_first(entries: &mut Vec<Entry>) -> Option<Entry>
     ensures taken { result ≡ find is_ready entries.old.items }
     ensures entries { entries.new.items ≡ without_first is_ready entries.old.items }
-    ensures len { vec_len entries.new ≤ vec_len entries.old }
-    ensures capacity { vec_capacity entries.new ≡ vec_capacity entries.old }
+    ensures size { IsNoLonger entries.old entries.new }
 {
     match place_ready(entries) {
         None => None,
@@ -107,8 +105,7 @@ pub(crate) fn first_held<'a>(entries: &'a [Entry], holder: &Holder) -> Option<&'
 pub(crate) fn release(entries: &mut Vec<Entry>, holder: &Holder) -> bool
     ensures reported { result ≡ is_some (find (is_held_as holder.now) entries.old.items) }
     ensures entries { entries.new.items ≡ requeued (is_under holder.now) entries.old.items }
-    ensures len { vec_len entries.new ≡ vec_len entries.old }
-    ensures capacity { vec_capacity entries.new ≡ vec_capacity entries.old }
+    ensures size { KeepsSize entries.old entries.new }
 {
     let is_held = first_held(entries, holder).is_some();
     free_all(entries, holder);
@@ -137,8 +134,7 @@ fn index_held(entries: &[Entry], holder: &Holder) -> Option<usize>
 fn take_held(entries: &mut Vec<Entry>, holder: &Holder) -> Option<Entry>
     ensures taken { result ≡ find (is_held_as holder.now) entries.old.items }
     ensures entries { entries.new.items ≡ without_first (is_held_as holder.now) entries.old.items }
-    ensures len { vec_len entries.new ≤ vec_len entries.old }
-    ensures capacity { vec_capacity entries.new ≡ vec_capacity entries.old }
+    ensures size { IsNoLonger entries.old entries.new }
 {
     match index_held(entries, holder) {
         None => None,
@@ -149,8 +145,7 @@ fn take_held(entries: &mut Vec<Entry>, holder: &Holder) -> Option<Entry>
 /// Removes all entries held by `holder`.
 fn drop_held(entries: &mut Vec<Entry>, holder: &Holder)
     ensures entries { entries.new.items ≡ filter (λ e. not (is_held_as holder.now e)) entries.old.items }
-    ensures len { vec_len entries.new ≤ vec_len entries.old }
-    ensures capacity { vec_capacity entries.new ≡ vec_capacity entries.old }
+    ensures size { IsNoLonger entries.old entries.new }
 {
     entries.retain(|entry| !is_held_under(entry, holder));
 }
@@ -159,8 +154,7 @@ fn drop_held(entries: &mut Vec<Entry>, holder: &Holder)
 pub(crate) fn remove(entries: &mut Vec<Entry>, holder: &Holder) -> Option<Entry>
     ensures taken { result ≡ find (is_held_as holder.now) entries.old.items }
     ensures entries { entries.new.items ≡ filter (λ e. not (is_held_as holder.now e)) entries.old.items }
-    ensures len { vec_len entries.new ≤ vec_len entries.old }
-    ensures capacity { vec_capacity entries.new ≡ vec_capacity entries.old }
+    ensures size { IsNoLonger entries.old entries.new }
 {
     let entry = take_held(entries, holder);
     drop_held(entries, holder);
@@ -192,8 +186,7 @@ fn append_numbers(entries: &[Entry], numbers: &mut Vec<u64>)
 /// Removes the ready entries.
 fn drop_ready(entries: &mut Vec<Entry>)
     ensures entries { entries.new.items ≡ filter (λ e. not (is_ready e)) entries.old.items }
-    ensures len { vec_len entries.new ≤ vec_len entries.old }
-    ensures capacity { vec_capacity entries.new ≡ vec_capacity entries.old }
+    ensures size { IsNoLonger entries.old entries.new }
 {
     entries.retain(|entry| !is_free(entry));
 }
@@ -203,9 +196,8 @@ pub(crate) fn purge(entries: &mut Vec<Entry>, numbers: &mut Vec<u64>)
     requires { vec_len numbers.old + seen_line.ready_count entries.old.items ≤ vec_capacity numbers.old }
     ensures entries { entries.new.items ≡ filter (λ e. not (is_ready e)) entries.old.items }
     ensures numbers { numbers.new.items ≡ numbers.old.items ++ map number_of (filter is_ready entries.old.items) }
-    // The frame: `entries` is no longer than before, and neither capacity changes.
-    ensures len { vec_len entries.new ≤ vec_len entries.old }
-    ensures capacity { vec_capacity entries.new ≡ vec_capacity entries.old }
+    // The frame.
+    ensures size { IsNoLonger entries.old entries.new }
     ensures numbers_capacity { vec_capacity numbers.new ≡ vec_capacity numbers.old }
 {
     append_numbers(entries, numbers);

@@ -6,7 +6,7 @@ ghost use Rattle.model.specs.Broker.{is_ready};
 ghost use Rattle.model.specs.Entries.{is_held_as, held_as, freed_now};
 ghost use Rattle.model.specs.Reloading.{survived_now};
 ghost use Rattle.marks.specs.Sets.{bit_of};
-ghost use Rattle.queue.specs.Slots.{contents, somes, slot_has, slot_at, slot_changed, changed, num, AreSigned, BitTurned};
+ghost use Rattle.queue.specs.Slots.{contents, somes, slot_has, slot_at, slot_changed, changed, num, AreSigned, BitTurned, IsNoLonger, KeepsSize};
 
 use crate::entries::{free, hold, is_free, is_held_under, mark_survived};
 use crate::signs::Signs;
@@ -106,8 +106,7 @@ pub(crate) fn index_held(slots: &[Slot], holder: &Holder, near: usize) -> Option
 pub(crate) fn hold_at(slots: &mut Vec<Slot>, index: usize, holder: Holder) -> u64
     requires { index < vec_len slots.old }
     ensures contents { contents slots.new.items ≡ slot_changed (held_as holder) slots.old.items index }
-    ensures len { vec_len slots.new ≡ vec_len slots.old }
-    ensures capacity { vec_capacity slots.new ≡ vec_capacity slots.old }
+    ensures size { KeepsSize slots.old slots.new }
 {
     hold_here(&mut slots[index].entry, holder);
     arrival_at(slots, index)
@@ -117,8 +116,7 @@ pub(crate) fn hold_at(slots: &mut Vec<Slot>, index: usize, holder: Holder) -> u6
 pub(crate) fn free_at(slots: &mut Vec<Slot>, index: usize)
     requires { index < vec_len slots.old }
     ensures contents { contents slots.new.items ≡ slot_changed freed_now slots.old.items index }
-    ensures len { vec_len slots.new ≡ vec_len slots.old }
-    ensures capacity { vec_capacity slots.new ≡ vec_capacity slots.old }
+    ensures size { KeepsSize slots.old slots.new }
 {
     free_here(&mut slots[index].entry);
 }
@@ -137,8 +135,7 @@ pub(crate) fn take_at(slots: &mut Vec<Slot>, index: usize) -> Option<Entry>
     requires { index < vec_len slots.old }
     ensures taken { result ≡ slot_at slots.old.items index }
     ensures contents { contents slots.new.items ≡ slice_set (contents slots.old.items) index None }
-    ensures len { vec_len slots.new ≡ vec_len slots.old }
-    ensures capacity { vec_capacity slots.new ≡ vec_capacity slots.old }
+    ensures size { KeepsSize slots.old slots.new }
 {
     slots[index].entry.take()
 }
@@ -171,8 +168,7 @@ fn move_all(slots: &mut Vec<Slot>, others: Vec<Slot>)
 fn drop_empty(slots: &mut Vec<Slot>)
     ensures entries { somes (contents slots.new.items) ≡ somes (contents slots.old.items) }
     ensures closed { vec_len slots.new ≡ length (somes (contents slots.old.items)) }
-    ensures len { vec_len slots.new ≤ vec_len slots.old }
-    ensures capacity { vec_capacity slots.new ≡ vec_capacity slots.old }
+    ensures size { IsNoLonger slots.old slots.new }
 {
     slots.retain(|slot| slot.entry.is_some());
 }

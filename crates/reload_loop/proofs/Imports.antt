@@ -1,5 +1,5 @@
 -- The names that several files of these proofs use.
-pub use Rattle.engine.specs.Wanting.{engine_lacks}
+pub use Rattle.engine.specs.Allocating.{MayAllocate}
 pub use Rattle.engine.specs.World.{world_of}
 pub use Rattle.model.specs.Arrivals.{Same, World, new_world}
 pub use Rattle.model.specs.State.{Config}
@@ -7,11 +7,11 @@ pub use Rattle.model.specs.Words.{Text}
 pub use Rattle.reload_loop.specs.Looks.{IsFaultReported, IsFound, IsFoundAgain, IsOffered, IsWhyNotPut, JudgesOffer, Looks, WasFound, done, refused, stopped, unchanged, wanting}
 pub use Rattle.reload_loop.specs.Program.{AsksToServe, IsEvery, IsNotServe, ServesReloading, asked_by, names_in, reloading, reloads, serves, unserved, without}
 pub use Rattle.reload_loop.specs.ServesOn.{ServesOn, BetweenRounds, last, more, between_rounds}
-pub use Rattle.reload_loop.specs.Snapshots.{AllRead, AreHeld, AreSame, IsHeld, IsReadFrom, IsSameText, IsSlotOf, Snap, WasRead, known_in, names_of}
+pub use Rattle.reload_loop.specs.Snapshots.{AreHeld, IsReadFrom, Snap, known_in, names_of}
 pub use Rattle.reload_loop.specs.declared.found.Found.{Found}
 pub use Rattle.scripts.specs.FileNames.{FileNames}
 pub use Rattle.server.proofs.Beginning.{asked_once, asks_same, memory_reported}
-pub use Rattle.server.specs.Files.{Absent, AreKept, HasText, Holds, Known, Unknown}
+pub use Rattle.server.specs.Files.{AreKept, Known}
 pub use Rattle.server.specs.Streams.{OutputStream, change}
 pub use Rattle.serving.specs.Story.{Served, served}
 pub use Rattle.serving.specs.Whole.{IsServed}

@@ -1,5 +1,5 @@
 -- What a look comes to, by its steps.
-use Rattle.reload_loop.proofs.Imports.{◌≡◌, Bool, false, Decides, Option, Some, None, refl, subst, sym, Ok, Err, Text, Config, World, Same, engine_lacks, Known, Holds, Absent, Unknown, AreKept, HasText, FileNames, OutputStream, change, Found, Snap, AllRead, AreHeld, AreSame, IsHeld, IsReadFrom, IsSameText, IsSlotOf, WasRead, IsFaultReported, IsFound, IsFoundAgain, IsOffered, IsWhyNotPut, JudgesOffer, Looks, WasFound, done, refused, stopped, wanting}
+use Rattle.reload_loop.proofs.Imports.{◌≡◌, Bool, false, Decides, Option, Some, None, refl, subst, sym, Ok, Err, Text, Config, World, Same, MayAllocate, Known, AreKept, FileNames, OutputStream, change, Found, Snap, AreHeld, IsReadFrom, IsFaultReported, IsFound, IsFoundAgain, IsOffered, IsWhyNotPut, JudgesOffer, Looks, WasFound, done, refused, stopped, wanting}
 use Rattle.std.proofs.Common.{true}
 use Rattle.std.specs.Io.KnownBytes.{Keeps}
 use Rattle.runs.specs.Reloaded.{IsPutInForce}
@@ -7,6 +7,7 @@ use Rattle.model.specs.declared.obstacles.Obstacle.{Obstacle}
 use Rattle.model.specs.declared.obstacles.Obstacle.TheVariants as obstacle
 use Rattle.runs.specs.Faults.{obstacle_in}
 use Rattle.runs.specs.Wants.{To_reload}
+use Rattle.engine.specs.Allocating.{judges}
 use Rattle.engine.specs.Offered.{JudgesOffered}
 use Rattle.runs.specs.declared.faults.ReloadFault.{ReloadFault}
 use Rattle.runs.specs.declared.faults.ReloadFault.TheVariants.{InUse, Breaks, Memory}
@@ -26,38 +27,6 @@ same_holds f g k = λ i name. k name i
 -- what is decided so is so, or not
 pub is_not : (b : Bool) (P : Type 0) → b ≡ false → Decides b P → P → ⊥
 is_not b P no' d p = let so : b ≡ true = d.1 p in cc
-
--- a text that was read and is found again is held
-slot_held : (known slot : Known) → WasRead slot → IsSlotOf known slot → IsHeld known slot
-slot_held known (Holds text) was is = is.whole
-slot_held known Absent was is = absurd was
-slot_held known Unknown was is = absurd was
-
-pub all_held : (holds : Text → Known) (names : FileNames) (s : Snap) → AllRead s → IsReadFrom holds names s → AreHeld holds names s
-all_held holds names s all from = record {
-  definitions = slot_held _ _ all.definitions from.definitions;
-  guarantees = slot_held _ _ all.guarantees from.guarantees;
-  certificates = slot_held _ _ all.certificates from.certificates;
-}
-
--- the same of files that have the texts of others
-same_held : (known one other : Known) → IsSameText one other → IsSlotOf known one → IsHeld known other
-same_held known (Holds s) (Holds t) same is = subst (λ (x : Text). HasText known x) same is.whole
-same_held known (Holds s) Absent same is = absurd same
-same_held known (Holds s) Unknown same is = absurd same
-same_held known Absent other same is = absurd same
-same_held known Unknown other same is = absurd same
-
-pub read_held : (holds : Text → Known) (names : FileNames) (read kept : Snap) → AreSame read kept → IsReadFrom holds names read → AreHeld holds names kept
-read_held holds names read kept same from = record {
-  definitions = same_held _ _ _ same.definitions from.definitions;
-  guarantees = same_held _ _ _ same.guarantees from.guarantees;
-  certificates = same_held _ _ _ same.certificates from.certificates;
-}
-
--- files that were read once what is known of them stayed are read from those before
-pub read_before : (a b : Text → Known) (names : FileNames) (s : Snap) → AreKept a b → IsReadFrom b names s → IsReadFrom a names s
-read_before a b names s k h = subst (λ (x : Text → Known). IsReadFrom x names s) (same_holds a b k) h
 
 -- what was found before is found in files that are found as they were read then
 pub found_again : (holds : Text → Known) (names : FileNames) (kept : Snap) (found : Found) → WasFound names kept found → IsFoundAgain holds names found → IsFound holds names kept found
@@ -88,13 +57,6 @@ pub done_look : (holds : Text → Known) (names : FileNames) (o : Option Text) (
     → Looks holds names (change o o) kept a read b true
 done_look holds names o kept read a b force from f p = done force from f.other f.states p (untouched o)
 
--- what is not put in force is reported, and nothing is different
-pub fault_look : (holds : Text → Known) (names : FileNames) (err : OutputStream) (kept read : Snap) (a b : World) (force : Config) (fault : ReloadFault) (whole : Bool) → IsReadFrom holds names read → IsOffered names kept read force
-    → IsWhyNotPut a force (obstacle_in fault) → Same a b → IsFaultReported err fault whole → Looks holds names err kept a kept b whole
-fault_look holds names err kept read a b force (InUse q) whole from f why same report = stopped read force (obstacle.InUse q) from f.other f.states why same report
-fault_look holds names err kept read a b force (Breaks q key number) whole from f why same report = stopped read force (obstacle.Breaks q key number) from f.other f.states why same report
-fault_look holds names err kept read a b force Memory whole from f why same report = wanting read force from f.other f.states why same report
-
 -- the obstacle to it is reported, or there is none
 pub stands : (w : World) (force : Config) (found : Option Obstacle) (o : Obstacle) (fault : ReloadFault) → found ≡ Some o → JudgesOffered w force found → obstacle_in fault ≡ Some o → JudgesOffer w force (Err fault)
 stands w force found o fault is t report = subst (λ (z : Option Obstacle). IsWhyNotPut w force z) (sym report) (subst (λ (z : Option Obstacle). JudgesOffered w force z) is t)
@@ -105,12 +67,14 @@ none_stands w force found none t = subst (λ (z : Option Obstacle). JudgesOffere
 same_world : (w : World) → Same w w
 same_world w = record { config = refl; state = refl; given = refl; wires = λ c. refl }
 
--- so where it was judged and not tried
+-- why it is not put in force is reported, and nothing is different
 pub judged_look : (holds : Text → Known) (names : FileNames) (err : OutputStream) (kept read : Snap) (w : World) (force : Config) (fault : ReloadFault) (whole : Bool) → IsReadFrom holds names read → IsOffered names kept read force
     → JudgesOffer w force (Err fault) → IsFaultReported err fault whole → Looks holds names err kept w kept w whole
-judged_look holds names err kept read w force fault whole from f judged report = fault_look holds names err kept read w w force fault whole from f judged (same_world w) report
+judged_look holds names err kept read w force (InUse q) whole from f judged report = stopped read force (obstacle.InUse q) from f.other f.states judged (same_world w) report
+judged_look holds names err kept read w force (Breaks q key number) whole from f judged report = stopped read force (obstacle.Breaks q key number) from f.other f.states judged (same_world w) report
+judged_look holds names err kept read w force Memory whole from f judged report = wanting read force from f.other f.states (judges judged) (same_world w) report
 
 -- and where an allocation failed
 pub unput_look : (holds : Text → Known) (names : FileNames) (err : OutputStream) (kept read : Snap) (a b : World) (force : Config) (whole : Bool) → IsReadFrom holds names read → IsOffered names kept read force
-    → engine_lacks a (To_reload force) → Same a b → IsFaultReported err Memory whole → Looks holds names err kept a kept b whole
-unput_look holds names err kept read a b force whole from f lacks same report = fault_look holds names err kept read a b force Memory whole from f lacks same report
+    → MayAllocate a (To_reload force) → Same a b → IsFaultReported err Memory whole → Looks holds names err kept a kept b whole
+unput_look holds names err kept read a b force whole from f may same report = wanting read force from f.other f.states may same report

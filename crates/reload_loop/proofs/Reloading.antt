@@ -1,5 +1,5 @@
 -- What comes of serving with looks at the files.
-use Rattle.reload_loop.proofs.Imports.{◌≡◌, ℕ, Bool, List, [], Option, Some, None, ap, subst, sym, asked_once, Text, Config, new_world, engine_lacks, Known, AreKept, FileNames, Served, IsServed, OutputStream, change, Snap, IsReadFrom, known_in, ServesOn, BetweenRounds, between_rounds, AsksToServe, IsEvery, IsNotServe, ServesReloading, reloading}
+use Rattle.reload_loop.proofs.Imports.{◌≡◌, ℕ, Bool, List, [], Option, Some, None, ap, subst, sym, asked_once, Text, Config, new_world, MayAllocate, Known, AreKept, FileNames, Served, IsServed, OutputStream, change, Snap, IsReadFrom, known_in, ServesOn, BetweenRounds, between_rounds, AsksToServe, IsEvery, IsNotServe, ServesReloading, reloading}
 use Rattle.std.proofs.Common.{true}
 use Rattle.command_line.specs.CommandLine.{Wanted, Serve, AsksFor}
 use Rattle.serving.specs.Wire.{Traffic}
@@ -13,7 +13,7 @@ use Rattle.reload_loop.proofs.Outcomes.{same_holds}
 pub serves_reloading : (holds : Text → Known) (names : FileNames) (turns : Option Text) (every : Text) (may : Openings) (out : OutputStream) (before said after : Option Text) (first last : Snap) (start end : Served) (count step : ℕ) (whole : Bool)
     → IsReadFrom holds names first → Begins (known_in names first) names.definitions names.guarantees names.certificates may out (change before said) start
     → IsTurns turns count → IsEvery every step → ServesOn holds names step count (between_rounds start first said true) (between_rounds end last after whole)
-    → ((f : Config) → start.world ≡ new_world f → start.peers ≡ [] → IsServed engine_lacks f start.traffic end)
+    → ((f : Config) → start.world ≡ new_world f → start.peers ≡ [] → IsServed MayAllocate f start.traffic end)
     → ServesReloading holds names turns every may out (change before after) end whole
 serves_reloading holds names turns every may out before said after first last start end count step whole read b counted stepped serves kept = record {
   first = first;
@@ -29,7 +29,7 @@ serves_reloading holds names turns every may out before said after first last st
   stepped = stepped;
   last = last;
   serves = subst (λ (v : Served). ServesOn holds names step count (between_rounds v first said true) (between_rounds end last after whole)) b.is serves;
-  kept = subst (λ (t : Traffic). IsServed engine_lacks b.force t end) (ap (λ (v : Served). v.traffic) b.is) (kept b.force (ap (λ (v : Served). v.world) b.is) (ap (λ (v : Served). v.peers) b.is));
+  kept = subst (λ (t : Traffic). IsServed MayAllocate b.force t end) (ap (λ (v : Served). v.traffic) b.is) (kept b.force (ap (λ (v : Served). v.world) b.is) (ap (λ (v : Served). v.peers) b.is));
 }
 
 -- what is said of a service that was returned, and what if none was, is how `serve --reload` ends

@@ -8,7 +8,7 @@ use Rattle.model.specs.declared.obstacles.Obstacle.{Obstacle}
 use Rattle.runs.specs.Reloaded.{IsPutInForce, NothingHinders}
 use Rattle.runs.specs.Faults.{obstacle_in}
 use Rattle.runs.specs.Wants.{To_reload}
-use Rattle.engine.specs.Wanting.{engine_lacks}
+use Rattle.engine.specs.Allocating.{JudgingOfferMayAllocate, MayAllocate}
 use Rattle.runs.specs.declared.faults.ReloadFault.{ReloadFault}
 use Rattle.engine.specs.World.{Parts, world_of}
 use Rattle.serving.specs.Serving.{Serving}
@@ -83,10 +83,10 @@ IsFound holds names kept (Admitted read force) = IsReadFrom holds names read × 
 
 -- ---- an offered configuration
 
--- why `offered` is not put in force: its first obstacle, or, for `None`, an allocation failure, which is possible at this reload
+-- why judging does not let `offered` be put in force: its first obstacle, or, for `None`, an allocation failure, which is possible at this judging
 abbrev pub IsWhyNotPut : World → Config → Option Obstacle → Type 0
 IsWhyNotPut old offered (Some o) = IsObstacle old.config.topology offered old.state.broker o
-IsWhyNotPut old offered None = engine_lacks old (To_reload offered)
+IsWhyNotPut old offered None = JudgingOfferMayAllocate old offered
 
 -- there is no obstacle to `offered`, or the result says why it is not put in force
 abbrev pub JudgesOffer : World → Config → Result Unit ReloadFault → Type 0
@@ -111,11 +111,10 @@ pub data Looks (holds : Text → Known) (names : FileNames) (err : OutputStream)
       → IsReadFrom holds names read → IsOther read kept → IsStated names read force
       → IsObstacle old.config.topology force old.state.broker o → Same old new
       → WritesLine err (obstacle_message o) whole → Looks holds names err kept old kept new whole
-  -- the files have other texts, and an allocation failed, as is possible only if the new topology declares each queue in use,
-  -- or if the first queue in use that it lacks has a long name
+  -- the files have other texts, and an allocation failed, as is possible only if there is no obstacle to what they state, or if judging it may allocate
   wanting : {new : World} {whole : Bool} (read : Snap) (force : Config)
       → IsReadFrom holds names read → IsOther read kept → IsStated names read force
-      → engine_lacks old (To_reload force) → Same old new
+      → MayAllocate old (To_reload force) → Same old new
       → PutsOut err out_of_memory whole → Looks holds names err kept old kept new whole
 
 -- ---- a look, by the server whose broker it reloads

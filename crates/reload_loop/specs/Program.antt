@@ -7,7 +7,7 @@ use Rattle.model.specs.Arrivals.{new_world}
 use Rattle.serving.specs.Wire.{Traffic}
 use Rattle.serving.specs.Story.{Served, served}
 use Rattle.serving.specs.Whole.{IsServed}
-use Rattle.engine.specs.Wanting.{engine_lacks}
+use Rattle.engine.specs.Allocating.{MayAllocate}
 use Rattle.command_line.specs.CommandLine.{Wanted, Check, Verify, Replay, Serve, Route, AsksFor}
 use Rattle.server.specs.Files.{Known, AreKept}
 use Rattle.server.specs.Stated.{file_named}
@@ -67,7 +67,7 @@ pub record ServesReloading (holds : Text → Known) (names : FileNames) (turns :
   pub last : Snap
   pub serves : ServesOn holds names step count (between_rounds (served (new_world force) [] start) first said true) (between_rounds end last err.after whole)
   -- all that arrived at the broker, reloads included, and certified delivery's promises of it
-  pub kept : IsServed engine_lacks force start end
+  pub kept : IsServed MayAllocate force start end
 
 -- How `serve --reload` ends: with the server as it is at the end, if clients could connect,
 -- and a status that says whether each line of a look was taken whole.

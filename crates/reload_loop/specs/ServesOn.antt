@@ -5,7 +5,7 @@ use Rattle.server.specs.Files.{Known}
 use Rattle.scripts.specs.FileNames.{FileNames}
 use Rattle.serving.specs.Story.{Served, served}
 use Rattle.serving.specs.Rounds.{Rounds}
-use Rattle.engine.specs.Wanting.{engine_lacks}
+use Rattle.engine.specs.Allocating.{MayAllocate}
 use Rattle.server.specs.Streams.{change}
 use Rattle.reload_loop.specs.Snapshots.{Snap}
 use Rattle.reload_loop.specs.Looks.{Looks}
@@ -31,9 +31,9 @@ pub record LooksOn (holds : Text → Known) (names : FileNames) (old new : Betwe
 
 -- `turns` rounds, with a look after every `every` of them, except at the end.
 pub data ServesOn (holds : Text → Known) (names : FileNames) (every : ℕ) : ℕ → BetweenRounds → BetweenRounds → Type 0 where
-  last : {turns : ℕ} {old new : BetweenRounds} → turns ≤ every → Rounds engine_lacks turns old.served new.served
+  last : {turns : ℕ} {old new : BetweenRounds} → turns ≤ every → Rounds MayAllocate turns old.served new.served
       → new ≡ record old { served = new.served } → ServesOn holds names every turns old new
   more : {turns : ℕ} {old looked new : BetweenRounds} (mid : Served) → every < turns
-      → Rounds engine_lacks every old.served mid → LooksOn holds names (record old { served = mid }) looked
+      → Rounds MayAllocate every old.served mid → LooksOn holds names (record old { served = mid }) looked
       → ServesOn holds names every (turns - every) looked new
       → ServesOn holds names every turns old new

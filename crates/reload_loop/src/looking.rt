@@ -2,7 +2,7 @@
 
 ghost use Rattle.std.specs.Prelude.{◌≡◌, is_ok, true, MatchResult};
 ghost use Rattle.engine.specs.World.{world_of};
-ghost use Rattle.engine.specs.Wanting.{engine_lacks};
+ghost use Rattle.engine.specs.Allocating.{MayAllocate};
 ghost use Rattle.runs.specs.Reloaded.{NothingHinders};
 ghost use Rattle.scripts.specs.FileNames.{FileNames};
 ghost use Rattle.server.specs.Files.{AreKept};
@@ -122,7 +122,7 @@ fn put_in_force<E: Write>(
     requires nothing { NothingHinders (world_of server.old.machine) setup }
     ensures looks { PutsOffer read setup (gain E.contents err.old err.new) kept.old server.old kept.new server.new (is_ok result) }
     ensures peers { server.new.peers ≡ server.old.peers }
-    ensures served { KeepsServed engine_lacks world_of server.old server.new }
+    ensures served { KeepsServed MayAllocate world_of server.old server.new }
 {
     match server.put_in_force(alloc, setup) {
         Ok(()) => {
@@ -145,7 +145,7 @@ fn act<'a, E: Write>(
     ensures looks { ActsOnFound found.old (gain E.contents err.old err.new) kept.old server.old kept.new server.new (is_ok result) }
     ensures found { (names : FileNames) → WasFound names kept.old found.old → WasFound names kept.new found.new }
     ensures peers { server.new.peers ≡ server.old.peers }
-    ensures served { KeepsServed engine_lacks world_of server.old server.new }
+    ensures served { KeepsServed MayAllocate world_of server.old server.new }
 {
     match mem::replace(found, Found::Nothing) {
         Found::Nothing => Ok(()),
@@ -183,7 +183,7 @@ pub(crate) fn look<'a, F: Files, E: Write>(
     // What is remembered; the peers and the files are unchanged, and `IsServed` is kept.
     ensures found { WasFound (names_of names.entry) kept.new found.new }
     ensures peers { server.new.peers ≡ server.old.peers }
-    ensures served { KeepsServed engine_lacks world_of server.old server.new }
+    ensures served { KeepsServed MayAllocate world_of server.old server.new }
     ensures files { AreKept (F.holds files.old) (F.holds files.new) }
 {
     find_again(alloc, names, &*kept, found, files);

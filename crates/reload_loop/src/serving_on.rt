@@ -2,7 +2,7 @@
 
 ghost use Rattle.std.specs.Prelude.{◌≤◌, true};
 ghost use Rattle.engine.specs.World.{world_of};
-ghost use Rattle.engine.specs.Wanting.{engine_lacks};
+ghost use Rattle.engine.specs.Allocating.{MayAllocate};
 ghost use Rattle.server.specs.Files.{AreKept};
 ghost use Rattle.serving.specs.Serving.{server_state};
 ghost use Rattle.serving.specs.Whole.{StaysServed};
@@ -40,7 +40,7 @@ pub fn serve_and_reload<W: Wire, F: Files, E: Write>(
         (between_rounds (server_state world_of W.past server.old sockets.old) kept.old (E.contents err.old) true)
         (between_rounds (server_state world_of W.past server.new sockets.new) kept.new (E.contents err.new) result) }
     // `IsServed` is kept: it has all that arrived since the server was new, reloads included, and certified delivery's promises of it.
-    ensures served { StaysServed engine_lacks (server_state world_of W.past server.old sockets.old) (server_state world_of W.past server.new sockets.new) }
+    ensures served { StaysServed MayAllocate (server_state world_of W.past server.old sockets.old) (server_state world_of W.past server.new sockets.new) }
     ensures files { AreKept (F.holds files.old) (F.holds files.new) }
 {
     let mut found = Found::Nothing;

@@ -5,4 +5,4 @@ pub mod Narrowed
 pub mod Entries
 pub mod Kept
 pub mod Judged
-pub mod Wanting
+pub mod Allocating

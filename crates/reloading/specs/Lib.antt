@@ -4,4 +4,4 @@ pub mod LiveQueues
 pub mod Narrowing
 pub mod Obstacles
 pub mod Passed
-pub mod Wanting
+pub mod Allocating

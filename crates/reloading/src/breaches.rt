@@ -9,7 +9,7 @@ ghost use Rattle.reloading.specs.First.{ReportsFirst};
 ghost use Rattle.reloading.specs.Forbidding.{AreForbidding, EndangersBelow, IsFixedFor, NoneForbids, NoneMay};
 ghost use Rattle.reloading.specs.Obstacles.{AreAlike, ReportsQueues};
 ghost use Rattle.reloading.specs.Narrowing.{EntriesReport, ReportsMessage, QueuesReport, ReportsBelow};
-ghost use Rattle.reloading.specs.Wanting.{HasNever};
+ghost use Rattle.reloading.specs.Allocating.{HasNever};
 
 use crate::danger::Danger;
 use crate::dangers::{all_forbidding, first_endangering, first_may, fixed_for};

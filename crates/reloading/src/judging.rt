@@ -1,10 +1,8 @@
 //! Finds the obstacle to a reload. Start here.
 
 ghost use Rattle.std.specs.Prelude.{IfOk, OnErr};
-ghost use Rattle.model.specs.Broker.{Broker};
 ghost use Rattle.reloading.specs.Obstacles.{JudgesReload};
-ghost use Rattle.reloading.specs.LiveQueues.{ShowsQueues};
-ghost use Rattle.reloading.specs.Wanting.{HasNeverIfKept, MayWant};
+ghost use Rattle.reloading.specs.Allocating.{JudgingQueuesMayAllocate};
 
 use crate::breaches::first_breach;
 use crate::live_queues::LiveQueues;
@@ -28,9 +26,8 @@ pub fn obstacle<S: LiveQueues>(
     guarantees: &[Guarantee],
 ) -> Result<Option<Obstacle>, AllocError>
     ensures reported { IfOk result (JudgesReload old.now (S.entries live.now) (S.consumed live.now) topology.now guarantees.now) }
-    // When it may fail to allocate: as `MayWant` says, and, if each queue in use is still declared, only with a `never` guarantee.
-    ensures wants { OnErr result ((b : Broker) → ShowsQueues old.now (S.entries live.now) (S.consumed live.now) b → MayWant old.now topology.now b) }
-    ensures never { OnErr result (HasNeverIfKept old.now (S.entries live.now) (S.consumed live.now) topology.now guarantees.now) }
+    // When it may fail to allocate (`JudgingMayAllocate`).
+    ensures wants { OnErr result (JudgingQueuesMayAllocate old.now (S.entries live.now) (S.consumed live.now) topology.now guarantees.now) }
 {
     match first_orphaned(live, old, topology)? {
         Some(orphaned) => Ok(Some(orphaned)),

@@ -5,7 +5,7 @@ ghost use Rattle.model.specs.Topology.{queue_names};
 ghost use Rattle.model.specs.declared.obstacles.Obstacle.TheVariants.{InUse};
 ghost use Rattle.reloading.specs.First.{ReportsFirst};
 ghost use Rattle.reloading.specs.Obstacles.{IsUsed, ReportsQueue, ReportsUse};
-ghost use Rattle.reloading.specs.Wanting.{FirstIsLong, IsLong};
+ghost use Rattle.reloading.specs.Allocating.{FirstIsLong, IsLong};
 
 use crate::live_queues::LiveQueues;
 use exchange_graph::Topology;

@@ -1,5 +1,6 @@
 -- Connections by place and by number.
 use Rattle.runs.proofs.Names.{◌≡◌, ◌≢◌, ℕ, zero, suc, ◌+◌, ◌-◌, ◌<◌, ◌≤◌, List, [], ◌∷◌, ◌++◌, Bool, true, false, cond, eqb, length, take, drop, slice_set, refl, sym, ap, ◌∙◌, arith, eq-eqb, ne_eqb, get_or, ◌==◌, with_one, Shown, taken_at, gathered_at, gathered, with_opened}
+use Rattle.std.proofs.Math.Seq.{drop-nil, take-nil}
 
 -- ---- one value changed
 
@@ -79,21 +80,8 @@ gathered_past (s ∷ ss) (suc i) bytes le = ap (λ (z : List Shown). s ∷ z) (g
 
 -- ---- what is taken and what is left
 
-take_none : (n : ℕ) → take {A = ℕ} n [] ≡ []
-take_none zero = refl
-take_none (suc n) = refl
-
 pub take_nothing : (n : ℕ) (xs : List ℕ) → xs ≡ [] → take n xs ≡ []
-take_nothing n xs e = ap (take n) e ∙ take_none n
-
-drop_none : (n : ℕ) → drop {A = ℕ} n [] ≡ []
-drop_none zero = refl
-drop_none (suc n) = refl
+take_nothing n xs e = ap (take n) e ∙ take-nil n
 
 pub drop_nothing : (n : ℕ) (xs : List ℕ) → xs ≡ [] → drop n xs ≡ []
-drop_nothing n xs e = ap (drop n) e ∙ drop_none n
-
-pub take_and_drop : (n : ℕ) (xs : List ℕ) → take n xs ++ drop n xs ≡ xs
-take_and_drop zero xs = refl
-take_and_drop (suc n) [] = refl
-take_and_drop (suc n) (x ∷ xs) = ap (λ (z : List ℕ). x ∷ z) (take_and_drop n xs)
+drop_nothing n xs e = ap (drop n) e ∙ drop-nil n

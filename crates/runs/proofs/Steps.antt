@@ -1,7 +1,8 @@
 -- What each happening adds to what is written down.
-use Rattle.runs.proofs.Names.{◌≡◌, ◌≢◌, ℕ, ◌+◌, ◌-◌, ◌≤◌, List, [], ◌∷◌, ◌++◌, Bool, true, false, cond, not, eqb, length, map, take, drop, refl, sym, ap, subst, ◌∙◌, arith, append-nil, append_assoc, eq-eqb, ne_eqb, inl, inr, ◌&&◌, is_some, Config, State, Session, no_session, is_running, with_one, Happening, notes_of, put_out, Occurrence, Of_event, events_of, noted_at, notes_over, Stream, World, Wire, Shown, Seen, is_over, is_paused, is_ended, Pauses, Happens, Puts, Turns, Waits, Same, with_heard, TakesOutput, Opens, Delivers, delivers, Loses, Reloads, IsSound, consistent_same, turns_consistent, takes_consistent, pumps_consistent, loses_consistent, reloads_consistent, Note, taken_at, gathered, with_opened, AreUnopened, Records, RecordsEvents}
+use Rattle.runs.proofs.Names.{◌≡◌, ◌≢◌, ℕ, ◌+◌, ◌≤◌, List, [], ◌∷◌, ◌++◌, Bool, true, false, cond, not, eqb, length, map, take, drop, refl, sym, ap, subst, ◌∙◌, arith, append-nil, append_assoc, eq-eqb, ne_eqb, inl, inr, is_some, Config, State, Session, no_session, is_running, with_one, Happening, notes_of, put_out, Occurrence, Of_event, events_of, noted_at, notes_over, Stream, World, Wire, Shown, Seen, is_over, is_paused, is_ended, Pauses, Happens, Puts, Turns, Waits, Same, with_heard, TakesOutput, Opens, Delivers, delivers, Loses, Reloads, IsSound, consistent_same, turns_consistent, takes_consistent, pumps_consistent, loses_consistent, reloads_consistent, Note, taken_at, gathered, with_opened, AreUnopened, Records, RecordsEvents}
 use Rattle.std.specs.List.{AllByRecursion}
-use Rattle.std.proofs.lemmas.Bool.{eqb-true, eqb-false, false≢true}
+use Rattle.std.proofs.lemmas.Bool.{and_parts, eqb-true, eqb-false, false≢true, not-true}
+use Rattle.std.proofs.lemmas.List.{take-append-drop}
 use Rattle.std.proofs.lemmas.List.Concat.{flat_map-append}
 use Rattle.model.specs.Spelling.{receiver, sends_to, spelling}
 use Rattle.model.specs.Consistent.{IsConsistent}
@@ -13,7 +14,7 @@ use Rattle.model.specs.declared.events.Send.{Send}
 use Rattle.model.specs.declared.events.Event.{Event}
 use Rattle.model.specs.declared.events.Event.TheVariants as event
 use Rattle.runs.proofs.Worlds.{world_same}
-use Rattle.runs.proofs.Places.{with_here, with_other, length-gathered, taken_here, taken_other, taken_opened, take_nothing, drop_nothing, take_and_drop}
+use Rattle.runs.proofs.Places.{with_here, with_other, length-gathered, taken_here, taken_other, taken_opened, take_nothing, drop_nothing}
 
 notes-append : (os ps : List Occurrence) → notes_over (os ++ ps) ≡ notes_over os ++ notes_over ps
 notes-append [] ps = refl
@@ -23,7 +24,7 @@ notes-mapped : (hs : List Happening) → notes_over (map Of_event hs) ≡ notes_
 notes-mapped [] = refl
 notes-mapped (h ∷ hs) = ap (λ (ns : List Note). h.notes ++ ns) (notes-mapped hs)
 
-put_out-append : (c : ℕ) (hs ks : List Happening) → put_out c (hs ++ ks) ≡ put_out c hs ++ put_out c ks
+pub put_out-append : (c : ℕ) (hs ks : List Happening) → put_out c (hs ++ ks) ≡ put_out c hs ++ put_out c ks
 put_out-append c hs ks = flat_map-append (λ (h : Happening). spelling h.frame_max (sends_to c h.sends)) hs ks
 
 -- ---- Tells
@@ -129,25 +130,26 @@ puts_each a b e c hs d p = go (eqb d c) refl
     go true q = subst (λ (n : ℕ). (b.wire n).output ≡ (a.wire n).output ++ put_out n hs) (sym (eqb-true d c q)) (puts_here a b e c hs p)
     go false q = puts_there a b e c hs d (eqb-false d c q) p
 
-awake_apart : (over paused : Bool) → not over && not paused ≡ true → over ≡ true → ⊥
-awake_apart true paused e o = false≢true e
-awake_apart false paused e o = false≢true o
-
 -- of one that is over nothing is performed
 pub turns_apart : (a b : World) (c : ℕ) (hs : List Happening) (d : ℕ) → Turns a c hs b → is_over a d ≡ true → d ≢ c
-turns_apart a b c hs d t over e = awake_apart (is_over a c) (is_paused a c) t.awake (ap (is_over a) (sym e) ∙ over)
+turns_apart a b c hs d t over e = false≢true (sym (not-true (is_over a c) (and_parts (not (is_over a c)) (not (is_paused a c)) t.awake).0) ∙ ap (is_over a) (sym e) ∙ over)
 
-pub tells_turns : (a b : World) (c : ℕ) (hs : List Happening) (s : Seen) (notes : List Note) → notes ≡ notes_of hs → Turns a c hs b → RecordsEvents a s (map Of_event hs) b (record s { notes = s.notes ++ notes })
-tells_turns a b c hs s notes noted t =
+-- what is put out is told, where nothing is put out for one that is over
+tells_puts : (a b : World) (e : Event) (c : ℕ) (hs : List Happening) (s : Seen) (notes : List Note) → notes ≡ notes_of hs → Puts a e c hs b → b.given ≡ a.given → (IsConsistent a → IsConsistent b)
+    → (IsConsistent a → (d : ℕ) → is_over a d ≡ true → d ≢ c) → RecordsEvents a s (map Of_event hs) b (record s { notes = s.notes ++ notes })
+tells_puts a b e c hs s notes noted p given consistent apart =
     tells_by a b s (record s { notes = s.notes ++ notes }) hs
     (ap (λ (z : List Note). s.notes ++ z) noted)
-    (λ n. n ∙ sym t.given)
-    (λ k. turns_consistent a b c hs k t)
+    (λ n. n ∙ sym given)
+    consistent
     (λ k none i le.
-    let was = none i (subst (λ (n : ℕ). n ≤ i) t.given le) in
-    let ne = turns_apart a b c hs (i + 1) t was.1 in
-    (ap (λ (w : Wire). w.output) (t.puts.others (i + 1) ne) ∙ was.0, ap (λ (z : Session). is_ended z.phase) (t.puts.rests (i + 1) ne) ∙ was.1))
-    (λ i n none. ap (λ (z : List ℕ). taken_at s.connections i ++ z) (puts_each a b t.event c hs (i + 1) t.puts) ∙ sym (append_assoc (taken_at s.connections i) (a.wire (i + 1)).output (put_out (i + 1) hs)))
+    let was = none i (subst (λ (n : ℕ). n ≤ i) given le) in
+    let ne = apart k (i + 1) was.1 in
+    (ap (λ (w : Wire). w.output) (p.others (i + 1) ne) ∙ was.0, ap (λ (z : Session). is_ended z.phase) (p.rests (i + 1) ne) ∙ was.1))
+    (λ i n none. ap (λ (z : List ℕ). taken_at s.connections i ++ z) (puts_each a b e c hs (i + 1) p) ∙ sym (append_assoc (taken_at s.connections i) (a.wire (i + 1)).output (put_out (i + 1) hs)))
+
+pub tells_turns : (a b : World) (c : ℕ) (hs : List Happening) (s : Seen) (notes : List Note) → notes ≡ notes_of hs → Turns a c hs b → RecordsEvents a s (map Of_event hs) b (record s { notes = s.notes ++ notes })
+tells_turns a b c hs s notes noted t = tells_puts a b t.event c hs s notes noted t.puts t.given (λ k. turns_consistent a b c hs k t) (λ k d. turns_apart a b c hs d t)
 
 -- ---- a delivery
 
@@ -166,16 +168,7 @@ pub delivers_apart : (a b : World) (c : ℕ) (hs : List Happening) (d : ℕ) →
 delivers_apart a b c hs d k v over e = runs_apart _ (a.state.session c).phase (k.running c) (ap is_some v.puts.happens.stepped.acts.made.taker.runs) (ap (is_over a) (sym e) ∙ over)
 
 pub tells_delivers : (a b : World) (c : ℕ) (hs : List Happening) (s : Seen) (notes : List Note) → notes ≡ notes_of hs → Delivers a c hs b → RecordsEvents a s (map Of_event hs) b (record s { notes = s.notes ++ notes })
-tells_delivers a b c hs s notes noted v =
-    tells_by a b s (record s { notes = s.notes ++ notes }) hs
-    (ap (λ (z : List Note). s.notes ++ z) noted)
-    (λ n. n ∙ sym v.given)
-    (λ k. pumps_consistent a b hs k (delivers v))
-    (λ k none i le.
-    let was = none i (subst (λ (n : ℕ). n ≤ i) v.given le) in
-    let ne = delivers_apart a b c hs (i + 1) k v was.1 in
-    (ap (λ (w : Wire). w.output) (v.puts.others (i + 1) ne) ∙ was.0, ap (λ (z : Session). is_ended z.phase) (v.puts.rests (i + 1) ne) ∙ was.1))
-    (λ i n none. ap (λ (z : List ℕ). taken_at s.connections i ++ z) (puts_each a b (event.Deliver c) c hs (i + 1) v.puts) ∙ sym (append_assoc (taken_at s.connections i) (a.wire (i + 1)).output (put_out (i + 1) hs)))
+tells_delivers a b c hs s notes noted v = tells_puts a b (event.Deliver c) c hs s notes noted v.puts v.given (λ k. pumps_consistent a b hs k (delivers v)) (λ k d. delivers_apart a b c hs d k v)
 
 -- ---- nothing happens, and no output changes
 
@@ -254,7 +247,7 @@ tells_takes a b c n hs s t =
     (λ e. length-gathered s.connections c (take n out) ∙ e ∙ sym t.given)
     (λ k. takes_consistent a b c n hs k t)
     (λ k. unopened_still a b c t.given (λ e. here ∙ drop_nothing n out e) (λ e. over c ∙ e) there (λ d ne. over d))
-    (gathered_each a b c (take n out) (drop n out) s.connections hs after.quiet (take_and_drop n out) (take_nothing n out) here there)
+    (gathered_each a b c (take n out) (drop n out) s.connections hs after.quiet (take-append-drop n out) (take_nothing n out) here there)
 
 pub tells_loses : (a b : World) (c : ℕ) (hs : List Happening) (s : Seen) → Loses a c hs b → RecordsEvents a s (map Of_event hs) b (record s { connections = gathered s.connections c (a.wire c).output })
 tells_loses a b c hs s l =

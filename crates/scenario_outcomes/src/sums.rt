@@ -4,7 +4,7 @@ use crate::expectations::Unmet;
 use std::io;
 
 /// The number of scenarios that ran, and how many of them failed.
-#[derive(Clone, Copy, Drop)]
+#[derive(Clone, Copy, Default, Drop)]
 pub struct Sums {
     pub scenarios: u64,
     pub failed: u64,
@@ -27,4 +27,13 @@ impl Sums {
             }
         }
     }
+}
+
+/// Runs scenarios, each of which is called by its path, and prints a line for each under its name.
+#[macro_export]
+macro_rules! run_scenarios {
+    ($sums:ident, $rt:ident; $($module:ident::$name:ident($($argument:expr),*);)*) => {{
+        $($sums.record($rt, stringify!($name), $module::$name($($argument),*))?;)*
+        Ok(())
+    }};
 }

@@ -3,7 +3,7 @@
 ghost use Rattle.std.specs.Prelude.{◌≡◌, ◌++◌, IfOk};
 
 use scenario_outcomes::{Unmet, expect_bytes, value_of};
-use std::alloc::Global;
+use std::alloc::{AllocError, Global};
 
 /// A client's opening: the protocol header, start-ok of bob by PLAIN, tune-ok, open of `/`, and channel.open of channel 1.
 pub const OPENING: &[u8] =
@@ -29,6 +29,26 @@ pub const STOPPED: &[u8] =
 pub const CONSUME: &[u8] =
     b"\x01\x00\x01\x00\x00\x00\x13\x00\x3c\x00\x14\x00\x00\x05audit\x01t\x02\x00\x00\x00\x00\xce";
 
+/// The reply to [`CONSUME`], and to any other basic.consume on channel 1 with the consumer tag `t`: consume-ok.
+pub const CONSUMED: &[u8] = b"\x01\x00\x01\x00\x00\x00\x06\x00\x3c\x00\x15\x01t\xce";
+
+/// basic.get of `audit` on channel 1, to be acknowledged.
+pub const GET: &[u8] = b"\x01\x00\x01\x00\x00\x00\x0d\x00\x3c\x00\x46\x00\x00\x05audit\x00\xce";
+
+/// [`GET`] with no-ack.
+pub const GET_WITHOUT_ACK: &[u8] =
+    b"\x01\x00\x01\x00\x00\x00\x0d\x00\x3c\x00\x46\x00\x00\x05audit\x01\xce";
+
+/// get-empty on channel 1.
+pub const GET_EMPTY: &[u8] = b"\x01\x00\x01\x00\x00\x00\x05\x00\x3c\x00\x48\x00\xce";
+
+/// connection.close-ok.
+pub const CLOSE_OK: &[u8] = b"\x01\x00\x00\x00\x00\x00\x04\x00\x0a\x00\x33\xce";
+
+/// basic.publish to `orders` under the key `new` on channel 1, and the header of a body of 1,048,576 bytes.
+pub const LARGE_PUBLISH: &[u8] =
+    b"\x01\x00\x01\x00\x00\x00\x12\x00\x3c\x00\x28\x00\x00\x06orders\x03new\x00\xce\x02\x00\x01\x00\x00\x00\x0e\x00\x3c\x00\x00\x00\x00\x00\x00\x00\x10\x00\x00\x00\x00\xce";
+
 /// The publish of [`PUBLISH`], without confirm.select.
 pub const MESSAGE: &[u8] =
     b"\x01\x00\x01\x00\x00\x00\x12\x00\x3c\x00\x28\x00\x00\x06orders\x03new\x00\xce\x02\x00\x01\x00\x00\x00\x0e\x00\x3c\x00\x00\x00\x00\x00\x00\x00\x00\x00\x02\x00\x00\xce\x03\x00\x01\x00\x00\x00\x02hi\xce";
@@ -43,6 +63,15 @@ pub fn joined(alloc: Global, first: &[u8], second: &[u8]) -> Result<Vec<u8>, Unm
     let mut bytes = value_of("Vec::from_slice", Vec::from_slice(alloc, first))?;
     value_of("Vec::extend_from_slice", bytes.extend_from_slice(second))?;
     Ok(bytes)
+}
+
+/// Returns a body frame of `size` bytes on `channel`.
+pub fn body_frame(alloc: Global, channel: u8, size: u32) -> Result<Vec<u8>, AllocError> {
+    let mut frame = Vec::from_slice(alloc, &[3, 0, channel])?;
+    frame.extend_from_slice(size.to_be_bytes().as_slice())?;
+    frame.extend_from_slice(&vec![in alloc; 120; size as usize]?)?;
+    frame.push(206)?;
+    Ok(frame)
 }
 
 /// Returns [`OPENING`] followed by [`PUBLISH`].

@@ -2,7 +2,7 @@
 
 use certificate::{Checked, admit};
 use exchange_graph::Topology;
-use model::{Binding, DeclaredQueue, Exchange, Text};
+use model::{Binding, DeclaredQueue, Exchange, ExchangeKind, Text};
 use scenario_outcomes::{Unmet, value_of};
 use std::alloc::Global;
 
@@ -28,5 +28,15 @@ pub fn plain_queue(name: Text) -> DeclaredQueue {
         byte_limit: None,
         dead_letter_exchange: None,
         dead_letter_key: None,
+    }
+}
+
+/// Returns a direct exchange called `name`, without an alternate exchange.
+pub fn direct_exchange(name: Text) -> Exchange {
+    Exchange {
+        name,
+        kind: ExchangeKind::Direct,
+        internal: false,
+        alternate: None,
     }
 }

@@ -1,10 +1,10 @@
 //! Two clients over a wire on which each accept, read and write fails in turn.
 
 use engine::Engine;
-use memory_wire::{Client, Failing, FailingCall, Logged, MemoryWire};
+use memory_wire::{Client, Failing, FailingCall, MemoryWire};
 use scenario_parts::{
-    ACKED, OPENED, OPENING, PUBLISH, Unmet, expect_bytes, expect_number, joined, new_broker,
-    value_of,
+    ACKED, GET_EMPTY, OPENED, OPENING, PUBLISH, Unmet, closes_of, expect_bytes, expect_number,
+    joined, memory_client, new_server, value_of,
 };
 use serving::{Server, serve};
 use std::alloc::Global;
@@ -48,20 +48,13 @@ const OWN: &[u8] =
 const OWN_BEHIND: &[u8] =
     b"\x01\x00\x01\x00\x00\x00\x1c\x00\x3c\x00\x47\x00\x00\x00\x00\x00\x00\x00\x02\x00\x06orders\x03new\x00\x00\x00\x00\xce\x02\x00\x01\x00\x00\x00\x0e\x00\x3c\x00\x00\x00\x00\x00\x00\x00\x00\x00\x02\x00\x00\xce\x03\x00\x01\x00\x00\x00\x02hi\xce";
 
-/// The reply get-empty.
-const EMPTY: &[u8] = b"\x01\x00\x01\x00\x00\x00\x05\x00\x3c\x00\x48\x00\xce";
-
 /// The largest number of calls of one kind that are tried.
 const PATIENCE: u64 = 1_000;
 
 /// Returns a client that writes [`OPENING`] and then `then`.
 pub(crate) fn client(alloc: Global, then: &[u8], window: usize) -> Result<Client, Unmet> {
-    Ok(Client {
-        input: joined(alloc, OPENING, then)?,
-        read: 0,
-        piece: OPENING.len(),
-        window,
-    })
+    let input = joined(alloc, OPENING, then)?;
+    Ok(memory_client(input, OPENING.len(), window))
 }
 
 /// Two clients over a wire on which one call may fail.
@@ -75,18 +68,11 @@ struct Run {
 impl Run {
     /// Sets the run up before any client has connected. The `count`th call of the kind `asked` fails, or none if `count` is 0.
     fn new(alloc: Global, window: usize, asked: FailingCall, count: u64) -> Result<Run, Unmet> {
-        let mut clients = Vec::new(alloc);
-        value_of(
-            "push",
-            clients.push(client(alloc, PUBLISH_AND_GET, window)?),
-        )?;
-        value_of("push", clients.push(client(alloc, PUBLISH, window)?))?;
-        let broker = new_broker(alloc)?;
-        let Ok(server) = Server::new(alloc, broker) else {
-            return Err(Unmet::Call("Server::new"));
-        };
+        let first = client(alloc, PUBLISH_AND_GET, window)?;
+        let second = client(alloc, PUBLISH, window)?;
+        let clients = value_of("vec", vec![in alloc; first, second])?;
         Ok(Run {
-            server,
+            server: new_server(alloc)?,
             wire: Failing::new(MemoryWire::new(alloc, clients), asked, count),
         })
     }
@@ -94,15 +80,6 @@ impl Run {
     /// Serves the clients for `rounds` rounds.
     fn serve(&mut self, alloc: Global, rounds: u64) {
         serve(alloc, &mut self.server, &mut self.wire, rounds);
-    }
-
-    /// Returns how often the socket of `client` was closed.
-    fn closes(&self, client: u64) -> u64 {
-        let mut count = 0u64;
-        for call in &self.wire.wire.log.calls {
-            count = count.saturating_add(u64::from(is_close(call, client)));
-        }
-        count
     }
 
     /// Returns whether everything that `client` writes was read.
@@ -137,19 +114,11 @@ impl Run {
     }
 }
 
-/// Returns whether `call` closed the socket of `client`.
-pub(crate) fn is_close(call: &Logged, client: u64) -> bool {
-    match call {
-        Logged::Closed(socket) => *socket == client,
-        _ => false,
-    }
-}
-
 /// Checks that the first client holds its message, and that the second gets only its own.
 fn expect_both(alloc: Global, run: &mut Run, rounds: u64) -> Result<(), Unmet> {
     run.get_twice(alloc, 1, rounds)?;
     run.expect_answer(alloc, 0, [OPENED, GOT].as_slice())?;
-    run.expect_answer(alloc, 1, [OPENED, ACKED, OWN, EMPTY].as_slice())
+    run.expect_answer(alloc, 1, [OPENED, ACKED, OWN, GET_EMPTY].as_slice())
 }
 
 /// Checks that the second client is served although the first was lost. It gets the message of the first, if that was published,
@@ -160,7 +129,7 @@ fn expect_second(alloc: Global, run: &mut Run, rounds: u64) -> Result<(), Unmet>
     if is_held {
         run.expect_answer(alloc, 1, [OPENED, ACKED, GOT_AGAIN, OWN_BEHIND].as_slice())
     } else {
-        run.expect_answer(alloc, 1, [OPENED, ACKED, OWN, EMPTY].as_slice())
+        run.expect_answer(alloc, 1, [OPENED, ACKED, OWN, GET_EMPTY].as_slice())
     }
 }
 
@@ -170,9 +139,9 @@ fn expect_first(alloc: Global, run: &mut Run, rounds: u64) -> Result<(), Unmet> 
     let is_published = run.has_come(1);
     run.get_twice(alloc, 0, rounds)?;
     if is_published {
-        run.expect_answer(alloc, 0, [OPENED, GOT, OWN_BEHIND, EMPTY].as_slice())
+        run.expect_answer(alloc, 0, [OPENED, GOT, OWN_BEHIND, GET_EMPTY].as_slice())
     } else {
-        run.expect_answer(alloc, 0, [OPENED, GOT, EMPTY, EMPTY].as_slice())
+        run.expect_answer(alloc, 0, [OPENED, GOT, GET_EMPTY, GET_EMPTY].as_slice())
     }
 }
 
@@ -181,7 +150,8 @@ fn expect_others(alloc: Global, run: &mut Run, rounds: u64) -> Result<(), Unmet>
     let failed_socket = run.wire.failed_socket();
     for client in 0..2u64 {
         let expected = u64::from(failed_socket == Some(client));
-        expect_number("the number of closes", run.closes(client), expected)?;
+        let closes = closes_of(&run.wire.wire, client);
+        expect_number("the number of closes", closes, expected)?;
     }
     match failed_socket {
         None => expect_both(alloc, run, rounds),

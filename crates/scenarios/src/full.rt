@@ -1,8 +1,9 @@
 //! More clients than a server takes.
 
 use memory_wire::{Client, Log, Logged, MemoryWire, serve_in_memory};
-use scenario_parts::{Unmet, expect, expect_bytes, expect_number, new_broker, value_of};
-use serving::Server;
+use scenario_parts::{
+    Unmet, expect, expect_bytes, expect_number, memory_client, new_server, value_of,
+};
 use std::alloc::{AllocError, Global};
 
 /// The largest number of open connections. Sockets are numbered from 0, so the socket with this number is one too many.
@@ -12,12 +13,7 @@ const MOST_CONNECTIONS: u64 = 1_024;
 fn silent_clients(alloc: Global) -> Result<Vec<Client>, AllocError> {
     let mut clients = Vec::new(alloc);
     for _ in 0..=MOST_CONNECTIONS {
-        clients.push(Client {
-            input: Vec::new(alloc),
-            read: 0,
-            piece: 0,
-            window: usize::MAX,
-        })?;
+        clients.push(memory_client(Vec::new(alloc), 0, usize::MAX))?;
     }
     Ok(clients)
 }
@@ -37,10 +33,7 @@ fn closed(alloc: Global, log: &Log) -> Result<Vec<u64>, AllocError> {
 pub(crate) fn a_server_takes_1024_clients_and_closes_one_more(alloc: Global) -> Result<(), Unmet> {
     let clients = value_of("clients", silent_clients(alloc))?;
     let mut wire = MemoryWire::new(alloc, clients);
-    let engine = new_broker(alloc)?;
-    let Ok(mut server) = Server::new(alloc, engine) else {
-        return Err(Unmet::Call("Server::new"));
-    };
+    let mut server = new_server(alloc)?;
     let is_whole = serve_in_memory(alloc, &mut server, &mut wire, MOST_CONNECTIONS + 1);
     expect("all calls are logged", is_whole)?;
     expect_number(

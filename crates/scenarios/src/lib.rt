@@ -13,52 +13,21 @@ mod shut;
 mod wanting;
 
 use failing::{Pace, each_call_of_a_wire_fails};
-use scenario_parts::Sums;
+use scenario_outcomes::{Sums, run_scenarios};
 use std::io;
 
-/// Runs the scenarios of runs in which events wait or do nothing, and of a reload before any event.
-fn run_runs(sums: &mut Sums, rt: &HostRuntime) -> io::Result<()> {
-    let alloc = rt.alloc();
-    sums.record(
-        rt,
-        "a_paused_connection_performs_nothing_until_its_output_is_below_the_bound",
-        pauses::a_paused_connection_performs_nothing_until_its_output_is_below_the_bound(alloc),
-    )?;
-    sums.record(
-        rt,
-        "a_publish_that_waited_goes_by_what_is_in_force_then",
-        pauses::a_publish_that_waited_goes_by_what_is_in_force_then(alloc),
-    )?;
-    sums.record(
-        rt,
-        "arrivals_for_no_connection_do_nothing",
-        shut::arrivals_for_no_connection_do_nothing(alloc),
-    )?;
-    sums.record(
-        rt,
-        "a_new_server_takes_any_reload",
-        reloads::a_new_server_takes_any_reload(alloc),
-    )
-}
-
-/// Runs the scenarios of rounds of a machine that refuses connections.
+/// Runs the scenarios of runs in which events wait or do nothing, of a reload before any event, and of rounds of a machine that refuses connections.
 fn run_rounds(sums: &mut Sums, rt: &HostRuntime) -> io::Result<()> {
     let alloc = rt.alloc();
-    sums.record(
-        rt,
-        "a_socket_that_is_refused_is_closed_and_quiet_rounds_rest",
-        shut::a_socket_that_is_refused_is_closed_and_quiet_rounds_rest(alloc),
-    )?;
-    sums.record(
-        rt,
-        "want_of_memory_ends_the_pumps_of_a_round",
-        shut::want_of_memory_ends_the_pumps_of_a_round(alloc),
-    )?;
-    sums.record(
-        rt,
-        "a_server_takes_1024_clients_and_closes_one_more",
-        full::a_server_takes_1024_clients_and_closes_one_more(alloc),
-    )
+    run_scenarios! { sums, rt;
+        pauses::a_paused_connection_performs_nothing_until_its_output_is_below_the_bound(alloc);
+        pauses::a_publish_that_waited_goes_by_what_is_in_force_then(alloc);
+        shut::arrivals_for_no_connection_do_nothing(alloc);
+        reloads::a_new_server_takes_any_reload(alloc);
+        shut::a_socket_that_is_refused_is_closed_and_quiet_rounds_rest(alloc);
+        shut::want_of_memory_ends_the_pumps_of_a_round(alloc);
+        full::a_server_takes_1024_clients_and_closes_one_more(alloc);
+    }
 }
 
 /// Runs a scenario over a wire on which each call fails in turn, and prints the number of calls.
@@ -74,8 +43,9 @@ fn run_failing(sums: &mut Sums, rt: &HostRuntime, name: &str, pace: Pace) -> io:
     sums.record(rt, name, Ok(()))
 }
 
-/// Runs the scenarios of a wire on which each call fails in turn, and of a machine on which each call that may allocate fails in turn.
-fn run_failures(sums: &mut Sums, rt: &HostRuntime) -> io::Result<()> {
+/// Runs all scenarios of this crate, and prints a line for each.
+pub fn run_all(sums: &mut Sums, rt: &HostRuntime) -> io::Result<()> {
+    run_rounds(sums, rt)?;
     let whole = Pace {
         window: usize::MAX,
         rounds: 8,
@@ -85,22 +55,10 @@ fn run_failures(sums: &mut Sums, rt: &HostRuntime) -> io::Result<()> {
         window: 1,
         rounds: 256,
     };
-    run_failing(
-        sums,
-        rt,
-        "a_call_that_fails_loses_no_other_client_where_writes_take_one_byte",
-        single,
-    )?;
-    sums.record(
-        rt,
-        "a_call_that_is_refused_memory_loses_no_other_client",
-        refused::a_call_that_is_refused_memory_loses_no_other_client(rt.alloc()),
-    )
-}
-
-/// Runs all scenarios of this crate, and prints a line for each.
-pub fn run_all(sums: &mut Sums, rt: &HostRuntime) -> io::Result<()> {
-    run_runs(sums, rt)?;
-    run_rounds(sums, rt)?;
-    run_failures(sums, rt)
+    let name = "a_call_that_fails_loses_no_other_client_where_writes_take_one_byte";
+    run_failing(sums, rt, name, single)?;
+    let alloc = rt.alloc();
+    run_scenarios! { sums, rt;
+        refused::a_call_that_is_refused_memory_loses_no_other_client(alloc);
+    }
 }

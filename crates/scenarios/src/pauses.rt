@@ -2,23 +2,16 @@
 
 use certificate::Checked;
 use engine::{Setup, run};
-use model::{Arrival, Binding, DeclaredQueue, Destination, Exchange, ExchangeKind, Note, Text};
+use model::{Arrival, Binding, Destination, Note, Text};
 use runs::Transcript;
-use scenario_parts::{Unmet, expect, expect_number, in_force, plain_queue, value_of};
+use scenario_parts::{
+    GET_EMPTY, GET_WITHOUT_ACK, LARGE_PUBLISH, Unmet, body_frame, direct_exchange, expect,
+    expect_number, in_force, plain_queue, value_of,
+};
 use std::alloc::{AllocError, Global};
-
-/// basic.publish to `orders` under the key `new` on channel 1, and the header of a body of 1,048,576 bytes.
-const PUBLISH: &[u8] =
-    b"\x01\x00\x01\x00\x00\x00\x12\x00\x3c\x00\x28\x00\x00\x06orders\x03new\x00\xce\x02\x00\x01\x00\x00\x00\x0e\x00\x3c\x00\x00\x00\x00\x00\x00\x00\x10\x00\x00\x00\x00\xce";
 
 /// The number of body frames, of 65,536 bytes each.
 const BODY_FRAMES: usize = 16;
-
-/// basic.get of `audit` on channel 1 with no-ack.
-const GET: &[u8] = b"\x01\x00\x01\x00\x00\x00\x0d\x00\x3c\x00\x46\x00\x00\x05audit\x01\xce";
-
-/// get-empty on channel 1.
-const GET_EMPTY: &[u8] = b"\x01\x00\x01\x00\x00\x00\x05\x00\x3c\x00\x48\x00\xce";
 
 /// basic.publish to `orders` under the key `new` on channel 1, with an empty body.
 const PUBLISH_EMPTY: &[u8] =
@@ -28,50 +21,32 @@ const PUBLISH_EMPTY: &[u8] =
 /// each with 8 bytes besides.
 const FIRST_OUTPUT: u64 = 1_048_706;
 
-/// Returns a list with one element.
-fn single<T: Drop>(alloc: Global, value: T) -> Result<Vec<T>, Unmet> {
-    let mut values = Vec::new(alloc);
-    value_of("Vec::push", values.push(value))?;
-    Ok(values)
-}
-
-/// Returns the queues `audit` and `ledger`.
-fn queues(alloc: Global) -> Result<Vec<DeclaredQueue>, AllocError> {
-    let mut queues = Vec::new(alloc);
-    queues.push(plain_queue(Text::short(b"audit")))?;
-    queues.push(plain_queue(Text::short(b"ledger")))?;
-    Ok(queues)
-}
-
-/// Returns a topology with a direct exchange `orders`, which routes the key `new` to the queue `to`.
+/// Returns a topology with the queues `audit` and `ledger`, and a direct exchange `orders`, which routes the key `new` to the queue `to`.
 fn shop(alloc: Global, to: Text) -> Result<Checked, Unmet> {
-    let orders = Exchange {
-        name: Text::short(b"orders"),
-        kind: ExchangeKind::Direct,
-        internal: false,
-        alternate: None,
-    };
     let binding = Binding {
         source: Text::short(b"orders"),
         to: Destination::Queue(to),
         key: Text::short(b"new"),
     };
+    let exchanges = vec![in alloc; direct_exchange(Text::short(b"orders"))];
+    let queues = vec![in alloc;
+        plain_queue(Text::short(b"audit")),
+        plain_queue(Text::short(b"ledger")),
+    ];
     in_force(
         alloc,
-        single(alloc, orders)?,
-        value_of("queues", queues(alloc))?,
-        single(alloc, binding)?,
+        value_of("vec", exchanges)?,
+        value_of("vec", queues)?,
+        value_of("vec", vec![in alloc; binding])?,
     )
 }
 
 /// Returns the frames of a publish of 1,048,576 bytes.
 fn largest_publish(alloc: Global) -> Result<Vec<u8>, AllocError> {
-    let mut bytes = Vec::from_slice(alloc, PUBLISH)?;
-    let piece = vec![in alloc; 120; 65_536]?;
+    let mut bytes = Vec::from_slice(alloc, LARGE_PUBLISH)?;
+    let frame = body_frame(alloc, 1, 65_536)?;
     for _ in 0..BODY_FRAMES {
-        bytes.extend_from_slice(b"\x03\x00\x01\x00\x01\x00\x00")?;
-        bytes.extend_from_slice(&piece)?;
-        bytes.push(206)?;
+        bytes.extend_from_slice(&frame)?;
     }
     Ok(bytes)
 }
@@ -83,8 +58,9 @@ fn arrivals(alloc: Global, taken: &[u64]) -> Result<Vec<Arrival<Setup>>, AllocEr
     let mut arrivals = Vec::new(alloc);
     arrivals.push(Arrival::Ready(1))?;
     arrivals.push(Arrival::In(1, publish))?;
-    arrivals.push(Arrival::In(1, Text::short(GET)))?;
-    arrivals.push(Arrival::In(1, Text::short(GET)))?;
+    for _ in 0..2 {
+        arrivals.push(Arrival::In(1, Text::from_slice(alloc, GET_WITHOUT_ACK)?))?;
+    }
     for count in taken {
         arrivals.push(Arrival::Sent(1, *count))?;
     }

@@ -1,9 +1,11 @@
 //! A machine on which each call that may allocate fails in turn.
 
-use crate::failing::{GET_TWICE, PUBLISH_AND_GET, client, is_close};
+use crate::failing::{GET_TWICE, PUBLISH_AND_GET, client};
 use crate::wanting::Wanting;
 use memory_wire::MemoryWire;
-use scenario_parts::{ACKED, OPENED, PUBLISH, Unmet, expect, joined, new_broker, value_of};
+use scenario_parts::{
+    ACKED, OPENED, PUBLISH, Unmet, closes_of, expect, joined, new_broker, value_of,
+};
 use serving::{Server, serve};
 use std::alloc::Global;
 
@@ -21,15 +23,6 @@ const FIRST_BODY: &[u8] = b"\x00\x00\x00\x02lo\xce";
 
 /// The body of the message of `PUBLISH`, in its frame.
 const SECOND_BODY: &[u8] = b"\x00\x00\x00\x02hi\xce";
-
-/// Returns how often the socket of `client` was closed.
-fn closes(wire: &MemoryWire, client: u64) -> u64 {
-    let mut count = 0u64;
-    for call in &wire.log.calls {
-        count = count.saturating_add(u64::from(is_close(call, client)));
-    }
-    count
-}
 
 /// Returns whether `bytes` contain `part`.
 fn has_part(bytes: &[u8], part: &[u8]) -> bool {
@@ -59,8 +52,8 @@ fn expect_answered(
 
 /// Checks that at most one client was lost, and that the other's publish was acknowledged and its message can be got.
 fn expect_one_lost(alloc: Global, wire: &MemoryWire) -> Result<(), Unmet> {
-    let first = closes(wire, 0);
-    let second = closes(wire, 1);
+    let first = closes_of(wire, 0);
+    let second = closes_of(wire, 1);
     expect("at most one is lost", first.saturating_add(second) <= 1)?;
     if first == 0 {
         expect_answered(alloc, wire, 0, OPENED, FIRST_BODY)?;
@@ -81,15 +74,9 @@ fn serve_two(alloc: Global, count: u64) -> Result<bool, Unmet> {
         left: &mut left,
     };
     let then = joined(alloc, PUBLISH, GET_TWICE)?;
-    let mut clients = Vec::new(alloc);
-    value_of(
-        "push",
-        clients.push(client(alloc, PUBLISH_AND_GET, usize::MAX)?),
-    )?;
-    value_of(
-        "push",
-        clients.push(client(alloc, then.as_slice(), usize::MAX)?),
-    )?;
+    let first = client(alloc, PUBLISH_AND_GET, usize::MAX)?;
+    let second = client(alloc, then.as_slice(), usize::MAX)?;
+    let clients = value_of("vec", vec![in alloc; first, second])?;
     let mut wire = MemoryWire::new(alloc, clients);
     let Ok(mut server) = Server::new(alloc, machine) else {
         return Err(Unmet::Call("Server::new"));

@@ -1,10 +1,10 @@
 //! The callers that the pages for embedders quote: each returns what its page says.
 
 use callers::{answer, ask_route, serve_client};
-use model::{Binding, Destination, Exchange, ExchangeKind, Text};
+use model::{Binding, Destination, Text};
 use scenario_parts::{
-    Unmet, expect, expect_number, expect_opened_and_acked, new_broker, opening_and_publish,
-    plain_queue, value_of,
+    Unmet, direct_exchange, expect, expect_number, expect_opened_and_acked, new_broker,
+    opening_and_publish, plain_queue, value_of,
 };
 use std::alloc::Global;
 
@@ -13,24 +13,19 @@ const ROUNDS: u64 = 64;
 
 /// Checks that a message reaches the second of two queues, the only one to which its key is bound.
 pub(crate) fn a_route_is_asked(alloc: Global) -> Result<(), Unmet> {
-    let mut exchanges = Vec::new(alloc);
-    let exchange = Exchange {
-        name: Text::short(b"D"),
-        kind: ExchangeKind::Direct,
-        internal: false,
-        alternate: None,
-    };
-    value_of("Vec::push", exchanges.push(exchange))?;
-    let mut queues = Vec::new(alloc);
-    value_of("Vec::push", queues.push(plain_queue(Text::short(b"a"))))?;
-    value_of("Vec::push", queues.push(plain_queue(Text::short(b"b"))))?;
-    let mut bindings = Vec::new(alloc);
     let binding = Binding {
         source: Text::short(b"D"),
         to: Destination::Queue(Text::short(b"b")),
         key: Text::short(b"new"),
     };
-    value_of("Vec::push", bindings.push(binding))?;
+    let exchanges = vec![in alloc; direct_exchange(Text::short(b"D"))];
+    let queues = vec![in alloc;
+        plain_queue(Text::short(b"a")),
+        plain_queue(Text::short(b"b")),
+    ];
+    let exchanges = value_of("vec", exchanges)?;
+    let queues = value_of("vec", queues)?;
+    let bindings = value_of("vec", vec![in alloc; binding])?;
     let asked = ask_route(alloc, exchanges, queues, bindings, b"D", b"new");
     let targets = value_of("ask_route", asked)?;
     expect(

@@ -2,12 +2,12 @@
 
 use crate::served::Served;
 use scenario_parts::{
-    ACKED, OPENED, OPENING, PUBLISH, Unmet, earliest_end, expect_bytes, expect_number, expect_past,
-    value_of,
+    ACKED, CLOSE_OK, OPENED, OPENING, PUBLISH, Unmet, earliest_end, expect_bytes, expect_number,
+    expect_past, value_of,
 };
 use std::alloc::Global;
 use std::io::{self, Read as _, Write as _};
-use std::net::{Net, OpenStream as _};
+use std::net::Net;
 use std::time::Duration;
 
 /// The time that clients have, in milliseconds. They have to log in within that, too.
@@ -16,14 +16,8 @@ const TIME: u64 = 1_000;
 /// The number of rounds after which a scenario gives up, whatever else the machine does.
 const PATIENCE: u32 = 1_000;
 
-/// The number of rounds in which everything that a client wrote is served. A round in which nothing comes waits.
-const TURNS: u64 = 4;
-
 /// connection.open of a connection that is open, which is refused with connection.close and code 503.
 const SECOND_OPEN: &[u8] = b"\x01\x00\x00\x00\x00\x00\x08\x00\x0a\x00\x28\x01/\x00\x00\xce";
-
-/// connection.close-ok.
-const CLOSE_OK: &[u8] = b"\x01\x00\x00\x00\x00\x00\x04\x00\x0a\x00\x33\xce";
 
 /// Serves a client until it has as many bytes as `expected`, and expects that these are its answer. Never waits.
 fn expect_answer<S: io::Read>(
@@ -45,23 +39,10 @@ fn expect_answer<S: io::Read>(
 
 /// Returns a client that has logged in, and never waits.
 fn logged_in<N: Net>(net: &N, alloc: Global, served: &mut Served) -> Result<N::Stream, Unmet> {
-    let mut client = served.connect(net)?;
-    value_of("set_nonblocking", client.set_nonblocking(true))?;
+    let mut client = served.connect_unwaiting(net)?;
     value_of("write_all", client.write_all(OPENING))?;
     expect_answer(alloc, served, &mut client, OPENED)?;
     Ok(client)
-}
-
-/// Writes `bytes` as a client, and serves it.
-fn say<S: io::Write>(
-    alloc: Global,
-    served: &mut Served,
-    client: &mut S,
-    bytes: &[u8],
-) -> Result<(), Unmet> {
-    value_of("write_all", client.write_all(bytes))?;
-    served.serve(alloc, TURNS);
-    Ok(())
 }
 
 /// Expects that one more socket is closed in the end.
@@ -86,10 +67,10 @@ pub(crate) fn a_client_that_never_answers_a_close_is_ended(
     let mut runs = logged_in(rt, alloc, &mut served)?;
     let mut answers = logged_in(rt, alloc, &mut served)?;
     let mut mute = logged_in(rt, alloc, &mut served)?;
-    say(alloc, &mut served, &mut answers, SECOND_OPEN)?;
-    say(alloc, &mut served, &mut answers, CLOSE_OK)?;
+    served.hear(alloc, &mut answers, SECOND_OPEN)?;
+    served.hear(alloc, &mut answers, CLOSE_OK)?;
     let earliest = earliest_end(rt, TIME)?;
-    say(alloc, &mut served, &mut mute, SECOND_OPEN)?;
+    served.hear(alloc, &mut mute, SECOND_OPEN)?;
     expect_number("the number of closed sockets", served.sockets.closes, 1)?;
     expect_closed(alloc, &mut served)?;
     expect_past(rt, earliest)?;

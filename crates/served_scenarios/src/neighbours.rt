@@ -2,32 +2,13 @@
 
 use crate::served::Served;
 use scenario_parts::{
-    OPENED, OPENING, Unmet, expect, expect_bytes, expect_number, expect_opened_and_acked, joined,
-    opening_and_publish, value_of,
+    CLOSE_OK, GET, LARGE_PUBLISH, OPENED, OPENING, Unmet, body_frame, expect, expect_bytes,
+    expect_number, expect_opened_and_acked, joined, opening_and_publish, value_of,
 };
-use std::alloc::{AllocError, Global};
+use std::alloc::Global;
 use std::io;
 use std::io::{ErrorKind, Read as _, Write as _};
-use std::net::{Net, OpenStream as _};
-
-/// Connects a client that never waits.
-fn connect<N: Net>(served: &Served, net: &N) -> Result<N::Stream, Unmet> {
-    let client = served.connect(net)?;
-    value_of("set_nonblocking", client.set_nonblocking(true))?;
-    Ok(client)
-}
-
-/// Writes `bytes` as a client, and serves it.
-fn send<S: io::Write>(
-    alloc: Global,
-    served: &mut Served,
-    client: &mut S,
-    bytes: &[u8],
-) -> Result<(), Unmet> {
-    value_of("write_all", client.write_all(bytes))?;
-    served.serve(alloc, 4);
-    Ok(())
-}
+use std::net::Net;
 
 /// How a client's answers ended.
 #[derive(Clone, Copy, PartialEq, Eq, Drop)]
@@ -69,8 +50,8 @@ fn expect_answered<S: io::Read>(alloc: Global, client: &mut S) -> Result<(), Unm
 
 /// Returns a client that has opened its connection and channel 1.
 fn open<N: Net>(net: &N, alloc: Global, served: &mut Served) -> Result<N::Stream, Unmet> {
-    let mut client = connect(served, net)?;
-    send(alloc, served, &mut client, OPENING)?;
+    let mut client = served.connect_unwaiting(net)?;
+    served.hear(alloc, &mut client, OPENING)?;
     expect_there(alloc, &mut client, OPENED, Ending::Open)?;
     Ok(client)
 }
@@ -81,9 +62,9 @@ pub(crate) fn three_clients_of_the_system_are_served<N: Net>(
     alloc: Global,
 ) -> Result<(), Unmet> {
     let mut served = Served::new(net, alloc)?;
-    let mut first = connect(&served, net)?;
-    let mut second = connect(&served, net)?;
-    let mut third = connect(&served, net)?;
+    let mut first = served.connect_unwaiting(net)?;
+    let mut second = served.connect_unwaiting(net)?;
+    let mut third = served.connect_unwaiting(net)?;
     let bytes = opening_and_publish(alloc)?;
     value_of("write_all", first.write_all(bytes.as_slice()))?;
     value_of("write_all", second.write_all(bytes.as_slice()))?;
@@ -98,9 +79,6 @@ pub(crate) fn three_clients_of_the_system_are_served<N: Net>(
 const CLOSE: &[u8] =
     b"\x01\x00\x00\x00\x00\x00\x0b\x00\x0a\x00\x32\x00\xc8\x00\x00\x00\x00\x00\xce";
 
-/// connection.close-ok.
-const CLOSE_OK: &[u8] = b"\x01\x00\x00\x00\x00\x00\x04\x00\x0a\x00\x33\xce";
-
 /// The socket of a client that closes its connection is closed while the server goes on.
 pub(crate) fn a_client_that_closes_its_connection_loses_its_socket<N: Net>(
     net: &N,
@@ -108,13 +86,10 @@ pub(crate) fn a_client_that_closes_its_connection_loses_its_socket<N: Net>(
 ) -> Result<(), Unmet> {
     let mut served = Served::new(net, alloc)?;
     let mut client = open(net, alloc, &mut served)?;
-    send(alloc, &mut served, &mut client, CLOSE)?;
+    served.hear(alloc, &mut client, CLOSE)?;
     expect_number("the number of closed sockets", served.sockets.closes, 1)?;
     expect_there(alloc, &mut client, CLOSE_OK, Ending::Closed)
 }
-
-/// basic.get of `audit` on channel 1, to be acknowledged.
-const GET: &[u8] = b"\x01\x00\x01\x00\x00\x00\x0d\x00\x3c\x00\x46\x00\x00\x05audit\x00\xce";
 
 /// get-ok of the message of `PUBLISH` with delivery tag 1: it is redelivered, and no further message is ready. Then its content.
 const GOT_AGAIN: &[u8] =
@@ -126,22 +101,17 @@ pub(crate) fn what_a_client_held_that_went_away_is_given_to_another<N: Net>(
     alloc: Global,
 ) -> Result<(), Unmet> {
     let mut served = Served::new(net, alloc)?;
-    let mut first = connect(&served, net)?;
-    let mut second = connect(&served, net)?;
-    send(alloc, &mut served, &mut second, OPENING)?;
-    send(
-        alloc,
-        &mut served,
-        &mut first,
-        opening_and_publish(alloc)?.as_slice(),
-    )?;
-    send(alloc, &mut served, &mut first, GET)?;
+    let mut first = served.connect_unwaiting(net)?;
+    let mut second = served.connect_unwaiting(net)?;
+    served.hear(alloc, &mut second, OPENING)?;
+    served.hear(alloc, &mut first, opening_and_publish(alloc)?.as_slice())?;
+    served.hear(alloc, &mut first, GET)?;
     let mut answer: Vec<u8> = Vec::new(alloc);
     read_there(&mut first, &mut answer)?;
     drop(first);
     served.serve(alloc, 4);
     expect_number("the number of closed sockets", served.sockets.closes, 1)?;
-    send(alloc, &mut served, &mut second, GET)?;
+    served.hear(alloc, &mut second, GET)?;
     expect_there(
         alloc,
         &mut second,
@@ -150,28 +120,16 @@ pub(crate) fn what_a_client_held_that_went_away_is_given_to_another<N: Net>(
     )
 }
 
-/// basic.publish to `orders` with the key `new` on channel 1, and a header of a body of 1,048,576 bytes.
-const LARGE_PUBLISH: &[u8] =
-    b"\x01\x00\x01\x00\x00\x00\x12\x00\x3c\x00\x28\x00\x00\x06orders\x03new\x00\xce\x02\x00\x01\x00\x00\x00\x0e\x00\x3c\x00\x00\x00\x00\x00\x00\x00\x10\x00\x00\x00\x00\xce";
-
-/// Returns a body frame of 65,536 bytes on channel 1.
-fn body_frame(alloc: Global) -> Result<Vec<u8>, AllocError> {
-    let mut frame = Vec::from_slice(alloc, b"\x03\x00\x01\x00\x01\x00\x00")?;
-    frame.extend_from_slice(&vec![in alloc; 120; 65_536]?)?;
-    frame.push(206)?;
-    Ok(frame)
-}
-
 /// Publishes a message of 1,048,576 bytes.
 fn publish_large<S: io::Write>(
     alloc: Global,
     served: &mut Served,
     client: &mut S,
 ) -> Result<(), Unmet> {
-    send(alloc, served, client, LARGE_PUBLISH)?;
-    let frame = value_of("body_frame", body_frame(alloc))?;
+    served.hear(alloc, client, LARGE_PUBLISH)?;
+    let frame = value_of("body_frame", body_frame(alloc, 1, 65_536))?;
     for _ in 0..16 {
-        send(alloc, served, client, frame.as_slice())?;
+        served.hear(alloc, client, frame.as_slice())?;
     }
     Ok(())
 }
@@ -243,7 +201,7 @@ pub(crate) fn a_client_that_reads_late_gets_each_byte_once<N: Net>(
     let mut client = open(net, alloc, &mut served)?;
     publish_large(alloc, &mut served, &mut client)?;
     for _ in 0..GETS {
-        send(alloc, &mut served, &mut client, GET_AND_RECOVER)?;
+        served.hear(alloc, &mut client, GET_AND_RECOVER)?;
     }
     expect("a write was short", served.sockets.short_writes > 0)?;
     let wanted = GETS * GET_BYTES;

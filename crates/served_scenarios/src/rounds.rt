@@ -3,12 +3,13 @@
 ghost use Rattle.std.specs.Prelude.{◌≡◌, [], IfOk, Some};
 ghost use Rattle.memory_wire.specs.Logs.{logged_calls};
 
-use crate::served::{Served, new_server};
+use crate::served::Served;
 use engine::Engine;
-use memory_wire::{Client, Logged, MemoryWire, serve_in_memory};
+use memory_wire::{Logged, MemoryWire, serve_in_memory};
 use scenario_parts::{
     CONSUME, MESSAGE, OPENING, PUBLISH, STOPPED, Unmet, answer_len, deliveries_in, expect,
-    expect_number, expect_opened_and_acked, joined, opening_and_publish, value_of,
+    expect_number, expect_opened_and_acked, joined, memory_client, new_server, opening_and_publish,
+    value_of,
 };
 use serving::Server;
 use sockets::Totals;
@@ -33,24 +34,16 @@ const NOTHING: &[u8] = &[];
 const LOST: &[u8] =
     b"\x01\x00\x01\x00\x00\x00\x12\x00\x3c\x00\x28\x00\x00\x06orders\x03old\x00\xce\x02\x00\x01\x00\x00\x00\x0e\x00\x3c\x00\x00\x00\x00\x00\x00\x00\x00\x00\x02\x00\x00\xce\x03\x00\x01\x00\x00\x00\x02hi\xce";
 
-/// Returns a client that writes `first` and `second`. A read gets at most as many bytes as `first` has, and a write takes all that it is offered.
-fn client(alloc: Global, first: &[u8], second: &[u8]) -> Result<Client, Unmet> {
-    Ok(Client {
-        input: joined(alloc, first, second)?,
-        read: 0,
-        piece: first.len(),
-        window: usize::MAX,
-    })
-}
-
 /// Returns two sockets. The first read of each is a whole opening. The second is a publish: of one socket it stops inside its body, of the other it
 /// is whole.
 fn two(alloc: Global) -> Result<MemoryWire, Unmet>
     ensures { IfOk result (λ w. logged_calls w.log ≡ Some []) }
 {
-    let mut clients = Vec::new(alloc);
-    value_of("push", clients.push(client(alloc, OPENING, STOPPED)?))?;
-    value_of("push", clients.push(client(alloc, OPENING, PUBLISH)?))?;
+    let stopped = joined(alloc, OPENING, STOPPED)?;
+    let whole = joined(alloc, OPENING, PUBLISH)?;
+    let first = memory_client(stopped, OPENING.len(), usize::MAX);
+    let second = memory_client(whole, OPENING.len(), usize::MAX);
+    let clients = value_of("vec", vec![in alloc; first, second])?;
     Ok(MemoryWire::new(alloc, clients))
 }
 
@@ -76,21 +69,11 @@ fn words_of(alloc: Global, count: u64, message: &[u8], last: &[u8]) -> Result<Ve
     Ok(words)
 }
 
-/// Returns a client that writes `input`. A read gets as many bytes as it is offered.
-fn one_that_writes(input: Vec<u8>) -> Client {
-    Client {
-        input,
-        read: 0,
-        piece: usize::MAX,
-        window: usize::MAX,
-    }
-}
-
 /// Returns one socket that publishes `count` messages that are routed to `audit`, and then consumes from it.
 fn one_that_publishes_and_consumes(alloc: Global, count: u64) -> Result<MemoryWire, Unmet> {
     let input = words_of(alloc, count, MESSAGE, CONSUME)?;
-    let mut clients = Vec::new(alloc);
-    value_of("push", clients.push(one_that_writes(input)))?;
+    let client = memory_client(input, usize::MAX, usize::MAX);
+    let clients = value_of("vec", vec![in alloc; client])?;
     Ok(MemoryWire::new(alloc, clients))
 }
 
@@ -140,7 +123,8 @@ fn one_that_fills_and_one_that_does_not(alloc: Global) -> Result<MemoryWire, Unm
         (MANY, LOST, NOTHING),
     ] {
         let input = words_of(alloc, count, message, last)?;
-        value_of("push", clients.push(one_that_writes(input)))?;
+        let client = memory_client(input, usize::MAX, usize::MAX);
+        value_of("push", clients.push(client))?;
     }
     Ok(MemoryWire::new(alloc, clients))
 }
@@ -179,11 +163,6 @@ pub(crate) fn those_that_never_pause_are_offered_less(alloc: Global) -> Result<(
     Ok(())
 }
 
-/// Writes `bytes` as a client.
-fn send<S: io::Write>(client: &mut S, bytes: &[u8]) -> Result<(), Unmet> {
-    value_of("write_all", client.write_all(bytes))
-}
-
 /// Expects that a client was answered as one that opens and publishes, up to the end of its connection.
 fn expect_served<S: io::Read>(alloc: Global, client: &mut S) -> Result<(), Unmet> {
     let mut answer: Vec<u8> = Vec::new(alloc);
@@ -199,7 +178,7 @@ pub(crate) fn a_client_of_the_system_is_served<N: Net>(
     let mut service = Served::new(net, alloc)?;
     let mut client = service.connect(net)?;
     let written = opening_and_publish(alloc)?;
-    send(&mut client, written.as_slice())?;
+    value_of("write_all", client.write_all(written.as_slice()))?;
     service.serve(alloc, TURNS);
     let totals = Totals {
         got: written.len() as u64,
@@ -222,12 +201,12 @@ pub(crate) fn a_client_that_is_reset_is_lost_alone<N: Net>(
     let mut service = Served::new(net, alloc)?;
     let mut reset = service.connect(net)?;
     let mut client = service.connect(net)?;
-    send(&mut reset, OPENING)?;
-    send(&mut client, OPENING)?;
+    value_of("write_all", reset.write_all(OPENING))?;
+    value_of("write_all", client.write_all(OPENING))?;
     service.serve(alloc, TURNS);
     // its answers were not read, so the system resets the connection
     drop(reset);
-    send(&mut client, PUBLISH)?;
+    value_of("write_all", client.write_all(PUBLISH))?;
     service.serve(alloc, TURNS);
     expect_number(
         "the number of sockets that were closed",

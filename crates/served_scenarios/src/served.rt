@@ -1,21 +1,16 @@
 //! A broker that is served over sockets of the system, whose calls are counted.
 
 use engine::Engine;
-use scenario_parts::{Unmet, Watched, new_broker, value_of};
+use scenario_parts::{Unmet, Watched, new_server, value_of};
 use serving::{Server, serve};
 use sockets::Sockets;
 use std::alloc::Global;
-use std::net::{Net, SocketAddr, TcpStream};
+use std::io::{self, Write as _};
+use std::net::{Net, OpenStream as _, SocketAddr, TcpStream};
 use std::time::Duration;
 
-/// Makes a server of a broker, without sockets.
-pub(crate) fn new_server(alloc: Global) -> Result<Server<Engine>, Unmet> {
-    let broker = new_broker(alloc)?;
-    match Server::new(alloc, broker) {
-        Ok(server) => Ok(server),
-        Err(_) => Err(Unmet::Call("Server::new")),
-    }
-}
+/// The number of rounds in which everything that a client wrote is served. A round in which nothing comes waits.
+const TURNS: u64 = 4;
 
 /// A server with its sockets.
 #[derive(Drop)]
@@ -65,5 +60,24 @@ impl Served {
     /// Does `turns` rounds. Rounds in which nothing comes wait.
     pub(crate) fn serve(&mut self, alloc: Global, turns: u64) {
         serve(alloc, &mut self.server, &mut self.sockets, turns);
+    }
+
+    /// Connects a client that never waits.
+    pub(crate) fn connect_unwaiting<N: Net>(&self, net: &N) -> Result<N::Stream, Unmet> {
+        let client = self.connect(net)?;
+        value_of("set_nonblocking", client.set_nonblocking(true))?;
+        Ok(client)
+    }
+
+    /// Writes `bytes` as a client, and serves it.
+    pub(crate) fn hear<S: io::Write>(
+        &mut self,
+        alloc: Global,
+        client: &mut S,
+        bytes: &[u8],
+    ) -> Result<(), Unmet> {
+        value_of("write_all", client.write_all(bytes))?;
+        self.serve(alloc, TURNS);
+        Ok(())
     }
 }

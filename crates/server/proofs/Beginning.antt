@@ -1,7 +1,7 @@
 -- What comes of reporting the address, and of serving.
-use Rattle.server.proofs.Names.{◌≡◌, ℕ, Bool, true, false, List, [], Option, Some, None, inl, inr, refl, sym, subst, ap, ◌∙◌, same_Some, kind_of, Error, Text, Config, Wanted, AsksFor, AreWordsRefused, Known, OutputStream, GetsText, PutsOut, TriesPut, IsStarted, ShowsError, out_of_memory, IsTaken, Openings, CanCome, Begins, ServesClients, IsTurns}
+use Rattle.server.proofs.Names.{◌≡◌, ℕ, Bool, true, false, List, [], Option, Some, None, inl, inr, sym, subst, ap, ◌∙◌, same_Some, kind_of, Error, Text, Config, Wanted, AsksFor, AreWordsRefused, Known, OutputStream, GetsText, PutsOut, TriesPut, IsStarted, ShowsError, out_of_memory, IsTaken, Openings, CanCome, Begins, ServesClients, IsTurns}
 use Rattle.model.specs.Arrivals.{World, new_world}
-use Rattle.engine.specs.Wanting.{engine_lacks}
+use Rattle.engine.specs.Allocating.{MayAllocate}
 use Rattle.serving.specs.Wire.{Traffic}
 use Rattle.serving.specs.Story.{Served, served}
 use Rattle.serving.specs.Rounds.{Rounds}
@@ -33,8 +33,8 @@ begins holds d g c may out err w ps t s none can = record {
 
 -- `count` rounds of it
 pub serves_clients : (holds : Text → Known) (d g c : Text) (turns : Option Text) (may : Openings) (out err : OutputStream) (start end : Served) (count : ℕ)
-    → Begins holds d g c may out err start → IsTurns turns count → Rounds engine_lacks count start end
-    → ((f : Config) → start.world ≡ new_world f → start.peers ≡ [] → IsServed engine_lacks f start.traffic end) → ServesClients holds d g c turns may out err end
+    → Begins holds d g c may out err start → IsTurns turns count → Rounds MayAllocate count start end
+    → ((f : Config) → start.world ≡ new_world f → start.peers ≡ [] → IsServed MayAllocate f start.traffic end) → ServesClients holds d g c turns may out err end
 serves_clients holds d g c turns may out err start end count b counted turns_are kept = record {
   force = b.force;
   in_force = b.in_force;
@@ -42,8 +42,8 @@ serves_clients holds d g c turns may out err start end count b counted turns_are
   can_come = b.can_come;
   count = count;
   counted = counted;
-  rounds = subst (λ (v : Served). Rounds engine_lacks count v end) b.is turns_are;
-  kept = subst (λ (t : Traffic). IsServed engine_lacks b.force t end) (ap (λ (v : Served). v.traffic) b.is) (kept b.force (ap (λ (v : Served). v.world) b.is) (ap (λ (v : Served). v.peers) b.is));
+  rounds = subst (λ (v : Served). Rounds MayAllocate count v end) b.is turns_are;
+  kept = subst (λ (t : Traffic). IsServed MayAllocate b.force t end) (ap (λ (v : Served). v.traffic) b.is) (kept b.force (ap (λ (v : Served). v.world) b.is) (ap (λ (v : Served). v.peers) b.is));
 }
 
 -- what is said of a service that was returned, and what if none was, is how `serve` ends

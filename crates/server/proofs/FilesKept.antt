@@ -22,10 +22,6 @@ pub why_kept : (a b : Text → Known) (IsReason : FileRefusal → Known → Type
     → IsWhyNone b IsReason named file why → IsWhyNone a IsReason named file why
 why_kept a b IsReason named file why k h = elim h [ inl p ↦ inl (p.0, subst (λ (x : Known). IsReason why x) (k file) p.1) | inr m ↦ inr m ]
 
--- what is said of a file is said of it before as well
-pub known_kept : (a b : Text → Known) (P : Known → Type 0) (file : Text) → AreKept a b → P (b file) → P (a file)
-known_kept a b P file k h = subst P (k file) h
-
 -- ---- guarantees
 
 -- a file has at most 64 guarantees

@@ -1,5 +1,5 @@
 -- What `serve` does (own): its files are judged, sockets are opened, their address is reported, and clients are served.
-use Rattle.std.specs.Prelude.{◌≡◌, ◌<◌, ◌^◌, ◌++◌, ℕ, Bool, true, false, List, [], ◌∷◌, Option, Some, None, Result, Ok, Err, codes, ⊤}
+use Rattle.std.specs.Prelude.{◌≡◌, ◌<◌, ◌^◌, ◌++◌, ℕ, Bool, true, false, [], ◌∷◌, Option, Some, None, Result, Ok, Err, codes, ⊤}
 use Rattle.std.specs.Prelude.{IfSome, IfNone, IfOk, IfErr}
 use Rattle.std.specs.Str.Parse.{IsNumeral, digits_value, without_leading_plus}
 use Rattle.model.specs.Words.{Text}
@@ -10,7 +10,7 @@ use Rattle.serving.specs.Story.{Served, served}
 use Rattle.serving.specs.Rounds.{Rounds}
 use Rattle.serving.specs.Serving.{Serving, server_state}
 use Rattle.serving.specs.Whole.{IsServed}
-use Rattle.engine.specs.Wanting.{engine_lacks}
+use Rattle.engine.specs.Allocating.{MayAllocate}
 use Rattle.engine.specs.World.{Parts, world_of}
 use Rattle.server.specs.Files.{Known}
 use Rattle.server.specs.declared.clients.Ended.{Ended}
@@ -141,9 +141,9 @@ pub record ServesClients (holds : Text → Known) (definitions guarantees certif
   pub can_come : CanCome may start out err
   pub count : ℕ
   pub counted : IsTurns turns count
-  pub rounds : Rounds engine_lacks count (served (new_world force) [] start) end
+  pub rounds : Rounds MayAllocate count (served (new_world force) [] start) end
   -- all that arrived at the broker, and certified delivery's promises of it
-  pub kept : IsServed engine_lacks force start end
+  pub kept : IsServed MayAllocate force start end
 
 -- How `serve` ends: with the last state of the server, if it listened, and this exit status.
 abbrev pub ServeEnds : (Text → Known) → Text → Text → Text → Option Text → Type 0 → Openings → OutputStream → OutputStream → Option Served → ℕ → Type 0

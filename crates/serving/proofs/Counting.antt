@@ -191,38 +191,26 @@ count_deed {L = L} s cs v w d os does names k = go d does.table does.traffic
     plain : (more : List Call) → NoBytes s more → (IsIn (Accepted s) more → ⊥) → AddsCalls v.traffic more w.traffic → Counted s (cs ++ more) w.traffic
     plain more none not t = counted_on s cs more v.traffic w.traffic t (λ e. none) (λ i. absurd (not i)) k
 
+    -- the socket of a peer in a slot has another name than one that is not given
+    named : (i : ℕ) (p : Peer) (more : List Call) → At v.peers i p → ((p.socket == s) ≡ false → NoBytes s more) → (IsIn (Accepted s) more → ⊥) → AddsCalls v.traffic more w.traffic → Counted s (cs ++ more) w.traffic
+    named i p more at none not t = counted_on s cs more v.traffic w.traffic t (λ e. none (distinct s p.socket v.traffic (names i p at) e)) (λ j. absurd (not j)) k
+
     go : (d : Deed) → Table L v d w.peers → AddsCalls v.traffic (calls d) w.traffic → Counted s (cs ++ calls d) w.traffic
     go (Met i p) t traffic = counted_on s cs _ v.traffic w.traffic traffic (λ e. (refl, refl)) (comes_met s p.socket v.traffic t.2) k
     go (Turned_away r o) t traffic = counted_on s cs _ v.traffic w.traffic traffic (λ e. (refl, refl)) (comes_away s r v.traffic t.2) k
     go (Met_no_one true) t traffic = plain _ (refl, refl) (not_one s Accept_failed (λ e. absurd (cc e))) traffic
     go (Met_no_one false) t traffic = plain _ (refl, refl) (not_one s Not_accepted (λ e. absurd (cc e))) traffic
-    go (Heard i p room bytes Enters) t traffic =
-        counted_on s cs (Got p.socket _ bytes ∷ Welcomed p.socket ∷ []) v.traffic w.traffic traffic (λ e. (ap (λ (x : Bool). got_if x bytes) (distinct s p.socket v.traffic (names i p t.1.0) e), refl))
-        (λ j. absurd (not_two s _ _ (λ e. absurd (cc e)) (λ e. absurd (cc e)) j)) k
-    go (Heard i p room bytes Leaves) t traffic =
-        counted_on s cs (Got p.socket _ bytes ∷ Farewell p.socket ∷ []) v.traffic w.traffic traffic (λ e. (ap (λ (x : Bool). got_if x bytes) (distinct s p.socket v.traffic (names i p t.1.0) e), refl))
-        (λ j. absurd (not_two s _ _ (λ e. absurd (cc e)) (λ e. absurd (cc e)) j)) k
-    go (Heard i p room bytes Stays) t traffic =
-        counted_on s cs (Got p.socket _ bytes ∷ []) v.traffic w.traffic traffic (λ e. (ap (λ (x : Bool). got_if x bytes) (distinct s p.socket v.traffic (names i p t.1.0) e), refl))
-        (λ j. absurd (not_one s _ (λ e. absurd (cc e)) j)) k
-    go (Heard_partly i p room bytes) t traffic =
-        counted_on s cs (Got p.socket _ bytes ∷ Closed p.socket ∷ []) v.traffic w.traffic traffic (λ e. (ap (λ (x : Bool). got_if x bytes) (distinct s p.socket v.traffic (names i p t.1.0) e), refl))
-        (λ j. absurd (not_two s _ _ (λ e. absurd (cc e)) (λ e. absurd (cc e)) j)) k
+    go (Heard i p room bytes Enters) t traffic = named i p (Got p.socket _ bytes ∷ Welcomed p.socket ∷ []) t.1.0 (λ e. (ap (λ (x : Bool). got_if x bytes) e, refl)) (not_two s _ _ (λ e. absurd (cc e)) (λ e. absurd (cc e))) traffic
+    go (Heard i p room bytes Leaves) t traffic = named i p (Got p.socket _ bytes ∷ Farewell p.socket ∷ []) t.1.0 (λ e. (ap (λ (x : Bool). got_if x bytes) e, refl)) (not_two s _ _ (λ e. absurd (cc e)) (λ e. absurd (cc e))) traffic
+    go (Heard i p room bytes Stays) t traffic = named i p (Got p.socket _ bytes ∷ []) t.1.0 (λ e. (ap (λ (x : Bool). got_if x bytes) e, refl)) (not_one s _ (λ e. absurd (cc e))) traffic
+    go (Heard_partly i p room bytes) t traffic = named i p (Got p.socket _ bytes ∷ Closed p.socket ∷ []) t.1.0 (λ e. (ap (λ (x : Bool). got_if x bytes) e, refl)) (not_two s _ _ (λ e. absurd (cc e)) (λ e. absurd (cc e))) traffic
     go (Heard_nothing i p room) t traffic = plain _ (refl, refl) (not_one s _ (λ e. absurd (cc e))) traffic
     go (Heard_end i p room true) t traffic = plain _ (refl, refl) (not_two s _ _ (λ e. absurd (cc e)) (λ e. absurd (cc e))) traffic
     go (Heard_end i p room false) t traffic = plain _ (refl, refl) (not_two s _ _ (λ e. absurd (cc e)) (λ e. absurd (cc e))) traffic
-    go (Gave i p offered taken Enters) t traffic =
-        counted_on s cs (Took p.socket offered taken ∷ Welcomed p.socket ∷ []) v.traffic w.traffic traffic (λ e. (refl, ap (λ (x : Bool). taken_if x (length taken)) (distinct s p.socket v.traffic (names i p t.2.0) e)))
-        (λ j. absurd (not_two s _ _ (λ e. absurd (cc e)) (λ e. absurd (cc e)) j)) k
-    go (Gave i p offered taken Leaves) t traffic =
-        counted_on s cs (Took p.socket offered taken ∷ Farewell p.socket ∷ []) v.traffic w.traffic traffic (λ e. (refl, ap (λ (x : Bool). taken_if x (length taken)) (distinct s p.socket v.traffic (names i p t.2.0) e)))
-        (λ j. absurd (not_two s _ _ (λ e. absurd (cc e)) (λ e. absurd (cc e)) j)) k
-    go (Gave i p offered taken Stays) t traffic =
-        counted_on s cs (Took p.socket offered taken ∷ []) v.traffic w.traffic traffic (λ e. (refl, ap (λ (x : Bool). taken_if x (length taken)) (distinct s p.socket v.traffic (names i p t.2.0) e)))
-        (λ j. absurd (not_one s _ (λ e. absurd (cc e)) j)) k
-    go (Gave_partly i p offered taken) t traffic =
-        counted_on s cs (Took p.socket offered taken ∷ Closed p.socket ∷ []) v.traffic w.traffic traffic (λ e. (refl, ap (λ (x : Bool). taken_if x (length taken)) (distinct s p.socket v.traffic (names i p t.2.0) e)))
-        (λ j. absurd (not_two s _ _ (λ e. absurd (cc e)) (λ e. absurd (cc e)) j)) k
+    go (Gave i p offered taken Enters) t traffic = named i p (Took p.socket offered taken ∷ Welcomed p.socket ∷ []) t.2.0 (λ e. (refl, ap (λ (x : Bool). taken_if x (length taken)) e)) (not_two s _ _ (λ e. absurd (cc e)) (λ e. absurd (cc e))) traffic
+    go (Gave i p offered taken Leaves) t traffic = named i p (Took p.socket offered taken ∷ Farewell p.socket ∷ []) t.2.0 (λ e. (refl, ap (λ (x : Bool). taken_if x (length taken)) e)) (not_two s _ _ (λ e. absurd (cc e)) (λ e. absurd (cc e))) traffic
+    go (Gave i p offered taken Stays) t traffic = named i p (Took p.socket offered taken ∷ []) t.2.0 (λ e. (refl, ap (λ (x : Bool). taken_if x (length taken)) e)) (not_one s _ (λ e. absurd (cc e))) traffic
+    go (Gave_partly i p offered taken) t traffic = named i p (Took p.socket offered taken ∷ Closed p.socket ∷ []) t.2.0 (λ e. (refl, ap (λ (x : Bool). taken_if x (length taken)) e)) (not_two s _ _ (λ e. absurd (cc e)) (λ e. absurd (cc e))) traffic
     go (Gave_nothing i p offered) t traffic = plain _ (refl, refl) (not_one s _ (λ e. absurd (cc e))) traffic
     go (Gave_up i p offered) t traffic = plain _ (refl, refl) (not_two s _ _ (λ e. absurd (cc e)) (λ e. absurd (cc e))) traffic
     go Pumped t traffic = plain [] (refl, refl) (λ i. i) traffic

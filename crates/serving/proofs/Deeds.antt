@@ -1,5 +1,5 @@
 -- Each deed, as a server goes on by it.
-use Rattle.serving.proofs.Names.{true, false, ◌≡◌, ◌≤◌, ℕ, ◌+◌, List, [], ◌∷◌, ◌++◌, Option, None, Some, length, map, take, refl, sym, subst, ◌∙◌, slice_set, length-take-le, Happening, Occurrence, Of_event, World, Same, can_open, is_gone, Answers, Delivers, NoneCanDeliver, delivers, idles, Accepted, Not_accepted, Accept_failed, Got, Nothing_got, Read_ended, Read_failed, Took, Nothing_taken, Write_failed, Closed, asks, To_accept, To_read, To_write, Traffic, AddsCalls, IsFresh, Attempt, whole, short, Brings, FallsShort, served, At, Filled, MayTurnAway, TakesIn, IsOffer, Passage, Enters, Leaves, Stays, greeting, passage_between, Met, Turned_away, Met_no_one, Heard, Heard_partly, Heard_nothing, Heard_end, Gave, Gave_partly, Gave_nothing, Gave_up, Pumped_nothing, Pump_refused, Closed_gone, Serves, PumpsOnce, Peer, Lacks, To_open, To_pump, OpensNew}
+use Rattle.serving.proofs.Names.{true, false, ◌≡◌, ◌≤◌, ℕ, ◌+◌, List, [], ◌∷◌, ◌++◌, Option, None, Some, length, map, take, refl, sym, subst, ◌∙◌, slice_set, length-take-le, Happening, Occurrence, Of_event, World, Same, can_open, is_gone, Answers, Delivers, NoneCanDeliver, delivers, idles, Accepted, Not_accepted, Accept_failed, Got, Nothing_got, Read_ended, Read_failed, Took, Nothing_taken, Write_failed, Closed, asks, To_accept, To_read, To_write, Traffic, AddsCalls, IsFresh, Attempt, whole, short, Brings, FallsShort, served, At, Filled, MayTurnAway, TakesIn, IsOffer, Passage, Enters, Leaves, Stays, greeting, passage_between, Met, Turned_away, Met_no_one, Heard, Heard_partly, Heard_nothing, Heard_end, Gave, Gave_partly, Gave_nothing, Gave_up, Pumped_nothing, Pump_refused, Closed_gone, Served, Serves, PumpsOnce, Deed, DoesDeed, is_pump, is_done, Peer, Lacks, To_open, To_pump, OpensNew}
 use Rattle.model.specs.declared.events.Arrival.TheVariants as arrival
 use Rattle.serving.specs.Story.{Pumped}
 use Rattle.serving.proofs.Turning.{match_false, opens_one}
@@ -109,32 +109,20 @@ gave_up {L = L} a b ps i p traffic mid now at lost e f =
 
 -- ---- pumps
 
+pump_one : {L : Lacks} (a b : Served) (d : Deed) (os : List Occurrence) → DoesDeed L a d os b → is_pump d ≡ true → PumpsOnce L a (is_done d) b
+pump_one a b d os does pump = record { deed = d; occurrences = os; does = does; pump = pump; done = refl }
+
 pub pumped : {L : Lacks} (a b : World) (ps : List (Option Peer)) (traffic : Traffic) (c : ℕ) (hs : List Happening) → Delivers a c hs b → PumpsOnce L (served a ps traffic) true (served b ps traffic)
-pumped {L = L} a b ps traffic c hs d = record {
-  deed = Pumped;
-  occurrences = map Of_event hs;
-  does = record { table = ((c, d.puts.happens.stepped.acts.made), refl); brings = attempt_one L a b (whole arrival.Pump) (map Of_event hs) (hs, refl, delivers d); greets = tt; traffic = tells_none traffic };
-  pump = refl;
-  done = refl;
-}
+pumped {L = L} a b ps traffic c hs d = pump_one (served a ps traffic) (served b ps traffic) Pumped (map Of_event hs)
+    (record { table = ((c, d.puts.happens.stepped.acts.made), refl); brings = attempt_one L a b (whole arrival.Pump) (map Of_event hs) (hs, refl, delivers d); greets = tt; traffic = tells_none traffic }) refl
 
 pub pumped_nothing : {L : Lacks} (a b : World) (ps : List (Option Peer)) (traffic : Traffic) → NoneCanDeliver a → Same a b → PumpsOnce L (served a ps traffic) false (served b ps traffic)
-pumped_nothing {L = L} a b ps traffic none same = record {
-  deed = Pumped_nothing;
-  occurrences = [];
-  does = record { table = (none, refl); brings = attempt_one L a b (whole arrival.Pump) [] ([], refl, idles none (refl, same)); greets = tt; traffic = tells_none traffic };
-  pump = refl;
-  done = refl;
-}
+pumped_nothing {L = L} a b ps traffic none same = pump_one (served a ps traffic) (served b ps traffic) Pumped_nothing []
+    (record { table = (none, refl); brings = attempt_one L a b (whole arrival.Pump) [] ([], refl, idles none (refl, same)); greets = tt; traffic = tells_none traffic }) refl
 
 pub pump_refused : {L : Lacks} (a b : World) (ps : List (Option Peer)) (traffic : Traffic) → L a To_pump → Same a b → PumpsOnce L (served a ps traffic) false (served b ps traffic)
-pump_refused {L = L} a b ps traffic wants same = record {
-  deed = Pump_refused;
-  occurrences = [];
-  does = record { table = refl; brings = attempt_one L a b (short arrival.Pump) [] ([], refl, (wants, (refl, same))); greets = tt; traffic = tells_none traffic };
-  pump = refl;
-  done = refl;
-}
+pump_refused {L = L} a b ps traffic wants same = pump_one (served a ps traffic) (served b ps traffic) Pump_refused []
+    (record { table = refl; brings = attempt_one L a b (short arrival.Pump) [] ([], refl, (wants, (refl, same))); greets = tt; traffic = tells_none traffic }) refl
 
 -- ---- ends and rests
 

@@ -1,14 +1,15 @@
 -- What was taken of an output, with what waits there, is what was put out; of one that is gone it is a beginning.
 use Rattle.serving.proofs.Names.{◌≡◌, ◌≢◌, ◌<◌, ℕ, ◌+◌, List, [], ◌∷◌, ◌++◌, Bool, true, false, eqb, length, take, drop, map, refl, sym, ap, subst, ◌∙◌, append_assoc, append-nil, flat_map, ◌⊎◌, inl, inr, Some, arith, eqb-true, eqb-false, false≢true, lt-ltb, length-take-le, flat_map-append, ◌==◌, ◌&&◌, nat_lt, if◌then◌else◌, MatchBool, AllByRecursion, Session, no_session, running_session, with_one, Stream, IsSound, Config, State, Happening, put_out, Occurrence, Of_event, IsDecided, events_of, World, Wire, new_world, is_over, is_gone, is_ended, can_open, Turns, Works, none_more, one_more, Waits, WorksOff, Same, with_heard, TakesOutput, TakesAndWorks, Opens, Loses, Puts, Pumps, delivers, idles, Answers, ByEvents, Reloads, IsConsistent, Arrival, Traffic, Attempt, whole, short, FallsShort, Attempts, Served, served, Deed, Enters, Leaves, Stays, Met, Turned_away, Met_no_one, Heard, Heard_partly, Heard_nothing, Heard_end, Gave, Gave_partly, Gave_nothing, Gave_up, Pumped_nothing, Pump_refused, Closed_gone, Paused, Reload_decided, Reload_undecided, calls, IsFront, DoesDeed, Story, written_to, AreBeginnings, Peer, IsOffered, new_is_consistent, events-append, events-mapped, Lacks}
 use Rattle.std.specs.Prelude.{not}
+use Rattle.std.proofs.lemmas.List.{take-append-drop}
 use Rattle.model.specs.Opening.{new_session}
 use Rattle.model.specs.Spelling.{sends_to, spelling}
 use Rattle.model.specs.History.{Reload as OneReload}
 use Rattle.model.specs.declared.events.Event.{Event}
 use Rattle.model.specs.declared.events.Event.TheVariants as event
 use Rattle.model.specs.declared.events.Arrival.TheVariants as arrival
-use Rattle.runs.proofs.Steps.{settled, puts_each, turns_apart, delivers_apart}
-use Rattle.runs.proofs.Places.{with_here, with_other, take_nothing, drop_nothing, take_and_drop}
+use Rattle.runs.proofs.Steps.{settled, put_out-append, puts_each, turns_apart, delivers_apart}
+use Rattle.runs.proofs.Places.{with_here, with_other, take_nothing, drop_nothing}
 use Rattle.serving.specs.Story.{Pumped}
 use Rattle.serving.proofs.Staying.{brings_stays, deed_stays}
 use Rattle.serving.proofs.Pairs.{peer_of, PairsWith, pairs_in}
@@ -23,9 +24,6 @@ pub record Accounts (d : ℕ) (taken put : List ℕ) (w : World) : Type 0 where
 -- from one world to another these bytes are taken of d's output
 pub record Flows (d : ℕ) (old : World) (taken : List ℕ) (hs : List Happening) (new : World) : Type 0 where
   pub keeps : (bytes put : List ℕ) → Accounts d bytes put old → Accounts d (bytes ++ taken) (put ++ put_out d hs) new
-
-put_out-append : (d : ℕ) (hs ks : List Happening) → put_out d (hs ++ ks) ≡ put_out d hs ++ put_out d ks
-put_out-append d hs ks = flat_map-append (λ (h : Happening). spelling h.frame_max (sends_to d h.sends)) hs ks
 
 flows_then : (d : ℕ) (a b c : World) (t u : List ℕ) (hs ks : List Happening) → Flows d a t hs b → Flows d b u ks c → Flows d a (t ++ u) (hs ++ ks) c
 flows_then d a b c t u hs ks f g = record {
@@ -218,7 +216,7 @@ flows_takes d c n a b hs t = go (c == d) refl
             → ((bytes ++ take n (a.wire c).output) ++ (b.wire d).output ≡ put ++ put_out d hs) ⊎ ((is_over b d ≡ true) × ((b.wire d).output ≡ []) × ((rest : List ℕ) × ((bytes ++ take n (a.wire c).output) ++ rest ≡ put ++ put_out d hs)))
         fits bytes put (inl e) all =
             inl (append_assoc bytes (take n (a.wire c).output) (b.wire d).output ∙ ap (λ (z : List ℕ). bytes ++ (take n (a.wire c).output ++ z)) out
-            ∙ ap (λ (z : List ℕ). bytes ++ z) (take_and_drop n (a.wire c).output ∙ sym mine) ∙ e ∙ sym all)
+            ∙ ap (λ (z : List ℕ). bytes ++ z) (take-append-drop n (a.wire c).output ∙ sym mine) ∙ e ∙ sym all)
         fits bytes put (inr g) all =
             inr (over ∙ g.0, empty g.1, (g.2.0, ap (λ (z : List ℕ). z ++ g.2.0) (ap (λ (z : List ℕ). bytes ++ z) (nothing g.1) ∙ append-nil bytes) ∙ g.2.1 ∙ sym all))
 

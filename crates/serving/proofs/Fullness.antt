@@ -1,10 +1,12 @@
 -- A slot that is marked as full holds a connection that is paused, and what comes for other connections leaves it so.
-use Rattle.serving.proofs.Names.{◌≡◌, ◌≢◌, ◌≤◌, ◌<◌, ◌+◌, ◌-◌, ◌⊎◌, ◌++◌, ℕ, suc, zero, List, [], ◌∷◌, Bool, true, false, Option, Some, None, length, drop, flat_map, refl, sym, ap, subst, ◌∙◌, inl, inr, slice_set, slice_index_or, arith, false≢true, cases_eq, cases_lt, lt-ltb, ltb-true, ltb-false, le-ltb, same_Some, nat_le, nat_lt, ◌&&◌, if◌then◌else◌, count_by, is_some, cond, To_read, Happening, World, Wire, Same, Delivers, is_over, is_gone, is_awake, is_paused, is_past_bound, has_output, Ask, At, Filled, OthersStay, IsFit, StaysOrFrees, AreQuiet, IsMarkedAt, IsNextLoud, HasEnded, read_of, write_of, Peer}
+use Rattle.serving.proofs.Names.{◌≡◌, ◌≢◌, ◌≤◌, ◌<◌, ◌+◌, ◌⊎◌, ◌++◌, ℕ, suc, zero, List, [], ◌∷◌, Bool, true, false, Option, Some, None, length, drop, sym, ap, subst, ◌∙◌, inl, inr, slice_set, slice_index_or, arith, false≢true, cases_eq, lt-ltb, ltb-true, same_Some, nat_le, nat_lt, if◌then◌else◌, count_by, is_some, cond, To_read, Happening, World, Wire, Same, Delivers, is_over, is_gone, is_awake, is_paused, is_past_bound, has_output, At, Filled, OthersStay, IsFit, StaysOrFrees, IsMarkedAt, HasEnded, read_of, Peer, get_or-set_other}
 use Rattle.std.proofs.Common.{not, length-append}
 use Rattle.model.specs.Spelling.{spelling}
-use Rattle.serving.specs.Quiet.{AreFull, HoldsPaused}
+use Rattle.serving.specs.Quiet.{AreFull}
 use Rattle.serving.proofs.Others.{StaysFor, others_stay, same_stays}
-use Rattle.serving.proofs.Quieting.{marked_ended}
+use Rattle.std.proofs.lemmas.Bool.{and_parts, and_right, not-true, not_from_true}
+use Rattle.serving.proofs.Turning.{output_stands}
+use Rattle.serving.proofs.Quieting.{marked_now, not_paused}
 use Rattle.serving.proofs.Seating.{taken_from}
 
 -- ---- one connection
@@ -19,23 +21,13 @@ long_output n e = let long : 1048575 < n = ltb-true 1048575 n e in lt-ltb 0 n (o
 pub paused_output : (w : World) (c : ℕ) → is_paused w c ≡ true → has_output w c ≡ true
 paused_output w c e = long_output (length (w.wire c).output) e
 
-not_awake : (over paused : Bool) → paused ≡ true → not over && not paused ≡ false
-not_awake true true e = refl
-not_awake false true e = refl
-not_awake over false e = absurd (false≢true e)
-
 -- it is not awake
 pub paused_waits : (w : World) (c : ℕ) → is_paused w c ≡ true → is_awake w c ≡ false
-paused_waits w c e = not_awake (is_over w c) (is_paused w c) e
-
-never_gone : (over out : Bool) → out ≡ true → over && not out ≡ false
-never_gone true true e = refl
-never_gone false true e = refl
-never_gone over false e = absurd (false≢true e)
+paused_waits w c e = and_right (not (is_over w c)) (not (is_paused w c)) (not_from_true (is_paused w c) e)
 
 -- and it is not gone
 pub paused_not_gone : (w : World) (c : ℕ) → is_paused w c ≡ true → is_gone w c ≡ false
-paused_not_gone w c e = never_gone (is_over w c) (has_output w c) (paused_output w c e)
+paused_not_gone w c e = output_stands w c (paused_output w c e)
 
 -- more output leaves it paused
 longer : (m n : ℕ) → m ≤ n → nat_le 1048576 m ≡ true → nat_le 1048576 n ≡ true
@@ -43,16 +35,9 @@ longer m n le e = let long : 1048575 < m = ltb-true 1048575 m e in lt-ltb 104857
 
 -- ---- the slots
 
-at_elsewhere : (ps : List (Option Peer)) (i j : ℕ) (q : Peer) → j ≢ i → At ps j q → At (slice_set ps i None) j q
-at_elsewhere [] i j q ne at = at
-at_elsewhere (o ∷ ps) zero zero q ne at = absurd (ne refl)
-at_elsewhere (o ∷ ps) zero (suc j) q ne at = at
-at_elsewhere (o ∷ ps) (suc i) zero q ne at = at
-at_elsewhere (o ∷ ps) (suc i) (suc j) q ne at = at_elsewhere ps i j q (λ e. ne (ap suc e)) at
-
 at_after : (ps qs : List (Option Peer)) (i j : ℕ) (q : Peer) → StaysOrFrees ps i qs → j ≢ i → At ps j q → At qs j q
 at_after ps qs i j q (inl e) ne at = subst (λ (z : List (Option Peer)). At z j q) (sym e) at
-at_after ps qs i j q (inr e) ne at = subst (λ (z : List (Option Peer)). At z j q) (sym e) (at_elsewhere ps i j q ne at)
+at_after ps qs i j q (inr e) ne at = subst (λ (z : List (Option Peer)). At z j q) (sym e) (get_or-set_other ps i j None None ne ∙ at)
 
 -- no slot is marked at first
 pub none_full : (w : World) (ps : List (Option Peer)) (fs : List Bool) → ((i : ℕ) → slice_index_or fs i false ≡ false) → AreFull w ps fs
@@ -87,23 +72,16 @@ other_full w ps i p fs here runs full j m = (
   m,
 )
 
-awake_short : (over paused : Bool) → not over && not paused ≡ true → paused ≡ false
-awake_short over false e = refl
-awake_short true true e = absurd (false≢true e)
-awake_short false true e = absurd (false≢true e)
-
 -- something happened for a connection that was awake
 pub full_read : (a b : World) (ps qs : List (Option Peer)) (i : ℕ) (p : Peer) (fs : List Bool) → IsFit a ps → At ps i p → is_awake a p.connection ≡ true → OthersStay p.connection a b → StaysOrFrees ps i qs
     → AreFull a ps fs → AreFull b qs fs
 full_read a b ps qs i p fs fit here awake distinct slots full =
-    full_apart a b ps qs i p fs fs fit here distinct slots (other_full a ps i p fs here (awake_short (is_over a p.connection) (is_paused a p.connection) awake) full) full
-
-short_output : (n : ℕ) → nat_lt 0 n ≡ false → nat_le 1048576 n ≡ false
-short_output n e = let none : n ≤ 0 = ltb-false 0 n e in le-ltb 1048575 n (omega (arith, none))
+    let short = not-true (is_paused a p.connection) (and_parts (not (is_over a p.connection)) (not (is_paused a p.connection)) awake).1 in
+    full_apart a b ps qs i p fs fs fit here distinct slots (other_full a ps i p fs here short full) full
 
 -- a slot was freed, or stayed, whose connection has no output
 pub full_silent : (w : World) (ps qs : List (Option Peer)) (i : ℕ) (p : Peer) (fs : List Bool) → At ps i p → has_output w p.connection ≡ false → StaysOrFrees ps i qs → AreFull w ps fs → AreFull w qs fs
-full_silent w ps qs i p fs here silent slots full = full_frees w ps qs i fs slots (other_full w ps i p fs here (short_output (length (w.wire p.connection).output) silent) full) full
+full_silent w ps qs i p fs here silent slots full = full_frees w ps qs i fs slots (other_full w ps i p fs here (not_paused w p.connection silent) full) full
 
 -- a slot was filled by a connection that was opened
 pub full_met : (a b : World) (ps qs : List (Option Peer)) (i : ℕ) (p : Peer) (fs : List Bool) → IsFit a ps → OthersStay (a.given + 1) a b → Filled ps i p qs → AreFull a ps fs → AreFull b qs fs
@@ -131,22 +109,10 @@ full_delivered a b ps c hs fs d distinct full = λ i m. let was = full i m in (w
 
 -- one slot is marked if its connection is paused, and otherwise loses its mark
 pub full_marked : (w : World) (ps : List (Option Peer)) (i : ℕ) (p : Peer) (fs : List Bool) (x : Bool) → At ps i p → (x ≡ true → is_paused w p.connection ≡ true) → AreFull w ps fs → AreFull w ps (slice_set fs i x)
-full_marked w ps i p fs x here is full = λ j m. go j (after fs i j m)
-  where
-    after : (ms : List Bool) (k j : ℕ) → IsMarkedAt (slice_set ms k x) j → ((j ≡ k) × (x ≡ true)) ⊎ IsMarkedAt ms j
-    after [] k j m = inr m
-    after (y ∷ ys) zero zero m = inl (refl, m)
-    after (y ∷ ys) zero (suc j) m = inr m
-    after (y ∷ ys) (suc k) zero m = inr m
-    after (y ∷ ys) (suc k) (suc j) m = on (after ys k j m)
-      where
-        on : ((j ≡ k) × (x ≡ true)) ⊎ IsMarkedAt ys j → ((suc j ≡ suc k) × (x ≡ true)) ⊎ IsMarkedAt ys j
-        on (inl e) = inl (ap suc e.0, e.1)
-        on (inr n) = inr n
-
-    go : (j : ℕ) → ((j ≡ i) × (x ≡ true)) ⊎ IsMarkedAt fs j → HoldsPaused w ps j
-    go j (inl e) = (p, subst (λ (k : ℕ). At ps k p) (sym e.0) here, is e.1)
-    go j (inr m) = full j m
+full_marked w ps i p fs x here is full = λ j m. elim (marked_now fs i j x m) [
+  | inl e ↦ (p, subst (λ (k : ℕ). At ps k p) (sym e.0) here, is e.1)
+  | inr n ↦ full j n.1
+]
 
 -- ---- what is due of a slot that is marked
 

@@ -1,10 +1,9 @@
 -- The set of loud slots has exactly those that have no mark, and what is due of marked slots is nothing.
-use Rattle.serving.proofs.Names.{◌≡◌, ◌≤◌, ◌<◌, ◌+◌, ◌-◌, ◌*◌, ◌++◌, ℕ, zero, suc, max, List, [], ◌∷◌, Bool, true, false, cond, Option, None, length, replicate, drop, flat_map, append-nil, refl, sym, ap, subst, ◌∙◌, ◌⊎◌, inl, inr, slice_set, slice_index_or, arith, false≢true, cases_eq, cases_lt, drop_all, World, Ask, AreLoud, AreQuiet, IsMarkedAt, IsNextLoud, loud_bit, HasEnded, write_of, Peer}
+use Rattle.serving.proofs.Names.{◌≡◌, ◌≤◌, ◌<◌, ◌+◌, ◌*◌, ◌++◌, ℕ, zero, suc, max, List, [], ◌∷◌, Bool, true, false, cond, Option, None, length, replicate, drop, flat_map, append-nil, refl, sym, ap, subst, ◌∙◌, ◌⊎◌, inl, inr, slice_set, slice_index_or, arith, false≢true, cases_eq, cases_lt, drop_all, World, Ask, AreLoud, IsMarkedAt, IsNextLoud, loud_bit, write_of, Peer, get_or-set_other, get_or-set_same, get_or_default, get_or_past, length-replicate, length-set}
 use Rattle.std.proofs.Common.{not}
 use Rattle.std.proofs.Math.Nat.{max-eq_left, max-eq_right}
 use Rattle.marks.specs.Sets.{Differs, IsNextMark, bit_of}
 use Rattle.serving.proofs.Others.{due_at, later_on}
-use Rattle.serving.proofs.Quieting.{marked_ended, marked_silent}
 
 -- ---- marks and the set
 
@@ -13,33 +12,12 @@ all_true zero i = refl
 all_true (suc n) zero = refl
 all_true (suc n) (suc i) = all_true n i
 
-pub all_length : (n : ℕ) → length (replicate n true) ≡ n
-all_length zero = refl
-all_length (suc n) = ap suc (all_length n)
-
 -- where all are marked none is in it
 pub loud_none : (loud : List ℕ) (marks : List Bool) (n : ℕ) → marks ≡ replicate n true → ((i : ℕ) → bit_of loud i ≡ 0) → n ≤ length loud * 64 → AreLoud loud marks
 loud_none loud marks n is none room = record {
-  room = let len = ap length is ∙ all_length n in omega (arith, len, room);
+  room = let len = ap length is ∙ length-replicate n true in omega (arith, len, room);
   each = λ i. none i ∙ sym (ap (λ (ms : List Bool). loud_bit ms i) is ∙ ap (λ (x : Bool). cond x 0 1) (all_true n i));
 }
-
-set_here : (marks : List Bool) (i : ℕ) (x : Bool) → i < length marks → slice_index_or (slice_set marks i x) i true ≡ x
-set_here [] i x lt = absurd (omega (arith, lt))
-set_here (m ∷ ms) zero x lt = refl
-set_here (m ∷ ms) (suc i) x lt = set_here ms i x (omega (arith, lt))
-
-set_elsewhere : (marks : List Bool) (i j : ℕ) (x : Bool) → (j ≡ i → ⊥) → slice_index_or (slice_set marks i x) j true ≡ slice_index_or marks j true
-set_elsewhere [] i j x ne = refl
-set_elsewhere (m ∷ ms) zero zero x ne = absurd (ne refl)
-set_elsewhere (m ∷ ms) zero (suc j) x ne = refl
-set_elsewhere (m ∷ ms) (suc i) zero x ne = refl
-set_elsewhere (m ∷ ms) (suc i) (suc j) x ne = set_elsewhere ms i j x (λ e. ne (ap suc e))
-
-pub set_length : (marks : List Bool) (i : ℕ) (x : Bool) → length (slice_set marks i x) ≡ length marks
-set_length [] i x = refl
-set_length (m ∷ ms) zero x = refl
-set_length (m ∷ ms) (suc i) x = ap suc (set_length ms i x)
 
 turned : (x : Bool) → ◌≡◌ {A = ℕ} (cond (not x) 1 0) (cond x 0 1)
 turned true = refl
@@ -48,31 +26,20 @@ turned false = refl
 -- one mark was set or taken away, and its slot taken out or put in
 pub loud_put : (old new : List ℕ) (marks : List Bool) (slot : ℕ) (x : Bool) → slot < length marks → Differs (bit_of old) (bit_of new) slot (cond (not x) 1 0) → length new ≡ length old → AreLoud old marks → AreLoud new (slice_set marks slot x)
 loud_put old new marks slot x lt put len was = record {
-  room = let more = set_length marks slot x in let room = was.room in omega (arith, more, len, room);
+  room = let more = length-set marks slot x in let room = was.room in omega (arith, more, len, room);
   each = λ i. go i (cases_eq i slot);
 }
   where
     go : (i : ℕ) → (i ≡ slot) ⊎ (i ≡ slot → ⊥) → bit_of new i ≡ loud_bit (slice_set marks slot x) i
     go i (inl e) =
-        ap (bit_of new) e ∙ put.there ∙ turned x ∙ ap (λ (y : Bool). cond y 0 1) (sym (set_here marks slot x lt)) ∙ ap (loud_bit (slice_set marks slot x)) (sym e)
-    go i (inr ne) = put.others i ne ∙ was.each i ∙ ap (λ (y : Bool). cond y 0 1) (sym (set_elsewhere marks slot i x ne))
+        ap (bit_of new) e ∙ put.there ∙ turned x ∙ ap (λ (y : Bool). cond y 0 1) (sym (get_or-set_same marks slot x true lt)) ∙ ap (loud_bit (slice_set marks slot x)) (sym e)
+    go i (inr ne) = put.others i ne ∙ was.each i ∙ ap (λ (y : Bool). cond y 0 1) (sym (get_or-set_other marks slot i x true ne))
 
 -- in it is a slot of which the mark was taken away
 unmarked : (marks : List Bool) (i : ℕ) → slice_index_or marks i true ≡ false → (i < length marks) × (slice_index_or marks i false ≡ false)
 unmarked [] i e = absurd (false≢true (sym e))
 unmarked (m ∷ ms) zero e = (omega arith, e)
 unmarked (m ∷ ms) (suc i) e = let u = unmarked ms i e in let lt = u.0 in (omega (arith, lt), u.1)
-
--- behind the end of the marks there is none
-pub unmarked_behind : (marks : List Bool) (i : ℕ) → length marks ≤ i → slice_index_or marks i false ≡ false
-unmarked_behind [] i le = refl
-unmarked_behind (m ∷ ms) zero le = absurd (omega (arith, le))
-unmarked_behind (m ∷ ms) (suc i) le = unmarked_behind ms i (omega (arith, le))
-
-marked : (marks : List Bool) (i : ℕ) → i < length marks → slice_index_or marks i true ≡ true → IsMarkedAt marks i
-marked [] i lt e = absurd (omega (arith, lt))
-marked (m ∷ ms) zero lt e = e
-marked (m ∷ ms) (suc i) lt e = marked ms i (omega (arith, lt)) e
 
 -- a mark was taken away where none was before
 pub unmarked_more : (marks : List Bool) (slot i : ℕ) → ((j : ℕ) → j < slot → slice_index_or marks j false ≡ false) → i < slot + 1 → slice_index_or (slice_set marks slot false) i false ≡ false
@@ -92,7 +59,7 @@ not_in_set false e = absurd (omega (arith, e))
 
 -- one that is not in it, up to the end of the marks, is marked
 marked_out : (loud : List ℕ) (marks : List Bool) → AreLoud loud marks → (i : ℕ) → i < length marks → bit_of loud i ≡ 0 → IsMarkedAt marks i
-marked_out loud marks are i lt e = marked marks i lt (not_in_set (slice_index_or marks i true) (sym (are.each i) ∙ e))
+marked_out loud marks are i lt e = get_or_default marks i false true lt ∙ not_in_set (slice_index_or marks i true) (sym (are.each i) ∙ e)
 
 -- one that has no mark is the next
 pub next_here : (marks : List Bool) (from : ℕ) → slice_index_or marks from false ≡ false → IsNextLoud marks from from
@@ -112,12 +79,12 @@ next_behind loud marks from are none = go (cases_lt from (length marks))
     go : (from < length marks) ⊎ (length marks ≤ from) → IsNextLoud marks from (max from (length marks))
     go (inl lt) = subst (IsNextLoud marks from) (sym (max-eq_right (omega (arith, lt)))) (record {
       least = omega (arith, lt);
-      loud = unmarked_behind marks (length marks) (omega arith);
+      loud = get_or_past marks (length marks) false (omega arith);
       before = λ i le less. marked_out loud marks are i less (none i le);
     })
     go (inr ge) = subst (IsNextLoud marks from) (sym (max-eq_left ge)) (record {
       least = omega arith;
-      loud = unmarked_behind marks from ge;
+      loud = get_or_past marks from false ge;
       before = λ i le less. absurd (omega (arith, le, less));
     })
 
@@ -138,24 +105,8 @@ pub record PassedBy (w : World) (start now : List (Option Peer)) (j : ℕ) (aske
   pub later : drop j now ≡ drop j start
   pub so_far : asked ++ flat_map (write_of w) (drop j start) ≡ due
 
-pub passes_by : (w : World) (start now : List (Option Peer)) (ms : List Bool) (i j : ℕ) (asked due : List Ask) → i ≤ j → AreQuiet w now ms → ((k : ℕ) → i ≤ k → k < j → IsMarkedAt ms k) → drop i now ≡ drop i start
-    → asked ++ flat_map (write_of w) (drop i start) ≡ due → PassedBy w start now j asked due
-passes_by w start now ms i j asked due le quiet all later so_far =
-    let n : j ≡ i + (j - i) = omega (arith, le) in
-    let after : drop j now ≡ drop j start = later_to start now i j (j - i) n later in
-    let passed : flat_map (write_of w) (drop i now) ≡ flat_map (write_of w) (drop j now) = due_to (write_of w) refl now i j (j - i) n (λ k from lt. marked_silent w now k ms quiet (all k from lt)) in
-    let same : flat_map (write_of w) (drop i start) ≡ flat_map (write_of w) (drop j start) = sym (ap (flat_map (write_of w)) later) ∙ passed ∙ ap (flat_map (write_of w)) after in
-    record { later = after; so_far = ap (λ (z : List Ask). asked ++ z) (sym same) ∙ so_far }
-
 -- behind the last slot nothing is due
 pub all_passed : (w : World) (start now : List (Option Peer)) (j : ℕ) (asked due : List Ask) → length start ≤ j → PassedBy w start now j asked due → asked ≡ due
 all_passed w start now j asked due le p =
     let none : flat_map (write_of w) (drop j start) ≡ [] = ap (flat_map (write_of w)) (drop_all j start le) in
     sym (append-nil asked) ∙ ap (λ (z : List Ask). asked ++ z) (sym none) ∙ p.so_far
-
-pub passed_ended : (w : World) (now : List (Option Peer)) (ms : List Bool) (i j : ℕ) → AreQuiet w now ms → ((k : ℕ) → k < i → HasEnded w now k) → ((k : ℕ) → i ≤ k → k < j → IsMarkedAt ms k) → (k : ℕ) → k < j → HasEnded w now k
-passed_ended w now ms i j quiet ended all k lt = go (cases_lt k i)
-  where
-    go : (k < i) ⊎ (i ≤ k) → HasEnded w now k
-    go (inl less) = ended k less
-    go (inr le) = marked_ended w now k ms quiet (all k le lt)

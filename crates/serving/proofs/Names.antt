@@ -3,7 +3,7 @@ pub use Rattle.laws.proofs.Consistency.{hears_consistent, linked, new_is_consist
 pub use Rattle.laws.proofs.Counts.{all-append, in_back, in_front}
 pub use Rattle.laws.proofs.Histories.{ToldOver, events-append, events-mapped, over-append, over_at, over_plays, over_told}
 pub use Rattle.laws.specs.Reloading.{IsOffered}
-pub use Rattle.model.specs.Arrivals.{Answers, ByEvents, Delivers, Loses, NoneCanDeliver, Opens, Pauses, Plays, Pumps, Puts, Reloads, Same, Shows, TakesAndWorks, TakesOutput, Turns, Waits, Wire, Works, WorksOff, World, can_open, count_open, delivers, has_output, idles, is_awake, is_ended, is_gone, is_over, is_past_bound, is_paused, new_world, none_more, one_more, shown, with_heard}
+pub use Rattle.model.specs.Arrivals.{Answers, ByEvents, Delivers, Loses, NoneCanDeliver, Opens, Plays, Pumps, Puts, Reloads, Same, Shows, TakesAndWorks, TakesOutput, Turns, Waits, Wire, Works, WorksOff, World, can_open, count_open, delivers, has_output, idles, is_awake, is_ended, is_gone, is_over, is_past_bound, is_paused, new_world, none_more, one_more, shown, with_heard}
 pub use Rattle.model.specs.Broker.{with_one}
 pub use Rattle.model.specs.Commands.{Stream, opened_stream}
 pub use Rattle.model.specs.Consistent.{IsConsistent}
@@ -25,9 +25,9 @@ pub use Rattle.serving.specs.Story.{ArePumps, At, Deed, DoesDeed, Enters, Filled
 pub use Rattle.serving.specs.Whole.{GoesOn, IsOf, IsServed, TakesOn, arrivals_of, arrived, seen_after, seen_of}
 pub use Rattle.serving.specs.Wire.{Accept_failed, Accepted, Ask, Call, Closed, Follows, Got, IsFresh, Not_accepted, Nothing_got, Nothing_taken, Farewell, Read_ended, Read_failed, Rested, AddsCalls, To_accept, To_read, To_write, Traffic, Took, Totals, Welcomed, Write_failed, ask, asks, is_failed, no_bytes, total_after, totals_after, with_got, with_taken}
 pub use Rattle.serving.specs.declared.peers.Peer.{Peer}
-pub use Rattle.std.proofs.Common.{Bool, List, None, Option, Some, T, [], ap, append-nil, append_assoc, arith, cond, count_by, drop, eqb, eqb→eq, false, filter_map, flat_map, inl, inr, length, map, max, refl, replicate, slice_get, slice_index_or, slice_set, subst, suc, sym, take, true, zero, ℕ, ◌*◌, ◌++◌, ◌+◌, ◌-◌, ◌<◌, ◌∙◌, ◌∷◌, ◌≡◌, ◌≢◌, ◌≤◌, ◌⊎◌}
+pub use Rattle.std.proofs.Common.{Bool, List, None, Option, Some, [], ap, append-nil, append_assoc, arith, cond, count_by, drop, eqb, false, filter_map, flat_map, inl, inr, length, map, max, refl, replicate, slice_get, slice_index_or, slice_set, subst, suc, sym, take, true, zero, ℕ, ◌*◌, ◌++◌, ◌+◌, ◌-◌, ◌<◌, ◌∙◌, ◌∷◌, ◌≡◌, ◌≢◌, ◌≤◌, ◌⊎◌}
 pub use Rattle.std.proofs.lemmas.Bool.{cases_eq, cases_lt, eq-eqb, eqb-false, eqb-true, false≢true, le-leb, le-ltb, leb-true, lt-leb, lt-ltb, ltb-false, ltb-true, ne_eqb}
-pub use Rattle.std.proofs.lemmas.List.{drop_all, get_or-drop, length-take-le}
+pub use Rattle.std.proofs.lemmas.List.{drop_all, get_or-drop, get_or-set_other, get_or-set_same, get_or_default, get_or_past, length-replicate, length-set, length-take-le}
 pub use Rattle.std.proofs.lemmas.List.Concat.{flat_map-append}
 pub use Rattle.std.proofs.lemmas.List.Elements.{filter_map-append}
 pub use Rattle.std.proofs.lemmas.List.Folds.{list_any-append}

@@ -1,5 +1,6 @@
 -- One more deed, and what a server does after what it did.
 use Rattle.serving.proofs.Names.{◌≡◌, ◌+◌, ◌⊎◌, inl, inr, ℕ, List, [], ◌∷◌, ◌++◌, length, Bool, true, false, Option, Some, None, flat_map, count_by, refl, sym, ap, subst, ◌∙◌, append_assoc, append-nil, arith, ◌==◌, ◌||◌, if◌then◌else◌, MatchBool, none-some, list_any, flat_map-append, filter_map-append, list_any-append, sum_by-append, IsIn, Occurrence, World, Call, Accepted, Not_accepted, Accept_failed, Got, Nothing_got, Read_ended, Read_failed, Took, Nothing_taken, Write_failed, Closed, Welcomed, Farewell, Rested, Ask, ask, asks, Totals, no_bytes, with_got, with_taken, total_after, totals_after, Traffic, AddsCalls, Follows, is_failed, Attempt, Brings, Attempts, Served, served, Deed, calls, is_done, is_unasked, DoesDeed, Story, Serves, RestsUnless, Lacks, Peer}
+use Rattle.std.proofs.Math.Bool.{or-false}
 
 -- ---- what a wire tells
 
@@ -105,18 +106,14 @@ serves_then {L = L} a b c xs ys p q s t = record {
   done = list_any-append is_done s.deeds t.deeds ∙ ap (λ (z : Bool). z || list_any is_done t.deeds) s.done ∙ ap (λ (z : Bool). p || z) t.done;
 }
 
-pub or_false : (p : Bool) → (p || false) ≡ p
-or_false true = refl
-or_false false = refl
-
 pub serves_one : {L : Lacks} (a b : Served) (xs : List Ask) (p : Bool) (d : Deed) (os : List Occurrence) → DoesDeed L a d os b → asks (calls d) ≡ xs → is_unasked d ≡ false → is_done d ≡ p → Serves L a xs p b
 serves_one a b xs p d os does asked pump done = record {
   deeds = d ∷ [];
   occurrences = os;
   story = (b, os, [], sym (append-nil os), does, (refl, refl));
   asks = ap asks (append-nil (calls d)) ∙ asked;
-  all_asked = or_false (is_unasked d) ∙ pump;
-  done = or_false (is_done d) ∙ done;
+  all_asked = or-false (is_unasked d) ∙ pump;
+  done = or-false (is_done d) ∙ done;
 }
 
 pub attempt_one : (L : Lacks) (a b : World) (t : Attempt) (os : List Occurrence) → Brings L a t os b → Attempts L a (t ∷ []) os b

@@ -1,15 +1,10 @@
 -- An arrival of one connection leaves the others as they were, and so what is due of them.
-use Rattle.serving.proofs.Names.{◌≡◌, ◌≢◌, ℕ, ◌+◌, List, [], ◌∷◌, ◌++◌, Bool, true, false, cond, eqb→eq, T, drop, suc, zero, slice_index_or, append_assoc, Option, Some, None, length, refl, sym, ap, subst, ◌∙◌, flat_map, inl, inr, arith, get_or-drop, nat_lt, MatchBool, ◌&&◌, ◌==◌, if◌then◌else◌, with_one, Session, Config, State, Happening, Occurrence, opened_stream, World, Wire, Works, none_more, one_more, Waits, WorksOff, Answers, TakesOutput, TakesAndWorks, Loses, Pauses, Same, with_heard, is_over, is_gone, is_past_bound, is_ended, is_awake, has_output, Opens, Delivers, Ask, To_read, To_write, FallsShort, At, OthersStay, IsFit, read_of, write_of, Peer, Lacks}
-use Rattle.std.proofs.Common.{not}
+use Rattle.serving.proofs.Names.{◌≡◌, ◌≢◌, ℕ, ◌+◌, List, [], ◌∷◌, ◌++◌, Bool, true, false, drop, suc, zero, slice_index_or, append_assoc, Option, Some, None, length, refl, sym, ap, subst, ◌∙◌, flat_map, inl, inr, arith, get_or-drop, nat_lt, MatchBool, ◌&&◌, if◌then◌else◌, Session, State, Happening, Occurrence, opened_stream, World, Wire, Works, none_more, one_more, Waits, WorksOff, Answers, TakesOutput, TakesAndWorks, Loses, Same, with_heard, is_over, is_gone, is_past_bound, is_ended, is_awake, has_output, Opens, Delivers, Ask, To_read, To_write, FallsShort, At, OthersStay, IsFit, read_of, write_of, Peer, Lacks}
+use Rattle.std.proofs.Common.{not, drop-drop}
+use Rattle.runs.proofs.Places.{with_other}
+use Rattle.runs.proofs.Steps.{settled}
 use Rattle.model.specs.declared.events.Arrival.TheVariants as arrival
 use Rattle.model.specs.declared.events.Event.TheVariants as event
-
-other_one : {A : Type 0} (f : ℕ → A) (c : ℕ) (a : A) (d : ℕ) → d ≢ c → with_one f c a d ≡ f d
-other_one f c a d ne = go (d == c) refl
-  where
-    go : (b : Bool) → d == c ≡ b → cond b a (f d) ≡ f d
-    go true e = absurd (ne (eqb→eq d c (subst T (sym e) tt)))
-    go false e = refl
 
 pub apart_not : (c : ℕ) (w : World) → OthersStay c w w
 apart_not c w = record { wires = λ d ne. refl; sessions = λ d ne. refl }
@@ -31,16 +26,10 @@ apart_same : (c : ℕ) (a b : World) → Same a b → OthersStay c a b
 apart_same c a b s = record { wires = λ d ne. s.wires d; sessions = λ d ne. ap (λ (z : State). z.session d) s.state }
 
 apart_heard : (c : ℕ) (a : World) (bytes : List ℕ) → OthersStay c a (with_heard a c bytes)
-apart_heard c a bytes = record { wires = λ d ne. other_one a.wire c _ d ne; sessions = λ d ne. refl }
-
-settles_sessions : (f : Config) (mid new : State) (c : ℕ) (x y : Bool) (hs : List Happening) → Pauses f mid c x y hs new → (d : ℕ) → new.session d ≡ mid.session d
-settles_sessions f mid new c false true hs s d = s.2.stepped.session d
-settles_sessions f mid new c true false hs s d = s.2.stepped.session d
-settles_sessions f mid new c true true hs s d = ap (λ (z : State). z.session d) s.1
-settles_sessions f mid new c false false hs s d = ap (λ (z : State). z.session d) s.1
+apart_heard c a bytes = record { wires = λ d ne. with_other a.wire c d _ ne; sessions = λ d ne. refl }
 
 apart_takes : (c n : ℕ) (a b : World) (hs : List Happening) → TakesOutput a c n hs b → OthersStay c a b
-apart_takes c n a b hs t = record { wires = λ d ne. t.wires d ∙ other_one a.wire c _ d ne; sessions = λ d ne. settles_sessions a.config a.state b.state c _ _ hs t.pauses d }
+apart_takes c n a b hs t = record { wires = λ d ne. t.wires d ∙ with_other a.wire c d _ ne; sessions = λ d ne. (settled a.config a.state b.state c _ _ hs t.pauses).sessions d }
 
 -- an arrival does nothing, or this
 either : (c : ℕ) (a b : World) (P : Type 0) (hs : List Happening) (x : Bool) → (P → OthersStay c a b) → MatchBool x ((hs ≡ []) × Same a b) P → OthersStay c a b
@@ -48,13 +37,13 @@ either c a b P hs true f p = apart_same c a b p.1
 either c a b P hs false f p = f p
 
 pub apart_lose : (c : ℕ) (a b : World) → (os : List Occurrence) × Answers a (arrival.Lose c) os b → OthersStay c a b
-apart_lose c a b (os, (hs, e, p)) = either c a b _ hs (is_gone a c) (λ (l : Loses a c hs b). record { wires = λ d ne. l.wires d ∙ other_one a.wire c _ d ne; sessions = λ d ne. l.happens.stepped.session d ∙ other_one a.state.session c _ d ne }) p
+apart_lose c a b (os, (hs, e, p)) = either c a b _ hs (is_gone a c) (λ (l : Loses a c hs b). record { wires = λ d ne. l.wires d ∙ with_other a.wire c d _ ne; sessions = λ d ne. l.happens.stepped.session d ∙ with_other a.state.session c d _ ne }) p
 
 pub apart_delivered : (c : ℕ) (a b : World) (hs : List Happening) → Delivers a c hs b → OthersStay c a b
 apart_delivered c a b hs d = record { wires = d.puts.others; sessions = d.puts.rests }
 
 pub apart_open : (a b : World) (hs : List Happening) → Opens a (event.Open (a.given + 1)) opened_stream hs b → OthersStay (a.given + 1) a b
-apart_open a b hs o = record { wires = λ d ne. o.wires d ∙ other_one a.wire (a.given + 1) _ d ne; sessions = λ d ne. o.happens.stepped.steps.session d ∙ other_one a.state.session (a.given + 1) _ d ne }
+apart_open a b hs o = record { wires = λ d ne. o.wires d ∙ with_other a.wire (a.given + 1) d _ ne; sessions = λ d ne. o.happens.stepped.steps.session d ∙ with_other a.state.session (a.given + 1) d _ ne }
 
 pub apart_in : (c : ℕ) (a b : World) (bytes : List ℕ) → (os : List Occurrence) × Answers a (arrival.In c bytes) os b → OthersStay c a b
 apart_in c a b bytes (os, (hs, e, p)) =
@@ -136,23 +125,9 @@ due_at f e [] (suc i) = ap (λ (z : List Ask). z ++ []) (sym e)
 due_at f e (p ∷ ps) zero = refl
 due_at f e (p ∷ ps) (suc i) = due_at f e ps i
 
-first_of : (ps : List (Option Peer)) (i : ℕ) → slice_index_or (drop i ps) 0 None ≡ slice_index_or ps i None
-first_of [] zero = refl
-first_of [] (suc i) = refl
-first_of (p ∷ ps) zero = refl
-first_of (p ∷ ps) (suc i) = first_of ps i
-
-behind_first : (ps : List (Option Peer)) (i : ℕ) → drop 1 (drop i ps) ≡ drop (suc i) ps
-behind_first [] zero = refl
-behind_first [] (suc i) = refl
-behind_first (p ∷ ps) zero = refl
-behind_first (p ∷ ps) (suc i) = behind_first ps i
-
 -- slots that agree from i on agree behind it
 pub later_on : (start now : List (Option Peer)) (i : ℕ) → drop i now ≡ drop i start → drop (i + 1) now ≡ drop (i + 1) start
-later_on start now i e =
-    let next : suc i ≡ i + 1 = omega arith in
-    subst (λ (k : ℕ). drop k now ≡ drop k start) next (sym (behind_first now i) ∙ ap (drop 1) e ∙ behind_first start i)
+later_on start now i e = sym (drop-drop 1 i now) ∙ ap (drop 1) e ∙ drop-drop 1 i start
 
 -- one more slot was looked at: what was asked, with what the rest are due, stays the same
 pub due_on : (f g : Option Peer → List Ask) → f None ≡ [] → (start now : List (Option Peer)) (i : ℕ) (asked due : List Ask) → drop i now ≡ drop i start
@@ -161,7 +136,9 @@ pub due_on : (f g : Option Peer → List Ask) → f None ≡ [] → (start now :
 due_on f g e start now i asked due same stays all =
     let next : suc i ≡ i + 1 = omega arith in
     let rest : flat_map g (drop (i + 1) start) ≡ flat_map f (drop (i + 1) start) = subst (λ (ps : List (Option Peer)). flat_map g ps ≡ flat_map f ps) (later_on start now i same) stays in
-    let here : slice_index_or now i None ≡ slice_index_or start i None = sym (first_of now i) ∙ ap (λ (ps : List (Option Peer)). slice_index_or ps 0 None) same ∙ first_of start i in
+    let first : i + 0 ≡ i = omega arith in
+    let here : slice_index_or now i None ≡ slice_index_or start i None =
+    subst (λ (k : ℕ). slice_index_or now k None ≡ slice_index_or start k None) first (sym (get_or-drop i now 0 None) ∙ ap (λ (ps : List (Option Peer)). slice_index_or ps 0 None) same ∙ get_or-drop i start 0 None) in
     let split : flat_map f (drop i start) ≡ f (slice_index_or start i None) ++ flat_map f (drop (i + 1) start) =
     due_at f e start i ∙ ap (λ (k : ℕ). f (slice_index_or start i None) ++ flat_map f (drop k start)) next in
     ap (λ (z : List Ask). (asked ++ f (slice_index_or now i None)) ++ z) rest

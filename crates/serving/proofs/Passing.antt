@@ -1,15 +1,15 @@
 -- Slots for which the wire answers itself that their sockets take nothing: what is asked of it so is what they are due.
-use Rattle.serving.proofs.Names.{◌≡◌, ◌≢◌, ◌≤◌, ◌<◌, ◌+◌, ◌-◌, ◌⊎◌, ◌++◌, ◌∙◌, ℕ, suc, zero, List, [], ◌∷◌, Bool, true, false, Option, Some, None, length, drop, flat_map, refl, sym, ap, subst, inl, inr, slice_index_or, arith, cases_lt, append_assoc, lt-ltb, ltb-false, nat_lt, if◌then◌else◌, count_by, is_some, World, Ask, To_write, At, Served, Serves, served, Traffic, AreQuiet, IsMarkedAt, IsNextLoud, HasEnded, read_of, reads_due, write_of, writes_due, Peer, Lacks}
+use Rattle.serving.proofs.Names.{◌≡◌, ◌≤◌, ◌<◌, ◌+◌, ◌-◌, ◌⊎◌, ◌++◌, ◌∙◌, ℕ, suc, zero, List, [], ◌∷◌, Bool, false, Option, Some, None, length, drop, flat_map, refl, sym, ap, subst, inl, inr, arith, cases_lt, append_assoc, lt-ltb, ltb-false, nat_lt, if◌then◌else◌, count_by, is_some, World, Ask, To_write, At, Served, Serves, served, Traffic, AreQuiet, IsMarkedAt, IsNextLoud, HasEnded, read_of, write_of, Peer, Lacks, get_or-drop}
 use Rattle.std.proofs.Common.{drop-drop}
 use Rattle.serving.specs.Rounds.{outputs}
 use Rattle.serving.specs.Quiet.{AreFull}
 use Rattle.serving.specs.Wire.{NoneTakes, TakesNothing}
 use Rattle.serving.proofs.Deeds.{gave_nothing}
-use Rattle.serving.proofs.Onward.{or_false, serves_not, serves_then}
+use Rattle.serving.proofs.Onward.{serves_not, serves_then}
 use Rattle.serving.proofs.Quieting.{marked_ended}
 use Rattle.serving.proofs.Fullness.{full_ended, full_taken, full_unread}
 use Rattle.serving.proofs.Loudness.{PassedBy, due_to, later_to}
-use Rattle.serving.proofs.Waiting.{Passes, at_drop}
+use Rattle.serving.proofs.Waiting.{Passes}
 
 -- ---- writes
 
@@ -73,7 +73,7 @@ pub passes_writes : {L : Lacks} (w : World) (ps : List (Option Peer)) (i j : ℕ
 passes_writes {L = L} w ps i j traffic now le takes =
     let n = j - i in
     let is : i + n ≡ j = omega (arith, le) in
-    let all : AllRefused L w ps n (drop i ps) traffic now = all_refused w ps n (drop i ps) traffic now (λ k p at. (i + k, at_drop ps i k p at)) takes in
+    let all : AllRefused L w ps n (drop i ps) traffic now = all_refused w ps n (drop i ps) traffic now (λ k p at. (i + k, sym (get_or-drop i ps k None) ∙ at)) takes in
     record {
       asked = all.asked;
       serves = all.serves;
@@ -106,7 +106,7 @@ silent_empty (byte ∷ bytes) e = let none : length (byte ∷ bytes) ≤ 0 = ltb
 -- quiet slots have no output
 quiet_run : (w : World) (ps : List (Option Peer)) (ms : List Bool) (i j : ℕ) (traffic : Traffic) → AreQuiet w ps ms → IsNextLoud ms i j → NoneTakes (outputs w) (j - i) (drop i ps) traffic traffic
 quiet_run w ps ms i j traffic quiet next = none_quiet (outputs w) (j - i) (drop i ps) traffic (λ k p lt at.
-    let here = at_drop ps i k p at in
+    let here = sym (get_or-drop i ps k None) ∙ at in
     let least = next.least in
     silent_empty (outputs w p.connection) (quiet (i + k) p here (next.before (i + k) (omega arith) (omega (arith, lt, least)))).silent)
 

@@ -1,31 +1,27 @@
 -- A slot that is marked is quiet, and what comes for other connections leaves it so.
-use Rattle.serving.proofs.Names.{◌≡◌, ◌≢◌, ◌≤◌, ◌+◌, ◌⊎◌, ℕ, suc, zero, List, [], ◌∷◌, Bool, true, false, Option, Some, None, length, refl, sym, ap, subst, ◌∙◌, inl, inr, slice_set, slice_index_or, arith, false≢true, le-ltb, ltb-false, same_Some, nat_le, nat_lt, ◌&&◌, if◌then◌else◌, World, Same, is_over, is_gone, is_paused, has_output, To_write, At, Filled, OthersStay, IsFit, StaysOrFrees, IsQuiet, IsMarkedAt, AreQuiet, AreInSlots, IsOther, Wakes, HasEnded, write_of, Peer}
+use Rattle.serving.proofs.Names.{◌≡◌, ◌≢◌, ◌≤◌, ◌+◌, ◌⊎◌, ℕ, suc, zero, List, [], ◌∷◌, Bool, true, false, Option, Some, None, length, refl, sym, ap, subst, ◌∙◌, inl, inr, slice_set, slice_index_or, arith, false≢true, le-ltb, ltb-false, same_Some, if◌then◌else◌, World, Same, is_over, is_gone, is_paused, has_output, To_write, At, Filled, OthersStay, IsFit, StaysOrFrees, IsQuiet, IsMarkedAt, AreQuiet, AreInSlots, IsOther, Wakes, HasEnded, write_of, Peer, get_or-set_other}
 use Rattle.std.proofs.Common.{not}
-use Rattle.serving.proofs.Turning.{awake_stands}
+use Rattle.std.proofs.lemmas.Bool.{and_from, and_left, not_from_false}
+use Rattle.serving.proofs.Turning.{awake_stands, output_stands}
 use Rattle.serving.proofs.Others.{StaysFor, others_stay, same_stays, output_stays, awake_stays, gone_stays}
 use Rattle.serving.proofs.Fits.{freed_at, fit_on}
 
 -- ---- marks
 
--- what is marked after one mark was set was marked, or is that one
-marked_now : (marks : List Bool) (i j : ℕ) → IsMarkedAt (slice_set marks i true) j → (j ≡ i) ⊎ IsMarkedAt marks j
-marked_now [] i j m = inr m
-marked_now (x ∷ xs) zero zero m = inl refl
-marked_now (x ∷ xs) zero (suc j) m = inr m
-marked_now (x ∷ xs) (suc i) zero m = inr m
-marked_now (x ∷ xs) (suc i) (suc j) m = go (marked_now xs i j m)
-  where
-    go : (j ≡ i) ⊎ IsMarkedAt xs j → (suc j ≡ suc i) ⊎ IsMarkedAt xs j
-    go (inl e) = inl (ap suc e)
-    go (inr n) = inr n
+-- what is marked after one mark was set to x is that one, with x, or another that was marked
+pub marked_now : (marks : List Bool) (i j : ℕ) (x : Bool) → IsMarkedAt (slice_set marks i x) j → ((j ≡ i) × (x ≡ true)) ⊎ ((j ≢ i) × IsMarkedAt marks j)
+marked_now [] i j x m = absurd (false≢true m)
+marked_now (y ∷ ys) zero zero x m = inl (refl, m)
+marked_now (y ∷ ys) zero (suc j) x m = inr (λ e. omega (arith, e), m)
+marked_now (y ∷ ys) (suc i) zero x m = inr (λ e. omega (arith, e), m)
+marked_now (y ∷ ys) (suc i) (suc j) x m = elim (marked_now ys i j x m) [
+  | inl e ↦ inl (ap suc e.0, e.1)
+  | inr n ↦ inr (λ e. n.0 (omega (arith, e)), n.1)
+]
 
 -- what is marked after one mark was taken away was marked, and is another
 pub still_marked : (marks : List Bool) (i j : ℕ) → IsMarkedAt (slice_set marks i false) j → (j ≢ i) × IsMarkedAt marks j
-still_marked [] i j m = absurd (cc m)
-still_marked (x ∷ xs) zero zero m = absurd (false≢true m)
-still_marked (x ∷ xs) zero (suc j) m = (λ e. omega (arith, e), m)
-still_marked (x ∷ xs) (suc i) zero m = (λ e. omega (arith, e), m)
-still_marked (x ∷ xs) (suc i) (suc j) m = let s = still_marked xs i j m in (λ e. s.0 (omega (arith, e)), s.1)
+still_marked marks i j m = elim (marked_now marks i j false m) [ inl e ↦ absurd (false≢true e.1) | inr n ↦ n ]
 
 -- where a slot has no mark, what is marked is another
 pub other_marked : (marks : List Bool) (i : ℕ) → slice_index_or marks i false ≡ false → (j : ℕ) → IsMarkedAt marks j → (j ≢ i) × IsMarkedAt marks j
@@ -47,39 +43,26 @@ none_ended w ps none i = λ p at. absurd (no_one_at ps i p none at)
 quiet_stays : (a b : World) (c : ℕ) → StaysFor c a b → IsQuiet a c → IsQuiet b c
 quiet_stays a b c s q = record { awake = awake_stays a b c s ∙ q.awake; silent = output_stays a b c s ∙ q.silent }
 
-not_over_not_gone : (over out : Bool) → over ≡ false → over && not out ≡ false
-not_over_not_gone true out e = absurd (false≢true (sym e))
-not_over_not_gone false out e = refl
-
 pub stands_not_gone : (w : World) (c : ℕ) → is_over w c ≡ false → is_gone w c ≡ false
-stands_not_gone w c e = not_over_not_gone (is_over w c) (has_output w c) e
+stands_not_gone w c e = and_left (is_over w c) (not (has_output w c)) e
 
 pub is_gone_silent : (w : World) (c : ℕ) → is_over w c ≡ true → has_output w c ≡ false → is_gone w c ≡ true
-is_gone_silent w c e f = go (is_over w c) (has_output w c) e f
-  where
-    go : (over out : Bool) → over ≡ true → out ≡ false → over && not out ≡ true
-    go true false e f = refl
-    go true true e f = absurd (false≢true (sym f))
-    go false out e f = absurd (false≢true e)
+is_gone_silent w c e f = and_from (is_over w c) (not (has_output w c)) e (not_from_false (has_output w c) f)
 
 quiet_not_gone : (w : World) (c : ℕ) → IsQuiet w c → is_gone w c ≡ false
 quiet_not_gone w c q = stands_not_gone w c (awake_stands w c q.awake)
 
 -- with no output it is not paused
-not_paused : (n : ℕ) → nat_lt 0 n ≡ false → nat_le 1048576 n ≡ false
-not_paused n e = let none : n ≤ 0 = ltb-false 0 n e in le-ltb 1048575 n (omega (arith, none))
+pub not_paused : (w : World) (c : ℕ) → has_output w c ≡ false → is_paused w c ≡ false
+not_paused w c e =
+    let none : length (w.wire c).output ≤ 0 = ltb-false 0 (length (w.wire c).output) e in
+    le-ltb 1048575 (length (w.wire c).output) (omega (arith, none))
 
 pub is_quiet : (w : World) (c : ℕ) → is_over w c ≡ false → has_output w c ≡ false → IsQuiet w c
-is_quiet w c stands silent = record { awake = go (is_over w c) (is_paused w c) stands (not_paused (length (w.wire c).output) silent); silent = silent }
-  where
-    go : (over paused : Bool) → over ≡ false → paused ≡ false → not over && not paused ≡ true
-    go false false e f = refl
-    go false true e f = absurd (false≢true (sym f))
-    go true paused e f = absurd (false≢true (sym e))
-
--- nothing happened, and again
-pub same_then : (a b c : World) → Same a b → Same b c → Same a c
-same_then a b c s t = record { config = t.config ∙ s.config; state = t.state ∙ s.state; given = t.given ∙ s.given; wires = λ d. t.wires d ∙ s.wires d }
+is_quiet w c stands silent = record {
+  awake = and_from (not (is_over w c)) (not (is_paused w c)) (not_from_false (is_over w c) stands) (not_from_false (is_paused w c) (not_paused w c silent));
+  silent = silent;
+}
 
 -- ---- the slots
 
@@ -118,19 +101,11 @@ quiet_met a b ps qs i p ms fit distinct filled quiet = still_quiet a b ps qs ms 
 pub quiet_woken : (a b : World) (ps : List (Option Peer)) (c : ℕ) (ms ns : List Bool) → OthersStay c a b → Wakes c ps ms ns → AreQuiet a ps ms → AreQuiet b ps ns
 quiet_woken a b ps c ms ns distinct wakes quiet = still_quiet a b ps ps ms ns quiet (λ j q at m. let w = (wakes j).0 m in (at, w.0, others_stay c a b distinct q.connection (w.1 q at)))
 
--- where one mark was taken away the others stay
-marked_elsewhere : (marks : List Bool) (i j : ℕ) → j ≢ i → IsMarkedAt marks j → IsMarkedAt (slice_set marks i false) j
-marked_elsewhere [] i j ne m = m
-marked_elsewhere (x ∷ xs) zero zero ne m = absurd (ne refl)
-marked_elsewhere (x ∷ xs) zero (suc j) ne m = m
-marked_elsewhere (x ∷ xs) (suc i) zero ne m = m
-marked_elsewhere (x ∷ xs) (suc i) (suc j) ne m = marked_elsewhere xs i j (λ e. ne (ap suc e)) m
-
 -- the slot of connection c has lost its mark
 pub woken : (w : World) (ps : List (Option Peer)) (i : ℕ) (p : Peer) (c : ℕ) (ms : List Bool) → IsFit w ps → At ps i p → p.connection ≡ c → Wakes c ps ms (slice_set ms i false)
 woken w ps i p c ms fit here is = λ j. (
   λ m. let old = still_marked ms i j m in (old.1, λ q at e. old.0 (fit.distinct j i q p at here (e ∙ sym is))),
-  λ was. marked_elsewhere ms i j (λ e. was.1 p (subst (λ (k : ℕ). At ps k p) (sym e) here) is) was.0,
+  λ was. get_or-set_other ms i j false false (λ e. was.1 p (subst (λ (k : ℕ). At ps k p) (sym e) here) is) ∙ was.0,
 )
 
 -- no slot holds it
@@ -139,23 +114,17 @@ none_woken ps c ms others = λ j. (λ m. (m, others j), λ was. was.0)
 
 -- a slot is marked whose connection is quiet
 pub quiet_marked : (w : World) (ps : List (Option Peer)) (i : ℕ) (p : Peer) (ms : List Bool) → At ps i p → IsQuiet w p.connection → AreQuiet w ps ms → AreQuiet w ps (slice_set ms i true)
-quiet_marked w ps i p ms here is quiet = λ j q at m. go j q at (marked_now ms i j m)
-  where
-    go : (j : ℕ) (q : Peer) → At ps j q → (j ≡ i) ⊎ IsMarkedAt ms j → IsQuiet w q.connection
-    go j q at (inl e) =
-        let same : q ≡ p = same_Some q p (sym at ∙ ap (λ (k : ℕ). slice_index_or ps k None) e ∙ here) in
-        subst (λ (x : Peer). IsQuiet w x.connection) (sym same) is
-    go j q at (inr m) = quiet j q at m
+quiet_marked w ps i p ms here is quiet = λ j q at m. elim (marked_now ms i j true m) [
+  | inl e ↦ let same : q ≡ p = same_Some q p (sym at ∙ ap (λ (k : ℕ). slice_index_or ps k None) e.0 ∙ here) in subst (λ (x : Peer). IsQuiet w x.connection) (sym same) is
+  | inr n ↦ quiet j q at n.1
+]
 
 -- a slot is marked that is free
 pub quiet_free : (w : World) (ps : List (Option Peer)) (i : ℕ) (ms : List Bool) → slice_index_or ps i None ≡ None → AreQuiet w ps ms → AreQuiet w ps (slice_set ms i true)
-quiet_free w ps i ms free quiet = λ j q at m. go j q at (marked_now ms i j m)
-  where
-    go : (j : ℕ) (q : Peer) → At ps j q → (j ≡ i) ⊎ IsMarkedAt ms j → IsQuiet w q.connection
-    go j q at (inl e) =
-        let none : None ≡ Some q = sym free ∙ ap (λ (k : ℕ). slice_index_or ps k None) (sym e) ∙ at in
-        absurd (cc none)
-    go j q at (inr m) = quiet j q at m
+quiet_free w ps i ms free quiet = λ j q at m. elim (marked_now ms i j true m) [
+  | inl e ↦ let none : None ≡ Some q = sym free ∙ ap (λ (k : ℕ). slice_index_or ps k None) (sym e.0) ∙ at in absurd (cc none)
+  | inr n ↦ quiet j q at n.1
+]
 
 pub quiet_freed : (w : World) (ps : List (Option Peer)) (i : ℕ) (ms : List Bool) → AreQuiet w ps ms → AreQuiet w (slice_set ps i None) ms
 quiet_freed w ps i ms quiet = λ j q at m. quiet j q (freed_at ps i j q at) m
@@ -187,13 +156,8 @@ ended_apart a b ps qs i p fit here distinct slots j ne ended = λ q at.
 pub ended_before : (w : World) (ps qs : List (Option Peer)) (i : ℕ) → StaysOrFrees ps i qs → (j : ℕ) → HasEnded w ps j → HasEnded w qs j
 ended_before w ps qs i slots j ended = λ q at. ended q (at_before ps qs i slots j q at)
 
-never_gone : (over out : Bool) → out ≡ true → over && not out ≡ false
-never_gone true true e = refl
-never_gone false true e = refl
-never_gone over false e = absurd (false≢true e)
-
 -- the connection of a slot that has output is not gone
 pub with_output_stands : (w : World) (ps : List (Option Peer)) (i : ℕ) (p q : Peer) → At ps i p → At ps i q → has_output w p.connection ≡ true → is_gone w q.connection ≡ false
 with_output_stands w ps i p q here there output =
     let same : p ≡ q = same_Some p q (sym here ∙ there) in
-    subst (λ (r : Peer). is_gone w r.connection ≡ false) same (never_gone (is_over w p.connection) (has_output w p.connection) output)
+    subst (λ (r : Peer). is_gone w r.connection ≡ false) same (output_stands w p.connection output)

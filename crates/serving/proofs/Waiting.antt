@@ -1,9 +1,10 @@
 -- Slots for which the wire answers itself that their sockets have nothing: what is asked of it so is what they are due.
-use Rattle.serving.proofs.Names.{◌≡◌, ◌<◌, ◌≤◌, ◌+◌, ◌-◌, ◌∙◌, ◌++◌, ℕ, zero, suc, List, [], ◌∷◌, Bool, true, false, Option, Some, None, refl, sym, ap, subst, append_assoc, cond, count_by, drop, flat_map, arith, is_some, slice_index_or, ◌||◌, if◌then◌else◌, World, is_awake, Ask, To_read, Traffic, At, AreQuiet, IsMarkedAt, Served, Serves, served, read_of, reads_due, Peer, Lacks}
+use Rattle.serving.proofs.Names.{◌≡◌, ◌<◌, ◌≤◌, ◌+◌, ◌-◌, ◌∙◌, ◌++◌, ℕ, zero, suc, List, [], ◌∷◌, Bool, true, false, Option, Some, None, refl, sym, ap, subst, append_assoc, cond, count_by, drop, flat_map, arith, is_some, slice_index_or, ◌||◌, if◌then◌else◌, World, is_awake, Ask, To_read, Traffic, At, AreQuiet, IsMarkedAt, Served, Serves, served, read_of, reads_due, Peer, Lacks, get_or-drop}
+use Rattle.std.proofs.Math.Bool.{or-false}
 use Rattle.std.proofs.Common.{drop-drop}
 use Rattle.serving.specs.Wire.{AllWait, least_room}
 use Rattle.serving.proofs.Deeds.{heard_nothing}
-use Rattle.serving.proofs.Onward.{or_false, serves_not, serves_then}
+use Rattle.serving.proofs.Onward.{serves_not, serves_then}
 use Rattle.serving.proofs.Others.{due_on, later_on}
 use Rattle.serving.proofs.Seating.{left_behind, tally, tally_counts}
 
@@ -39,21 +40,11 @@ all_waited {L = L} w all (suc n) (Some p ∷ ps) traffic now each (mid, tells, r
       taken = omega (arith, more);
     }
 
-pub at_drop : (ps : List (Option Peer)) (i j : ℕ) (p : Peer) → At (drop i ps) j p → At ps (i + j) p
-at_drop [] zero j p at = at
-at_drop [] (suc i) j p at = absurd (cc at)
-at_drop (o ∷ ps) zero j p at =
-    let same : j ≡ 0 + j = omega arith in
-    subst (λ (k : ℕ). At (o ∷ ps) k p) same at
-at_drop (o ∷ ps) (suc i) j p at =
-    let same : suc (i + j) ≡ suc i + j = omega arith in
-    subst (λ (k : ℕ). At (o ∷ ps) k p) same (at_drop ps i j p at)
-
 -- marked slots are awake, so that each of them is due a read
 pub quiet_waited : {L : Lacks} (w : World) (all : List (Option Peer)) (marks : List Bool) (i n : ℕ) (traffic now : Traffic)
     → AreQuiet w all marks → ((k : ℕ) → i ≤ k → k < i + n → IsMarkedAt marks k) → AllWait n (drop i all) traffic now → Waited L w all n (drop i all) traffic now
 quiet_waited w all marks i n traffic now quiet marked waits = all_waited w all n (drop i all) traffic now (λ j p lt at.
-    let here = at_drop all i j p at in
+    let here = sym (get_or-drop i all j None) ∙ at in
     ((i + j, here), (quiet (i + j) p here (marked (i + j) (omega arith) (omega (arith, lt)))).awake)) waits
 
 -- ---- in a pass over all slots
@@ -85,7 +76,7 @@ passes_on {L = L} start w now marks i j left traffic after acted le quiet marked
     record {
       later = later;
       asked = p.asked ++ one.asked;
-      serves = subst (λ (x : Bool). Serves L start (p.asked ++ one.asked) x (served w now after)) (or_false acted)
+      serves = subst (λ (x : Bool). Serves L start (p.asked ++ one.asked) x (served w now after)) (or-false acted)
           (serves_then start (served w now traffic) (served w now after) p.asked one.asked acted false p.serves one.serves);
       so_far = append_assoc p.asked one.asked (flat_map (read_of w) (drop j start.peers)) ∙ ap (λ (z : List Ask). p.asked ++ z) (sym due) ∙ p.so_far;
       left = omega (arith, taken, was);

@@ -1,7 +1,7 @@
 //! A socket of the system whose send buffer is full, beside another that has bytes to read.
 
-use crate::silent::{fill, got_in_the_end, listening, met, read_all};
-use scenario_outcomes::{Unmet, expect, expect_number, value_of};
+use crate::silent::{expect_got, fill, listening, met, read_all};
+use scenario_outcomes::{Unmet, expect, value_of};
 use serving::{Wire as _, Write};
 use sockets::Sockets;
 use std::alloc::Global;
@@ -24,8 +24,7 @@ fn is_written_at_once<S: io::Write>(
     sockets.rest();
     sockets.accept();
     let is_written = matches!(sockets.write(full, b"three"), Write::Took(5));
-    let count = got_in_the_end(sockets, speaking)?;
-    expect_number("the number of bytes", count as u64, 3)?;
+    expect_got(sockets, speaking, 3)?;
     Ok(is_written)
 }
 

@@ -1,12 +1,10 @@
 //! Sockets of the system whose connections ran and are closed: how long they stay.
 
-use crate::silent::{met, round};
-use scenario_outcomes::{Unmet, earliest_end, expect, expect_past, value_of};
-use serving::{Read, Wire as _, Write};
+use crate::silent::{expect_ended, expect_waits, listening_for, met};
+use scenario_outcomes::{Unmet, earliest_end, expect_past};
+use serving::{Wire as _, Write};
 use sockets::Sockets;
 use std::alloc::Global;
-use std::net::SocketAddr;
-use std::time::Duration;
 
 /// The milliseconds that a socket may stay after its farewell.
 const TIME: u64 = 200;
@@ -17,44 +15,26 @@ const PATIENCE: u32 = 1_000;
 /// The number of writes that surely fill a socket that nobody reads, however much the system buffers.
 const MOST_WRITES: u32 = 100_000;
 
-/// Listens at a free port, with a patience of [`TIME`].
-fn listening(rt: &HostRuntime, alloc: Global) -> Result<Sockets, Unmet> {
-    let address = value_of("parse", "127.0.0.1:0".parse::<SocketAddr>())?;
-    let sockets = value_of("Sockets::bind", Sockets::bind(rt, alloc, address))?;
-    Ok(sockets.with_patience(rt, Duration::from_millis(TIME)))
-}
-
-/// Expects that a read of `socket` fails in one of [`PATIENCE`] rounds. Each read before it has to answer `Read::Wait`, and a rest follows that.
-fn expect_no_read(sockets: &mut Sockets, socket: u64) -> Result<(), Unmet> {
-    for _ in 0..PATIENCE {
-        match round(sockets, socket) {
-            Read::Failed => return Ok(()),
-            Read::Wait => sockets.rest(),
-            _ => return Err(Unmet::Call("read")),
-        }
-    }
-    Err(Unmet::Claim("a socket is ended after `farewell`"))
-}
-
 /// A socket for which `welcome` and then `farewell` was called is ended once its time, which begins with `farewell`, is over, and not before. A
 /// socket that was only welcomed is not ended.
 pub(crate) fn a_socket_that_was_bidden_farewell_is_ended(
     rt: &HostRuntime,
     alloc: Global,
 ) -> Result<(), Unmet> {
-    let mut sockets = listening(rt, alloc)?;
+    let mut sockets = listening_for(rt, alloc, TIME)?;
     let (_parted, parted_socket) = met(rt, &mut sockets)?;
     let (_welcome, welcome_socket) = met(rt, &mut sockets)?;
     sockets.welcome(parted_socket);
     sockets.welcome(welcome_socket);
     let earliest = earliest_end(rt, TIME)?;
-    let waits = matches!(round(&mut sockets, parted_socket), Read::Wait);
-    expect("a socket that was welcomed is not ended", waits)?;
+    let claim = "a socket that was welcomed is not ended";
+    expect_waits(&mut sockets, parted_socket, claim)?;
     sockets.farewell(parted_socket);
-    expect_no_read(&mut sockets, parted_socket)?;
+    let claim = "a socket is ended after `farewell`";
+    expect_ended(&mut sockets, parted_socket, claim)?;
     expect_past(rt, earliest)?;
-    let waits = matches!(round(&mut sockets, welcome_socket), Read::Wait);
-    expect("a socket without a call of `farewell` is not ended", waits)
+    let claim = "a socket without a call of `farewell` is not ended";
+    expect_waits(&mut sockets, welcome_socket, claim)
 }
 
 /// Writes to a socket until it takes nothing.
@@ -89,7 +69,7 @@ pub(crate) fn a_full_socket_that_was_bidden_farewell_is_ended(
     rt: &HostRuntime,
     alloc: Global,
 ) -> Result<(), Unmet> {
-    let mut sockets = listening(rt, alloc)?;
+    let mut sockets = listening_for(rt, alloc, TIME)?;
     let (_client, socket) = met(rt, &mut sockets)?;
     sockets.welcome(socket);
     fill(&mut sockets, socket)?;

@@ -55,15 +55,26 @@ fn got_of_second(
     Err(Unmet::Claim("a silent socket is passed by, and one that has something is not"))
 }
 
-/// Expects that the first slot of `peers` has its turn within [`TURNS`] rounds: `pass_silent` doesn't skip it then.
-fn expect_turn(sockets: &mut Sockets, peers: &Slab<Peer>) -> Result<(), Unmet> {
+/// Which sockets are skipped.
+#[derive(Clone, Copy, PartialEq, Eq, Drop)]
+enum Passed {
+    Silent,
+    Full,
+}
+
+/// Expects that the first slot of `peers` has its turn within [`TURNS`] rounds: it is not skipped then.
+fn expect_turn(sockets: &mut Sockets, peers: &Slab<Peer>, passed: Passed) -> Result<(), Unmet> {
     for _ in 0..TURNS {
         sockets.accept();
-        if sockets.pass_silent(peers, 0, 2) == 0 {
+        let place = match passed {
+            Passed::Silent => sockets.pass_silent(peers, 0, 2),
+            Passed::Full => sockets.pass_full(peers, 0, 2),
+        };
+        if place == 0 {
             return Ok(());
         }
     }
-    Err(Unmet::Claim("a silent socket is asked in its turn"))
+    Err(Unmet::Claim("a socket that is passed by is asked in its turn"))
 }
 
 /// A socket that has nothing is skipped, and the next one, which an event named, is not. If no round rests, the silent one is asked in its turn, too.
@@ -79,7 +90,7 @@ pub(crate) fn silent_sockets_are_passed_by_up_to_one_that_speaks<N: Net>(
         value_of("write_all", client.write_all(b"four"))?;
         let count = got_of_second(&mut sockets, &peers, first, second)?;
         expect_number("the number of bytes", count as u64, 4)?;
-        expect_turn(&mut sockets, &peers)?;
+        expect_turn(&mut sockets, &peers, Passed::Silent)?;
     }
     Ok(())
 }
@@ -126,17 +137,6 @@ fn expect_all_full<S: io::Write>(
     Err(Unmet::Claim("full sockets are passed by"))
 }
 
-/// Expects that the first slot of `peers` has its turn within [`TURNS`] rounds: `pass_full` doesn't skip it then.
-fn expect_full_turn(sockets: &mut Sockets, peers: &Slab<Peer>) -> Result<(), Unmet> {
-    for _ in 0..TURNS {
-        sockets.accept();
-        if sockets.pass_full(peers, 0, 2) == 0 {
-            return Ok(());
-        }
-    }
-    Err(Unmet::Claim("a full socket is asked in its turn"))
-}
-
 /// Full sockets are skipped, up to the first for which an event reported room. A skipped one has its turn afterwards, within [`TURNS`] rounds without
 /// a rest.
 pub(crate) fn full_sockets_are_passed_by_up_to_one_with_room<N: Net>(
@@ -153,5 +153,5 @@ pub(crate) fn full_sockets_are_passed_by_up_to_one_with_room<N: Net>(
     expect_all_full(&mut sockets, &peers, &mut speaker)?;
     read_all(&mut reader, taken)?;
     expect_taken_by_second(&mut sockets, &peers, first, second)?;
-    expect_full_turn(&mut sockets, &peers)
+    expect_turn(&mut sockets, &peers, Passed::Full)
 }

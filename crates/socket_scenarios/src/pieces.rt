@@ -1,6 +1,6 @@
 //! Small pieces that a server writes to a socket of the system.
 
-use crate::silent::{got_in_the_end, listening, met};
+use crate::silent::{expect_got, listening, met};
 use scenario_outcomes::{Unmet, expect, expect_number, value_of};
 use serving::{Wire as _, Write};
 use sockets::Sockets;
@@ -32,8 +32,7 @@ fn answer_time<S: io::Read + io::Write>(
     clock: &HostRuntime,
 ) -> Result<Duration, Unmet> {
     value_of("write_all", client.write_all(b"?"))?;
-    let asked = got_in_the_end(sockets, socket)?;
-    expect_number("the number of bytes", asked as u64, 1)?;
+    expect_got(sockets, socket, 1)?;
     let began = value_of("Instant::now", Instant::now(clock))?;
     write(sockets, socket, b"one")?;
     write(sockets, socket, b"two")?;

@@ -1,7 +1,7 @@
 //! How long sockets of the system rest, by the clock. Other work on the machine can only make a rest longer: so the shortest of a few is looked at.
 
-use crate::silent::{accepted, got_in_the_end, listening, met, round};
-use scenario_outcomes::{Unmet, expect, expect_number, value_of};
+use crate::silent::{accepted, expect_got, listening, met, round};
+use scenario_outcomes::{Unmet, expect, value_of};
 use serving::{Accept, Wire as _};
 use sockets::Sockets;
 use std::alloc::Global;
@@ -70,8 +70,7 @@ pub(crate) fn a_rest_ends_once_a_client_writes(
     for _ in 0..RESTS {
         value_of("write_all", client.write_all(b"one"))?;
         shortest = shortest.min(rest_time(&mut sockets, rt)?);
-        let count = got_in_the_end(&mut sockets, socket)?;
-        expect_number("the number of bytes", count as u64, 3)?;
+        expect_got(&mut sockets, socket, 3)?;
     }
     expect(
         "it ends at once",

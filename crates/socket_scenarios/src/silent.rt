@@ -6,6 +6,7 @@ use sockets::Sockets;
 use std::alloc::Global;
 use std::io::{self, Read as _, Write as _};
 use std::net::{Net, SocketAddr, TcpStream};
+use std::time::Duration;
 
 /// The number of sockets at once: twice as many files are open, and a process may have 1,024.
 const MANY: usize = 400;
@@ -19,10 +20,18 @@ const MOST_WRITES: u32 = 100_000;
 /// The rounds after which a scenario gives up, whatever else the machine does.
 const PATIENCE: u32 = 1_000;
 
+/// What is claimed of a socket that was just accepted.
+const NEW: &str = "a socket that just came has nothing";
+
 /// Listens at a free port.
 pub(crate) fn listening<N: Net>(net: &N, alloc: Global) -> Result<Sockets, Unmet> {
     let address = value_of("parse", "127.0.0.1:0".parse::<SocketAddr>())?;
     value_of("Sockets::bind", Sockets::bind(net, alloc, address))
+}
+
+/// Listens at a free port, with a patience of `time` milliseconds.
+pub(crate) fn listening_for(rt: &HostRuntime, alloc: Global, time: u64) -> Result<Sockets, Unmet> {
+    Ok(listening(rt, alloc)?.with_patience(rt, Duration::from_millis(time)))
 }
 
 /// Returns the next socket that is accepted.
@@ -64,6 +73,37 @@ pub(crate) fn got_in_the_end(sockets: &mut Sockets, socket: u64) -> Result<usize
     Err(Unmet::Claim("bytes came"))
 }
 
+/// Checks that a read of `socket` fails in the end; `claim` says what that means. Each read before it has to wait, and its round rests.
+pub(crate) fn expect_ended(
+    sockets: &mut Sockets,
+    socket: u64,
+    claim: &'static str,
+) -> Result<(), Unmet> {
+    for _ in 0..PATIENCE {
+        match round(sockets, socket) {
+            Read::Failed => return Ok(()),
+            Read::Wait => sockets.rest(),
+            _ => return Err(Unmet::Call("read")),
+        }
+    }
+    Err(Unmet::Claim(claim))
+}
+
+/// Checks that a round that reads from `socket` gets nothing, and that the socket is not ended; `claim` says what that means.
+pub(crate) fn expect_waits(
+    sockets: &mut Sockets,
+    socket: u64,
+    claim: &'static str,
+) -> Result<(), Unmet> {
+    expect(claim, matches!(round(sockets, socket), Read::Wait))
+}
+
+/// Checks that `socket` gives `expected` bytes in the end.
+pub(crate) fn expect_got(sockets: &mut Sockets, socket: u64, expected: u64) -> Result<(), Unmet> {
+    let count = got_in_the_end(sockets, socket)?;
+    expect_number("the number of bytes", count as u64, expected)
+}
+
 /// Returns how many bytes a socket gives after a rest, which may first report earlier events.
 fn bytes_of_a_rest(sockets: &mut Sockets, socket: u64) -> Result<usize, Unmet> {
     for _ in 0..3 {
@@ -85,11 +125,10 @@ pub(crate) fn bytes_between_a_read_and_a_rest_are_told_by_it<N: Net>(
     let (mut client, socket) = met(net, &mut sockets)?;
     for _ in 0..3 {
         value_of("write_all", client.write_all(b"one"))?;
-        let first = got_in_the_end(&mut sockets, socket)?;
-        expect_number("the number of bytes", first as u64, 3)?;
+        expect_got(&mut sockets, socket, 3)?;
         value_of("write_all", client.write_all(b"four"))?;
-        let waits = matches!(round(&mut sockets, socket), Read::Wait);
-        expect("an emptied socket is not asked in the next round", waits)?;
+        let claim = "an emptied socket is not asked in the next round";
+        expect_waits(&mut sockets, socket, claim)?;
         let second = bytes_of_a_rest(&mut sockets, socket)?;
         expect_number("the number of bytes", second as u64, 4)?;
     }
@@ -104,8 +143,7 @@ pub(crate) fn a_full_read_is_followed_by_another<N: Net>(
     let mut sockets = listening(net, alloc)?;
     let (mut client, socket) = met(net, &mut sockets)?;
     value_of("write_all", client.write_all(b"sixteen bytes and more"))?;
-    let first = got_in_the_end(&mut sockets, socket)?;
-    expect_number("the number of bytes", first as u64, 16)?;
+    expect_got(&mut sockets, socket, 16)?;
     match round(&mut sockets, socket) {
         Read::Got(count) => expect_number("the number of bytes", count as u64, 6),
         _ => Err(Unmet::Claim("the next round gets what was left")),
@@ -119,12 +157,10 @@ pub(crate) fn an_end_behind_the_last_bytes_is_read<N: Net>(
 ) -> Result<(), Unmet> {
     let mut sockets = listening(net, alloc)?;
     let (mut client, socket) = met(net, &mut sockets)?;
-    let nothing = matches!(round(&mut sockets, socket), Read::Wait);
-    expect("a socket that just came has nothing", nothing)?;
+    expect_waits(&mut sockets, socket, NEW)?;
     value_of("write_all", client.write_all(b"last"))?;
     drop(client);
-    let count = got_in_the_end(&mut sockets, socket)?;
-    expect_number("the number of bytes", count as u64, 4)?;
+    expect_got(&mut sockets, socket, 4)?;
     for _ in 0..4 {
         match round(&mut sockets, socket) {
             Read::End => return Ok(()),
@@ -146,8 +182,7 @@ fn many_met<N: Net>(
         value_of("push", clients.push(client))?;
     }
     for (_, socket) in &clients {
-        let nothing = matches!(round(sockets, *socket), Read::Wait);
-        expect("a socket that just came has nothing", nothing)?;
+        expect_waits(sockets, *socket, NEW)?;
     }
     sockets.rest();
     Ok(clients)

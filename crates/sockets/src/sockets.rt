@@ -94,14 +94,6 @@ fn heard(event: &Event, voice: Voice) -> Voice {
     }
 }
 
-/// Returns the voice of a socket whose connection has started or stopped running. If it was greedy, it leaves the cycle that it was in.
-fn in_new_cycle(voice: Voice) -> Voice {
-    match voice {
-        Voice::Greedy(_) => Voice::Speaking,
-        other => other,
-    }
-}
-
 /// Returns whether a full socket is written to again after `event`: it has room, or it was closed or failed, which the write then reports.
 fn has_room(event: &Event) -> bool {
     event.is_writable() || event.is_write_closed() || event.is_error()
@@ -111,6 +103,22 @@ fn has_room(event: &Event) -> bool {
 fn note(loud: &mut LoudSlots, accepted: &Accepted) {
     let is_silent = matches!(accepted.voice, Voice::Silent(_)) && accepted.ends.is_none();
     loud.put(accepted.slot, !is_silent);
+}
+
+/// Records whether the connection of a socket is not running (`is_stranger`), and when the socket's time `ends`. A greedy socket leaves the cycle
+/// that it was in.
+fn begin_anew(
+    loud: &mut LoudSlots,
+    accepted: &mut Accepted,
+    ends: Option<Instant>,
+    is_stranger: bool,
+) {
+    accepted.ends = ends;
+    accepted.is_stranger = is_stranger;
+    if matches!(accepted.voice, Voice::Greedy(_)) {
+        accepted.voice = Voice::Speaking;
+    }
+    note(loud, accepted);
 }
 
 /// Records the slot of a socket, if that was not known.
@@ -352,9 +360,7 @@ impl Sockets {
     /// Returns whether a read of the socket in `slot` is answered with [`Read::Wait`] without asking the system: the socket is silent, it is not
     /// its turn, and its connection runs.
     fn waits(&mut self, peers: &Slab<Peer>, slot: usize) -> bool
-        ensures failures { self.new.failures ≡ self.old.failures }
-        ensures counts { self.new.counts ≡ self.old.counts }
-        ensures given { self.new.given ≡ self.old.given }
+        ensures traffic { traffic_of self.new ≡ traffic_of self.old }
         ensures taken { result ≡ true → is_some (slice_index_or peers.now.slots slot None) ≡ true }
     {
         let Some(peer) = peers.get(slot).copied() else {
@@ -371,9 +377,7 @@ impl Sockets {
     fn first_asked(&mut self, peers: &Slab<Peer>, from: usize, end: usize) -> usize
         requires { from ≤ end }
         // The frame: what the sockets know is unchanged.
-        ensures failures { self.new.failures ≡ self.old.failures }
-        ensures counts { self.new.counts ≡ self.old.counts }
-        ensures given { self.new.given ≡ self.old.given }
+        ensures traffic { traffic_of self.new ≡ traffic_of self.old }
         // The slots before the result are taken.
         ensures least { from ≤ result }
         ensures most { result ≤ end }
@@ -392,9 +396,7 @@ impl Sockets {
     /// Returns whether `slot` needs no write now: it is empty, or no event has reported room at its socket and the socket is not due in this round. A
     /// socket that isn't full is never due.
     fn stays_full(&mut self, peers: &Slab<Peer>, slot: usize) -> bool
-        ensures failures { self.new.failures ≡ self.old.failures }
-        ensures counts { self.new.counts ≡ self.old.counts }
-        ensures given { self.new.given ≡ self.old.given }
+        ensures { traffic_of self.new ≡ traffic_of self.old }
     {
         let Some(peer) = peers.get(slot).copied() else {
             return true;
@@ -411,9 +413,7 @@ impl Sockets {
     fn first_with_room(&mut self, peers: &Slab<Peer>, from: usize, end: usize) -> usize
         requires { from ≤ end }
         // The frame: what the sockets know is unchanged.
-        ensures failures { self.new.failures ≡ self.old.failures }
-        ensures counts { self.new.counts ≡ self.old.counts }
-        ensures given { self.new.given ≡ self.old.given }
+        ensures traffic { traffic_of self.new ≡ traffic_of self.old }
         ensures least { from ≤ result }
         ensures most { result ≤ end }
     {
@@ -518,20 +518,14 @@ impl Wire for Sockets {
 
     fn welcome(&mut self, socket: u64) {
         if let Some(accepted) = named(&mut self.accepted, socket) {
-            accepted.ends = None;
-            accepted.is_stranger = false;
-            accepted.voice = in_new_cycle(accepted.voice);
-            note(&mut self.loud, accepted);
+            begin_anew(&mut self.loud, accepted, None, false);
         }
     }
 
     fn farewell(&mut self, socket: u64) {
         let ends = self.watch.ends();
         if let Some(accepted) = named(&mut self.accepted, socket) {
-            accepted.ends = ends;
-            accepted.is_stranger = true;
-            accepted.voice = in_new_cycle(accepted.voice);
-            note(&mut self.loud, accepted);
+            begin_anew(&mut self.loud, accepted, ends, true);
         }
     }
 

@@ -1,6 +1,6 @@
 //! The matcher that keeps its patterns as the tree of their beginnings.
 
-ghost use Rattle.std.specs.Prelude.{◌≡◌, [], length, IfOk};
+ghost use Rattle.std.specs.Prelude.{◌≡◌, ◌≤◌, ◌<◌, [], None, length, IfOk, IfSome};
 ghost use Rattle.topic_match.specs.Beginnings.{Begins, IsCounted};
 ghost use Rattle.topic_match.specs.Counts.{AreCounts};
 ghost use Rattle.topic_match.specs.Exits.{AreExits};
@@ -50,16 +50,18 @@ fn trues_in(met: &[Met]) -> u128
     count
 }
 
-/// Returns the nodes whose beginnings match the first `n` words for some `n`. Fails only if an allocation fails.
+/// Returns the nodes whose beginnings match the first `n` words for some `n`. If there are more than `most`, returns only some of them, but more than `most`.
+/// Fails only if an allocation fails.
 fn met_by(
     alloc: Global,
     patterns: &[Pattern],
     links: &Links<'_>,
     words: &[KeyWord<'_>],
+    most: usize,
 ) -> Result<Vec<Met>, AllocError>
     requires linked { AreLinked patterns.now links.now.nodes.now links.now.slots.now }
     requires exits { AreExits patterns.now links.now.nodes.now (length links.now.nodes.now) links.now.exits.now }
-    ensures { IfOk result (λ met. AreMet patterns.now links.now.nodes.now words.now (Begins []) met.items) }
+    ensures { IfOk result (λ met. length met.items ≤ most → AreMet patterns.now links.now.nodes.now words.now (Begins []) met.items) }
 {
     let steps = steps_of(alloc, words)?;
     let root = Met {
@@ -74,12 +76,14 @@ fn met_by(
         steps.as_slice(),
         words,
         root,
+        most,
         &mut met,
     )?;
     Ok(met)
 }
 
-/// A matcher that keeps each beginning of its patterns once, and visits only those that match the first `n` words of a key for some `n`.
+/// A matcher that keeps each beginning of its patterns once, and visits only those that match the first `n` words of a key for some `n`. If there are few
+/// patterns, or many such beginnings, it compares the key with one pattern after another.
 #[derive(Drop)]
 pub struct Trie {
     patterns: Vec<Pattern>,
@@ -113,8 +117,25 @@ impl Trie {
         ensures indices { IfOk result (λ found. AreMatches self.now key.now found.0.items) }
         ensures count { IfOk result (λ found. IsCounted self.now key.now found.1) }
     {
+        match self.matches_within(alloc, key, usize::MAX)? {
+            Some(found) => Ok(found),
+            None => unreachable!(),
+        }
+    }
+
+    /// Returns what [`Trie::matches_counted`] does, or `None` if a walk comes to more than `most` beginnings. Fails only if an allocation fails.
+    fn matches_within(
+        &self,
+        alloc: Global,
+        key: &[u8],
+        most: usize,
+    ) -> Result<Option<(Vec<usize>, u128)>, AllocError>
+        ensures indices { IfOk result (λ within. IfSome within (λ found. AreMatches self.now key.now found.0.items)) }
+        ensures count { IfOk result (λ within. IfSome within (λ found. IsCounted self.now key.now found.1)) }
+        ensures none { IfOk result (λ within. within ≡ None → most < 18446744073709551615) }
+    {
         if self.patterns.is_empty() {
-            return Ok((Vec::new(alloc), 0));
+            return Ok(Some((Vec::new(alloc), 0)));
         }
         let words = words_in(alloc, key)?;
         let met = met_by(
@@ -126,9 +147,13 @@ impl Trie {
                 exits: self.exits.as_slice(),
             },
             words.as_slice(),
+            most,
         )?;
+        if met.len() > most {
+            return Ok(None);
+        }
         let indices = rising_at(alloc, self.indices.as_slice(), met.as_slice(), words.len())?;
-        Ok((indices, trues_in(met.as_slice())))
+        Ok(Some((indices, trues_in(met.as_slice()))))
     }
 }
 
@@ -150,11 +175,12 @@ impl Matcher for Trie {
     }
 
     fn matches(&self, alloc: Global, key: &[u8]) -> Result<Vec<usize>, AllocError> {
-        let are_few = self.patterns.len() <= FEW;
-        if are_few {
-            return matches_one_by_one(alloc, self.patterns.as_slice(), key);
+        let patterns = self.patterns.as_slice();
+        if patterns.len() > FEW {
+            if let Some((indices, _)) = self.matches_within(alloc, key, patterns.len() / 4)? {
+                return Ok(indices);
+            }
         }
-        let (indices, _) = self.matches_counted(alloc, key)?;
-        Ok(indices)
+        matches_one_by_one(alloc, patterns, key)
     }
 }

@@ -1,6 +1,6 @@
 //! Walks over the beginnings that match the first `n` words of a key for some `n`. Start with `walk`.
 
-ghost use Rattle.std.specs.Prelude.{◌≡◌, ◌<◌, length, IfOk, IfSome, IfNone, OnOk};
+ghost use Rattle.std.specs.Prelude.{◌≡◌, ◌<◌, ◌≤◌, length, IfOk, IfSome, IfNone, OnOk};
 ghost use Rattle.topic_match.specs.Counts.{AreCounts};
 ghost use Rattle.topic_match.specs.Exits.{AreExits};
 ghost use Rattle.topic_match.specs.Nodes.{AreLinked, beginning_at};
@@ -46,7 +46,8 @@ fn step(
     Ok(Some(Met { node, counts }))
 }
 
-/// Appends `from` and each of its descendants whose beginning matches the first `n` words for some `n`. Fails only if an allocation fails.
+/// Appends `from` and each of its descendants whose beginning matches the first `n` words for some `n`. Ends early once `met` has more than `most` nodes.
+/// Fails only if an allocation fails.
 pub fn walk(
     alloc: Global,
     patterns: &[Pattern],
@@ -54,6 +55,7 @@ pub fn walk(
     steps: &[Step<'_>],
     words: &[KeyWord<'_>],
     from: Met,
+    most: usize,
     met: &mut Vec<Met>,
 ) -> Result<(), AllocError>
     // `from` is a node, with the numbers of first words that its beginning matches, and `steps` has each token that can match one of the words.
@@ -62,14 +64,18 @@ pub fn walk(
     requires within { from.node < length links.now.nodes.now }
     requires counted { AreCounts (beginning_at patterns.now links.now.nodes.now from.node) words.now from.counts.items }
     requires taken { AreSteps steps.now words.now }
-    // No node is appended twice, and each comes with the numbers of first words that its beginning matches.
-    ensures { OnOk result (AreAddedFrom patterns.now links.now.nodes.now words.now from.node met.old.items met.new.items) }
+    // No node is removed. If the walk hasn't ended early, no node was appended twice, and each came with the numbers of first words that its beginning matches.
+    ensures grown { OnOk result (length met.old.items ≤ length met.new.items) }
+    ensures added { OnOk result (length met.new.items ≤ most → AreAddedFrom patterns.now links.now.nodes.now words.now from.node met.old.items met.new.items) }
 {
     for place in 0..steps.len() {
+        if met.len() > most {
+            return Ok(());
+        }
         let Some(next) = step(alloc, patterns, links, words, &from, &steps[place])? else {
             continue;
         };
-        walk(alloc, patterns, links, steps, words, next, met)?;
+        walk(alloc, patterns, links, steps, words, next, most, met)?;
     }
     met.push(from)?;
     Ok(())

@@ -1,7 +1,9 @@
 """The tests of limits, which want Python 3 alone: python3 tools/limits/tests/test.py"""
 
+import importlib.util
 import os
 import sys
+import tempfile
 import unittest
 
 TOOL = os.path.dirname(os.path.dirname(os.path.abspath(__file__)))
@@ -9,6 +11,15 @@ sys.path[:0] = [TOOL, os.path.join(TOOL, "../shared")]
 import families  # noqa: E402
 from causes import causes_in  # noqa: E402
 from guarantees import guarantee_causes  # noqa: E402
+
+spec = importlib.util.spec_from_file_location("limits", os.path.join(TOOL, "__main__.py"))
+limits = importlib.util.module_from_spec(spec)
+spec.loader.exec_module(limits)
+
+
+def large():
+    """A family whose making takes 300 MB and more."""
+    return {"made": len(bytearray(b"x") * 300_000_000)}, []
 
 
 class Families(unittest.TestCase):
@@ -24,6 +35,9 @@ class Families(unittest.TestCase):
         self.assertEqual(self.sizes(families.ring_of_own_keys), [256, 256, 3825, 1])
         self.assertEqual(self.sizes(families.ring_of_many), [256, 256, 3825, 64])
         self.assertEqual(self.sizes(families.broken_through_the_ring), [256, 256, 3826, 1])
+        self.assertEqual(self.sizes(lambda: families.broken_through_the_ring(205, 17)), [206, 256, 3741, 1])
+        self.assertEqual(self.sizes(lambda: families.broken_through_the_ring(27, 129)), [28, 256, 3739, 1])
+        self.assertEqual(self.sizes(lambda: families.broken_through_the_ring(6, 512)), [7, 256, 3328, 1])
         self.assertEqual(self.sizes(lambda: families.many_listed(2, 2)), [256, 3, 3572, 2])
         self.assertEqual(self.sizes(lambda: families.many_that_differ(2, 2)), [256, 3, 3573, 2])
         self.assertEqual(self.sizes(families.many_letters), [1, 2, 62, 1])
@@ -37,6 +51,13 @@ class Families(unittest.TestCase):
         self.assertEqual(self.sizes(families.many_through_exchanges), [202, 73, 309, 64])
         self.assertEqual(self.sizes(lambda: families.one_slot(100)), [1, 1, 100, 0])
         self.assertEqual(self.sizes(families.same_marks), [1, 1, 4096, 0])
+
+    def test_memory_is_that_of_the_program(self):
+        with tempfile.TemporaryDirectory() as folder:
+            limits.Files(folder, large)
+            _, megabytes, status = limits.measured(["true"])
+        self.assertEqual(status, 0)
+        self.assertLess(megabytes, 150)
 
     def test_listed_states_rise(self):
         _, _, [certificate, another] = families.many_listed(2, 2)

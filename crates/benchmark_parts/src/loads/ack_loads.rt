@@ -1,4 +1,4 @@
-//! Loads of acks that arrive out of order. Start with [`load_at`].
+//! Loads of acks that arrive out of order. Start with [`loads`].
 
 use crate::loads::consumers::put_ack;
 use crate::measuring::Written;
@@ -61,29 +61,32 @@ impl AckLoad {
     }
 }
 
-/// Returns the load at `index`, or `None` after the last.
-pub fn load_at(index: u32) -> Option<AckLoad> {
-    let (name, order, outstanding) = match index {
-        0 => ("pairs swapped, 10,000 outstanding", Order::Swapped, 10_000),
-        1 => (
+/// Returns the load called `name`.
+fn load(name: &'static str, order: Order, outstanding: u64) -> AckLoad {
+    AckLoad {
+        name,
+        order,
+        outstanding,
+    }
+}
+
+/// Returns all loads.
+pub fn loads() -> [AckLoad; 7] {
+    [
+        load("pairs swapped, 10,000 outstanding", Order::Swapped, 10_000),
+        load(
             "pairs swapped, 100,000 outstanding",
             Order::Swapped,
             100_000,
         ),
-        2 => (
+        load(
             "pairs swapped, 200,000 outstanding",
             Order::Swapped,
             200_000,
         ),
-        3 => ("random, 10,000 outstanding", Order::Random, 10_000),
-        4 => ("random, 200,000 outstanding", Order::Random, 200_000),
-        5 => ("backward, 10,000 outstanding", Order::Backward, 10_000),
-        6 => ("backward, 100,000 outstanding", Order::Backward, 100_000),
-        _ => return None,
-    };
-    Some(AckLoad {
-        name,
-        order,
-        outstanding,
-    })
+        load("random, 10,000 outstanding", Order::Random, 10_000),
+        load("random, 200,000 outstanding", Order::Random, 200_000),
+        load("backward, 10,000 outstanding", Order::Backward, 10_000),
+        load("backward, 100,000 outstanding", Order::Backward, 100_000),
+    ]
 }

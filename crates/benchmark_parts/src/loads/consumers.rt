@@ -1,85 +1,72 @@
 //! What a consuming client writes, on channel 1.
 
-use crate::measuring::Written;
+use crate::measuring::{Measured, Written, put_frame};
 use std::alloc::Global;
 
-/// The last byte of a frame.
-const END: [u8; 1] = [206];
-
-/// Appends the head of a method frame on channel 1 with a payload of `size` bytes.
-fn put_head(out: &mut Written, size: usize) {
-    let size = u32::try_from(size).unwrap_or(0);
-    out.put(&[1, 0, 1]);
-    out.put(size.to_be_bytes().as_slice());
-}
-
-/// Appends a short string.
-fn put_short(out: &mut Written, text: &[u8]) {
-    out.put(&[u8::try_from(text.len()).unwrap_or(0)]);
-    out.put(text);
+/// Returns the byte before a short string, which is its length.
+fn length_of(text: &[u8]) -> [u8; 1] {
+    [u8::try_from(text.len()).unwrap_or(0)]
 }
 
 /// Appends basic.qos with this prefetch, for each consumer that follows.
 pub fn put_qos(out: &mut Written, prefetch: u16) {
-    put_head(out, 11);
-    out.put(&[0, 60, 0, 10, 0, 0, 0, 0]);
-    out.put(prefetch.to_be_bytes().as_slice());
-    out.put(&[0]);
-    out.put(END.as_slice());
+    let prefetch = prefetch.to_be_bytes();
+    put_frame(
+        out,
+        1,
+        &[b"\x00\x3c\x00\x0a\x00\x00\x00\x00", &prefetch, b"\x00"],
+    );
 }
 
 /// Appends basic.consume of `queue`, with a consumer tag that the server chooses.
 pub fn put_consume(out: &mut Written, queue: &[u8]) {
-    put_head(out, queue.len().saturating_add(13));
-    out.put(&[0, 60, 0, 20, 0, 0]);
-    put_short(out, queue);
-    out.put(&[0, 0, 0, 0, 0, 0]);
-    out.put(END.as_slice());
+    put_tagged_consume(out, queue, b"");
+}
+
+/// Appends basic.consume of `queue` with the consumer tag `tag`.
+fn put_tagged_consume(out: &mut Written, queue: &[u8], tag: &[u8]) {
+    let front = b"\x00\x3c\x00\x14\x00\x00";
+    let back = b"\x00\x00\x00\x00\x00";
+    put_frame(
+        out,
+        1,
+        &[front, &length_of(queue), queue, &length_of(tag), tag, back],
+    );
 }
 
 /// Appends basic.consume of `queue` with the consumer tag `tag`, and basic.cancel of that tag.
 pub fn put_consume_and_cancel(out: &mut Written, queue: &[u8], tag: &[u8]) {
-    put_head(
+    put_tagged_consume(out, queue, tag);
+    put_frame(
         out,
-        queue.len().saturating_add(tag.len()).saturating_add(13),
+        1,
+        &[b"\x00\x3c\x00\x1e", &length_of(tag), tag, b"\x00"],
     );
-    out.put(&[0, 60, 0, 20, 0, 0]);
-    put_short(out, queue);
-    put_short(out, tag);
-    out.put(&[0, 0, 0, 0, 0]);
-    out.put(END.as_slice());
-    put_head(out, tag.len().saturating_add(6));
-    out.put(&[0, 60, 0, 30]);
-    put_short(out, tag);
-    out.put(&[0]);
-    out.put(END.as_slice());
 }
 
 /// Appends basic.ack of the delivery tag `tag` alone.
 pub fn put_ack(out: &mut Written, tag: u64) {
-    put_head(out, 13);
-    out.put(&[0, 60, 0, 80]);
-    out.put(tag.to_be_bytes().as_slice());
-    out.put(&[0]);
-    out.put(END.as_slice());
+    put_frame(out, 1, &[b"\x00\x3c\x00\x50", &tag.to_be_bytes(), b"\x00"]);
 }
 
 /// Appends basic.nack of all deliveries up to `tag`, without requeue.
 pub fn put_nack_all(out: &mut Written, tag: u64) {
-    put_head(out, 13);
-    out.put(&[0, 60, 0, 120]);
-    out.put(tag.to_be_bytes().as_slice());
-    out.put(&[1]);
-    out.put(END.as_slice());
+    put_frame(out, 1, &[b"\x00\x3c\x00\x78", &tag.to_be_bytes(), b"\x01"]);
 }
 
 /// Appends queue.purge of `queue`.
 pub fn put_purge(out: &mut Written, queue: &[u8]) {
-    put_head(out, queue.len().saturating_add(8));
-    out.put(&[0, 50, 0, 30, 0, 0]);
-    put_short(out, queue);
-    out.put(&[0]);
-    out.put(END.as_slice());
+    let front = b"\x00\x32\x00\x1e\x00\x00";
+    put_frame(out, 1, &[front, &length_of(queue), queue, b"\x00"]);
+}
+
+/// Opens a connection that consumes from `queue`, and returns its number.
+pub fn open_consumer(engine: &mut Measured, queue: &[u8]) -> u64 {
+    let connection = engine.open_ready();
+    let mut consume = Written::new(engine.alloc());
+    put_consume(&mut consume, queue);
+    engine.perform(connection, consume.as_slice());
+    connection
 }
 
 /// A client that acknowledges each delivery of its channel.

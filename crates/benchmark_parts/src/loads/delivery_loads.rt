@@ -1,4 +1,4 @@
-//! Loads of deliveries. Start with [`load_at`].
+//! Loads of deliveries. Start with [`loads`].
 
 use crate::measuring::{Keys, Shape};
 
@@ -76,49 +76,47 @@ pub fn beside(waiting: u64) -> DeliveryLoad {
     one("beside", 0, waiting)
 }
 
-/// Returns the load at `index`, or `None` after the last.
-pub fn load_at(index: u32) -> Option<DeliveryLoad> {
-    let load = match index {
-        0 => one("one consumer, prefetch 0", 0, 0),
-        1 => one("one consumer, prefetch 1", 1, 0),
-        2 => one("one consumer, prefetch 100", 100, 0),
-        3 => one("10 waiting", 0, 10),
-        4 => one("100,000 waiting", 0, 100_000),
-        5 => one("1,000,000 waiting", 0, 1_000_000),
-        6 => one("1,000,000 waiting, prefetch 1", 1, 1_000_000),
-        7 => DeliveryLoad {
+/// Returns all loads.
+pub fn loads() -> [DeliveryLoad; 15] {
+    [
+        one("one consumer, prefetch 0", 0, 0),
+        one("one consumer, prefetch 1", 1, 0),
+        one("one consumer, prefetch 100", 100, 0),
+        one("10 waiting", 0, 10),
+        one("100,000 waiting", 0, 100_000),
+        one("1,000,000 waiting", 0, 1_000_000),
+        one("1,000,000 waiting, prefetch 1", 1, 1_000_000),
+        DeliveryLoad {
             is_limited: true,
             ..one("1,000,000 waiting, limit of bytes", 0, 1_000_000)
         },
-        8 => DeliveryLoad {
+        DeliveryLoad {
             is_limited: true,
             ..one("one consumer, prefetch 0, limit of bytes", 0, 0)
         },
-        9 => DeliveryLoad {
+        DeliveryLoad {
             queues: 256,
             ..one("256 queues, each with a consumer", 0, 0)
         },
-        10 => DeliveryLoad {
+        DeliveryLoad {
             idle: 1,
             ..one("1 idle consumer beside", 0, 0)
         },
-        11 => DeliveryLoad {
+        DeliveryLoad {
             idle: 255,
             ..one("255 idle consumers beside", 0, 0)
         },
-        12 => DeliveryLoad {
+        DeliveryLoad {
             full: 200,
             ..one("200 consumers beside that hold what they may", 0, 0)
         },
-        13 => DeliveryLoad {
+        DeliveryLoad {
             bindings: 1,
             ..one("topic, fresh keys", 0, 0)
         },
-        14 => DeliveryLoad {
+        DeliveryLoad {
             bindings: 4_096,
             ..one("topic with 4,096 bindings, fresh keys", 0, 0)
         },
-        _ => return None,
-    };
-    Some(load)
+    ]
 }

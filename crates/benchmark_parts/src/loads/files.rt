@@ -10,17 +10,9 @@ const NEARLY: usize = 16_776_800;
 const HEAD: &str =
     r#"{"vhosts":[{"name":"/"}],"permissions":[],"queues":[{"name":"q","vhost":"/","durable":true,"auto_delete":false,"arguments":{}}],"exchanges":[{"name":"x","vhost":"/","type":"topic","durable":true,"auto_delete":false,"internal":false,"arguments":{}}],"#;
 
-/// Appends `before`, `number` and `after`.
-fn put_entry(out: &mut Written, before: &str, number: u32, after: &str) {
-    out.put_text(before);
-    out.put_number(u64::from(number));
-    out.put_text(after);
-}
-
 /// Appends a binding whose key has the number `place`.
 fn put_binding(out: &mut Written, place: u32) {
-    put_entry(
-        out,
+    out.put_entry(
         "{\"source\":\"x\",\"vhost\":\"/\",\"destination\":\"q\",\"destination_type\":\"queue\",\"routing_key\":\"a.",
         place,
         ".#\",\"arguments\":{}},",
@@ -29,8 +21,7 @@ fn put_binding(out: &mut Written, place: u32) {
 
 /// Appends a user whose name has the number `place`.
 fn put_user(out: &mut Written, place: u32) {
-    put_entry(
-        out,
+    out.put_entry(
         "{\"name\":\"u",
         place,
         "\",\"password_hash\":\"YWJjZCSNamHSBji45cAmkww+YDmjPORZZP8hZ/bs7dQZ2wbB\",\"hashing_algorithm\":\"rabbit_password_hashing_sha256\"},",
@@ -39,8 +30,8 @@ fn put_user(out: &mut Written, place: u32) {
 
 /// Appends an entry of a member that is ignored.
 fn put_ignored(out: &mut Written, place: u32) {
-    put_entry(out, "{\"name\":\"p", place, "\",\"value\":[");
-    put_entry(out, "", place, ",true,null]},");
+    out.put_entry("{\"name\":\"p", place, "\",\"value\":[");
+    out.put_entry("", place, ",true,null]},");
 }
 
 /// Appends the head, a first list, and a list of `count` bindings, or as many as fit.

@@ -1,4 +1,4 @@
-//! Loads of publishes. Start with [`load_at`].
+//! Loads of publishes. Start with [`loads`].
 
 use crate::loads::properties::{MODE, MODE_TYPE, MODE_TYPE_ID, NONE};
 use crate::measuring::{Keys, Shape};
@@ -86,50 +86,48 @@ fn large(name: &'static str, publishes: u64, body: usize) -> Load {
     }
 }
 
-/// Returns the load at `index`, or `None` after the last.
-pub fn load_at(index: u32) -> Option<Load> {
-    let load = match index {
-        0 => plain("direct, 12 bytes", Shape::Direct, 1_000_000, 12),
-        1 => plain(
+/// Returns all loads.
+pub fn loads() -> [Load; 22] {
+    [
+        plain("direct, 12 bytes", Shape::Direct, 1_000_000, 12),
+        plain(
             "direct, 12 bytes, limit of bytes",
             Shape::Limited(1),
             1_000_000,
             12,
         ),
-        2 => plain("direct, 1,024 bytes", Shape::Direct, 100_000, 1_024),
-        3 => plain("fanout to 3, 12 bytes", Shape::Fanout, 100_000, 12),
-        4 => plain("fanout to 3, 1,024 bytes", Shape::Fanout, 100_000, 1_024),
-        5 => plain("topic with 1 binding", Shape::Topic(1), 100_000, 12),
-        6 => plain("topic with 100 bindings", Shape::Topic(100), 100_000, 12),
-        7 => plain(
+        plain("direct, 1,024 bytes", Shape::Direct, 100_000, 1_024),
+        plain("fanout to 3, 12 bytes", Shape::Fanout, 100_000, 12),
+        plain("fanout to 3, 1,024 bytes", Shape::Fanout, 100_000, 1_024),
+        plain("topic with 1 binding", Shape::Topic(1), 100_000, 12),
+        plain("topic with 100 bindings", Shape::Topic(100), 100_000, 12),
+        plain(
             "topic with 1,000 bindings",
             Shape::Topic(1_000),
             100_000,
             12,
         ),
-        8 => plain("among 256 exchanges", Shape::Exchanges(256), 100_000, 12),
-        9 => plain("among 256 queues", Shape::Queues(256), 100_000, 12),
-        10 => by("64 connections", 64),
-        11 => by("1,000 connections", 1_000),
-        12 => fresh("topic, fresh keys", Shape::Topic(1), 100_000),
-        13 => fresh(
+        plain("among 256 exchanges", Shape::Exchanges(256), 100_000, 12),
+        plain("among 256 queues", Shape::Queues(256), 100_000, 12),
+        by("64 connections", 64),
+        by("1,000 connections", 1_000),
+        fresh("topic, fresh keys", Shape::Topic(1), 100_000),
+        fresh(
             "topic with 1,000 bindings, fresh keys",
             Shape::Topic(1_000),
             20_000,
         ),
-        14 => fresh(
+        fresh(
             "topic with 4,096 bindings, fresh keys",
             Shape::Topic(4_096),
             20_000,
         ),
-        15 => pieces("pieces of 1 byte", 1, 20_000),
-        16 => pieces("pieces of 64 bytes", 64, 100_000),
-        17 => with_properties("no property", NONE),
-        18 => with_properties("delivery-mode", MODE),
-        19 => with_properties("delivery-mode, content-type", MODE_TYPE),
-        20 => with_properties("delivery-mode, content-type, message-id", MODE_TYPE_ID),
-        21 => large("direct, 1,000,000 bytes", 200, 1_000_000),
-        _ => return None,
-    };
-    Some(load)
+        pieces("pieces of 1 byte", 1, 20_000),
+        pieces("pieces of 64 bytes", 64, 100_000),
+        with_properties("no property", NONE),
+        with_properties("delivery-mode", MODE),
+        with_properties("delivery-mode, content-type", MODE_TYPE),
+        with_properties("delivery-mode, content-type, message-id", MODE_TYPE_ID),
+        large("direct, 1,000,000 bytes", 200, 1_000_000),
+    ]
 }

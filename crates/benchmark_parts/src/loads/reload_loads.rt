@@ -1,4 +1,4 @@
-//! Loads of reloads. Start with [`load_at`].
+//! Loads of reloads. Start with [`loads`].
 
 use crate::measuring::{Keys, Shape};
 
@@ -75,28 +75,28 @@ fn guarded(name: &'static str, key: Option<&'static str>) -> ReloadLoad {
     }
 }
 
-/// Returns the load at `index`, or `None` after the last.
-pub fn load_at(index: u32) -> Option<ReloadLoad> {
-    let load = match index {
-        0 => same("the same configuration"),
-        1 => guarded("a guarantee, a fixed key that leads elsewhere", Some("e")),
-        2 => ReloadLoad {
+/// Returns all loads.
+pub fn loads() -> [ReloadLoad; 7] {
+    [
+        same("the same configuration"),
+        guarded("a guarantee, a fixed key that leads elsewhere", Some("e")),
+        ReloadLoad {
             pattern: "other.#",
             ..guarded(
                 "a guarantee of other keys, a fixed key that leads where it forbids",
                 Some("d"),
             )
         },
-        3 => ReloadLoad {
+        ReloadLoad {
             keys: Keys::Turns(KEYS),
             ..guarded("a guarantee, no fixed key, 1,000 keys", None)
         },
-        4 => ReloadLoad {
+        ReloadLoad {
             keys: Keys::Fresh,
             reloads: 1,
             ..guarded("a guarantee, no fixed key, 1,000,000 keys", None)
         },
-        5 => ReloadLoad {
+        ReloadLoad {
             shape: Shape::Lettered {
                 queues: 250,
                 forbidden: 6,
@@ -107,11 +107,9 @@ pub fn load_at(index: u32) -> Option<ReloadLoad> {
             publishes: WAITING_EACH,
             ..same("64 guarantees, no fixed key, 100,000 messages in 250 of 256 queues")
         },
-        6 => ReloadLoad {
+        ReloadLoad {
             holders: HOLDERS,
             ..same("100,000 consumers over 1,000 connections, each with a delivery outstanding")
         },
-        _ => return None,
-    };
-    Some(load)
+    ]
 }

@@ -29,55 +29,52 @@ pub struct Client {
     bytes: Written,
 }
 
-/// Appends the head of a frame on channel 1 with a payload of `size` bytes.
-fn put_head(out: &mut Written, kind: u8, size: usize) {
-    let size = u32::try_from(size).unwrap_or(0);
+/// Appends a frame of type `kind` on channel 1 with a payload that consists of `parts`.
+pub fn put_frame(out: &mut Written, kind: u8, parts: &[&[u8]]) {
+    let mut size: u32 = 0;
+    for part in parts {
+        size = size.saturating_add(u32::try_from(part.len()).unwrap_or(0));
+    }
     out.put(&[kind, 0, 1]);
     out.put(size.to_be_bytes().as_slice());
+    for part in parts {
+        out.put(part);
+    }
+    out.put(END.as_slice());
 }
 
 /// Appends basic.publish to `x` under `key`.
 fn put_publish(out: &mut Written, key: &[u8]) {
-    put_head(out, 1, key.len().saturating_add(10));
-    out.put(&[0, 60, 0, 40, 0, 0, 1, b'x']);
-    out.put(&[u8::try_from(key.len()).unwrap_or(0)]);
-    out.put(key);
-    out.put(&[0]);
-    out.put(END.as_slice());
+    let length = [u8::try_from(key.len()).unwrap_or(0)];
+    put_frame(
+        out,
+        1,
+        &[b"\x00\x3c\x00\x28\x00\x00\x01x", &length, key, b"\x00"],
+    );
 }
 
 /// Appends the content header of a body of `size` bytes, with the flags and values `properties`.
 fn put_header(out: &mut Written, size: u64, properties: &[u8]) {
-    put_head(out, 2, properties.len().saturating_add(12));
-    out.put(&[0, 60, 0, 0]);
-    out.put(size.to_be_bytes().as_slice());
-    out.put(properties);
-    out.put(END.as_slice());
+    let size = size.to_be_bytes();
+    put_frame(out, 2, &[b"\x00\x3c\x00\x00", &size, properties]);
 }
 
 /// Appends a content header, and the body in frames of the longest payload.
 fn put_content(out: &mut Written, properties: &[u8], body: &[u8]) {
     put_header(out, body.len() as u64, properties);
     for piece in body.chunks(LONGEST) {
-        put_head(out, 3, piece.len());
-        out.put(piece);
-        out.put(END.as_slice());
+        put_frame(out, 3, &[piece]);
     }
 }
 
 /// Appends the routing key of publish `number`: `k`, or `k.` and a number.
 fn put_key(key: &mut Written, keys: Keys, number: u64) {
-    key.put_text("k");
-    match keys {
-        Keys::One => {}
-        Keys::Fresh => put_number(key, number),
-        Keys::Turns(count) => put_number(key, number % u64::from(count.max(1))),
-    }
-}
-
-/// Appends a dot and a number.
-fn put_number(key: &mut Written, number: u64) {
-    key.put_text(".");
+    let number = match keys {
+        Keys::One => return key.put_text("k"),
+        Keys::Fresh => number,
+        Keys::Turns(count) => number % u64::from(count.max(1)),
+    };
+    key.put_text("k.");
     key.put_number(number);
 }
 

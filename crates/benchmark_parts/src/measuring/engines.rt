@@ -1,5 +1,7 @@
 //! An engine that is measured. Start with [`Measured`].
 
+use crate::measuring::shapes::Shape;
+use crate::measuring::topologies::built;
 use certificate::{Checked, admit};
 use engine::{Engine, Turn};
 use exchange_graph::Topology;
@@ -24,6 +26,21 @@ impl Measured {
         Measured::new(alloc, checked, users)
     }
 
+    /// Starts an engine over a topology of the shape `shape`, without guarantees and users. Returns `None` if an allocation fails.
+    pub fn of_shape(alloc: Global, shape: Shape) -> Option<Measured> {
+        Measured::over(alloc, built(alloc, shape)?, Vec::new(alloc))
+    }
+
+    pub fn alloc(&self) -> Global {
+        self.alloc
+    }
+
+    /// Returns the value of `outcome`, or records that an allocation failed.
+    fn value_of<T, E: Drop>(&mut self, outcome: Result<T, E>) -> Option<T> {
+        self.is_whole = self.is_whole && outcome.is_ok();
+        outcome.ok()
+    }
+
     /// Stops keeping notes, as the served broker does.
     pub fn drop_notes(&mut self) {
         self.engine.drop_notes();
@@ -42,14 +59,8 @@ impl Measured {
 
     /// Runs a turn, and returns whether it performed something.
     fn did(&mut self, connection: u64) -> bool {
-        match self.engine.turn(self.alloc, connection) {
-            Ok(Turn::Did(_)) => true,
-            Ok(_) => false,
-            Err(_) => {
-                self.is_whole = false;
-                false
-            }
-        }
+        let turn = self.engine.turn(self.alloc, connection);
+        matches!(self.value_of(turn), Some(Turn::Did(_)))
     }
 
     /// Takes the whole output of a connection.
@@ -61,9 +72,8 @@ impl Measured {
 
     /// Feeds `bytes`, performs every complete command, and takes the output.
     pub fn perform(&mut self, connection: u64, bytes: &[u8]) {
-        if self.engine.feed(connection, bytes).is_err() {
-            self.is_whole = false;
-        }
+        let fed = self.engine.feed(connection, bytes);
+        self.value_of(fed);
         for _ in 0..u64::MAX {
             if !self.did(connection) {
                 break;
@@ -81,24 +91,14 @@ impl Measured {
 
     /// Opens a connection that is running, with channel 1 open. Returns its number, or 0 if an allocation fails.
     pub fn open_ready(&mut self) -> u64 {
-        match self.engine.open_ready(self.alloc, 1) {
-            Ok(connection) => connection,
-            Err(_) => {
-                self.is_whole = false;
-                0
-            }
-        }
+        let opened = self.engine.open_ready(self.alloc, 1);
+        self.value_of(opened).unwrap_or(0)
     }
 
     /// Opens a connection that awaits the protocol header. Returns its number, or 0 if an allocation fails.
     pub fn open(&mut self) -> u64 {
-        match self.engine.open(self.alloc) {
-            Ok(connection) => connection,
-            Err(_) => {
-                self.is_whole = false;
-                0
-            }
-        }
+        let opened = self.engine.open(self.alloc);
+        self.value_of(opened).unwrap_or(0)
     }
 
     /// Loads `checked` and `users`. Returns whether they are in force.
@@ -120,13 +120,8 @@ impl Measured {
 
     /// Makes a delivery if one can be made, and returns whether one was made.
     fn delivered(&mut self) -> bool {
-        match self.engine.pump(self.alloc) {
-            Ok(delivered) => delivered.is_some(),
-            Err(_) => {
-                self.is_whole = false;
-                false
-            }
-        }
+        let pumped = self.engine.pump(self.alloc);
+        matches!(self.value_of(pumped), Some(Some(_)))
     }
 
     /// Makes deliveries until none can be made, at most `most`. Returns their number.

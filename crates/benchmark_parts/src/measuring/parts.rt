@@ -41,3 +41,11 @@ pub fn print_times<P: Part>(
 pub fn print_parts<P: Part>(rt: &HostRuntime, load: &mut P, messages: u64) -> io::Result<()> {
     print_times(rt, load, PARTS, messages)
 }
+
+/// Prints that memory was refused to `what`, unless `is_whole` is set.
+pub fn print_lack(rt: &HostRuntime, what: &str, is_whole: bool) -> io::Result<()> {
+    if is_whole {
+        return Ok(());
+    }
+    println!(rt; "{what}: memory was refused")
+}

@@ -9,6 +9,34 @@ use std::alloc::Global;
 /// A pattern with one repeated word, with 63,489 states.
 pub const LARGE: &str = "#.a.*.*.*.*.*.*.*.*.*.*.*.*.#.a.#.a.#.a.#.a.#.a.#.a.#.a";
 
+/// A name or a key: a text, a text that is followed by a number, or one that was built piece by piece.
+#[derive(Clone, Copy, Drop)]
+enum Name<'a> {
+    Plain(&'a str),
+    Numbered(&'a str, u32),
+    Built(&'a Written),
+}
+
+/// The exchange to which messages are published.
+const X: Name<'static> = Name::Plain("x");
+
+/// The exchange to which dead letters go.
+const D: Name<'static> = Name::Plain("d");
+
+/// The queue of most topologies.
+const Q: Name<'static> = Name::Plain("q");
+
+/// Returns a queue whose name is still to be set, without limits and without a dead-letter exchange.
+fn plain_queue() -> DeclaredQueue {
+    DeclaredQueue {
+        name: Text::empty(),
+        limit: None,
+        byte_limit: None,
+        dead_letter_exchange: None,
+        dead_letter_key: None,
+    }
+}
+
 /// The exchanges, queues and bindings of a topology that is being built.
 #[derive(Drop)]
 struct Plan {
@@ -28,14 +56,18 @@ impl Plan {
         }
     }
 
-    fn put_exchange(&mut self, name: Text, kind: ExchangeKind) {
-        self.put_backed(name, kind, None);
+    fn text(&mut self, name: Name<'_>) -> Text {
+        match name {
+            Name::Plain(text) => self.texts.text(text.as_bytes()),
+            Name::Numbered(text, number) => self.texts.numbered(text, number),
+            Name::Built(written) => self.texts.of(written),
+        }
     }
 
     /// Adds an exchange with the alternate exchange `alternate`, if there is one.
-    fn put_backed(&mut self, name: Text, kind: ExchangeKind, alternate: Option<Text>) {
+    fn put_exchange(&mut self, name: Name<'_>, kind: ExchangeKind, alternate: Option<Text>) {
         let exchange = Exchange {
-            name,
+            name: self.text(name),
             kind,
             internal: false,
             alternate,
@@ -45,99 +77,47 @@ impl Plan {
         }
     }
 
-    fn put_queue(&mut self, name: Text) {
-        self.put_limited(name, None);
+    fn exchange(&mut self, name: Name<'_>, kind: ExchangeKind) {
+        self.put_exchange(name, kind, None);
     }
 
-    /// Adds a queue with the limit `byte_limit` in bytes, if there is one.
-    fn put_limited(&mut self, name: Text, byte_limit: Option<u32>) {
-        self.put_declared(DeclaredQueue {
-            name,
-            limit: None,
-            byte_limit,
-            dead_letter_exchange: None,
-            dead_letter_key: None,
-        });
-    }
-
-    /// Adds a queue whose dead letters go to the exchange `d`, under `key` if there is one.
-    fn put_lettered(&mut self, name: Text, key: Option<&str>) {
-        let exchange = self.texts.text(b"d");
-        let key = self.texts.text_if(key);
-        self.put_declared(DeclaredQueue {
-            name,
-            limit: None,
-            byte_limit: None,
-            dead_letter_exchange: Some(exchange),
-            dead_letter_key: key,
-        });
-    }
-
-    fn put_declared(&mut self, queue: DeclaredQueue) {
-        if self.queues.push(queue).is_err() {
+    /// Adds `queue` under the name `name`.
+    fn declare(&mut self, name: Name<'_>, queue: DeclaredQueue) {
+        let name = self.text(name);
+        if self.queues.push(DeclaredQueue { name, ..queue }).is_err() {
             self.texts.fail();
         }
     }
 
-    fn put_binding(&mut self, source: Text, to: Destination, key: Text) {
+    fn queue(&mut self, name: Name<'_>) {
+        self.declare(name, plain_queue());
+    }
+
+    fn put_binding(&mut self, source: Name<'_>, to: Destination, key: Name<'_>) {
+        let source = self.text(source);
+        let key = self.text(key);
         if self.bindings.push(Binding { source, to, key }).is_err() {
             self.texts.fail();
         }
     }
 
-    fn exchange(&mut self, name: &str, kind: ExchangeKind) {
-        let name = self.texts.text(name.as_bytes());
-        self.put_exchange(name, kind);
-    }
-
-    fn queue(&mut self, name: &str) {
-        let name = self.texts.text(name.as_bytes());
-        self.put_queue(name);
-    }
-
     /// Binds a queue to an exchange with a key.
-    fn bind(&mut self, source: &str, queue: &str, key: &str) {
-        let queue = self.texts.text(queue.as_bytes());
-        self.bind_to(source, queue, key);
-    }
-
-    /// Binds a queue, given by a text, to an exchange with a key.
-    fn bind_to(&mut self, source: &str, queue: Text, key: &str) {
-        let source = self.texts.text(source.as_bytes());
-        let key = self.texts.text(key.as_bytes());
-        self.put_binding(source, Destination::Queue(queue), key);
-    }
-
-    /// Binds the queue `q` to the exchange `x` with `key`.
-    fn bind_by(&mut self, key: &Written) {
-        let source = self.texts.text(b"x");
-        let queue = self.texts.text(b"q");
-        let key = self.texts.of(key);
-        self.put_binding(source, Destination::Queue(queue), key);
-    }
-
-    /// Binds queue `number` to the exchange of the same number with `key`.
-    fn bind_numbered(&mut self, number: u32, key: &Written) {
-        let source = self.texts.numbered("x", number);
-        let queue = self.texts.numbered("q", number);
-        let key = self.texts.of(key);
+    fn bind(&mut self, source: Name<'_>, queue: Name<'_>, key: Name<'_>) {
+        let queue = self.text(queue);
         self.put_binding(source, Destination::Queue(queue), key);
     }
 
     /// Adds topic exchange `number` and queue `number`.
     fn numbered(&mut self, number: u32) {
-        let exchange = self.texts.numbered("x", number);
-        self.put_exchange(exchange, ExchangeKind::Topic);
-        let queue = self.texts.numbered("q", number);
-        self.put_queue(queue);
+        self.exchange(Name::Numbered("x", number), ExchangeKind::Topic);
+        self.queue(Name::Numbered("q", number));
     }
 
     /// Binds exchange `number` to the next one with `#`.
     fn link_on(&mut self, number: u32) {
-        let source = self.texts.numbered("x", number);
         let next = self.texts.numbered("x", number.saturating_add(1));
-        let key = self.texts.text(b"#");
-        self.put_binding(source, Destination::Exchange(next), key);
+        let source = Name::Numbered("x", number);
+        self.put_binding(source, Destination::Exchange(next), Name::Plain("#"));
     }
 
     /// Returns an empty key.
@@ -148,63 +128,56 @@ impl Plan {
 
 /// Adds the direct exchange `x`, with the queue `q` bound with `k`.
 fn direct(plan: &mut Plan) {
-    plan.exchange("x", ExchangeKind::Direct);
-    plan.queue("q");
-    plan.bind("x", "q", "k");
+    plan.exchange(X, ExchangeKind::Direct);
+    plan.queue(Q);
+    plan.bind(X, Q, Name::Plain("k"));
 }
 
 fn fanout(plan: &mut Plan) {
-    plan.exchange("x", ExchangeKind::Fanout);
+    plan.exchange(X, ExchangeKind::Fanout);
     for name in ["a", "b", "c"] {
-        plan.queue(name);
-        plan.bind("x", name, "");
+        plan.queue(Name::Plain(name));
+        plan.bind(X, Name::Plain(name), Name::Plain(""));
     }
 }
 
 /// Adds the direct exchange `x`, with `count` queues, each bound with a key of its own.
 fn keyed(plan: &mut Plan, count: u32) {
-    plan.exchange("x", ExchangeKind::Direct);
+    plan.exchange(X, ExchangeKind::Direct);
     for number in 0..count {
-        keyed_queue(plan, number);
+        let queue = Name::Numbered("q", number);
+        plan.queue(queue);
+        plan.bind(X, queue, Name::Numbered("k.", number));
     }
 }
 
-/// Adds queue `number`, bound to `x` with its key.
-fn keyed_queue(plan: &mut Plan, number: u32) {
-    let queue = plan.texts.numbered("q", number);
-    plan.put_queue(queue);
-    let source = plan.texts.text(b"x");
-    let queue = plan.texts.numbered("q", number);
-    let key = plan.texts.numbered("k.", number);
-    plan.put_binding(source, Destination::Queue(queue), key);
-}
-
-/// Adds queue `number`, bound to `x` with `k.#`, whose dead letters go to `d`.
+/// Adds queue `number`, bound to `x` with `k.#`, whose dead letters go to `d`, under `key` if there is one.
 fn lettered_queue(plan: &mut Plan, number: u32, key: Option<&str>) {
-    let queue = plan.texts.numbered("q", number);
-    plan.put_lettered(queue, key);
-    let queue = plan.texts.numbered("q", number);
-    plan.bind_to("x", queue, "k.#");
+    let exchange = plan.text(D);
+    let key = plan.texts.text_if(key);
+    let queue = DeclaredQueue {
+        dead_letter_exchange: Some(exchange),
+        dead_letter_key: key,
+        ..plain_queue()
+    };
+    plan.declare(Name::Numbered("q", number), queue);
+    plan.bind(X, Name::Numbered("q", number), Name::Plain("k.#"));
 }
 
 /// Adds forbidden queue `number` with the limit `limit`, bound to `d` with `d.#`.
 fn forbidden_queue(plan: &mut Plan, number: u32, limit: Option<u32>) {
-    let name = plan.texts.numbered("f", number);
-    plan.put_declared(DeclaredQueue {
-        name,
+    let queue = DeclaredQueue {
         limit,
-        byte_limit: None,
-        dead_letter_exchange: None,
-        dead_letter_key: None,
-    });
-    let queue = plan.texts.numbered("f", number);
-    plan.bind_to("d", queue, "d.#");
+        ..plain_queue()
+    };
+    plan.declare(Name::Numbered("f", number), queue);
+    plan.bind(D, Name::Numbered("f", number), Name::Plain("d.#"));
 }
 
 /// Adds the topic exchange `x` with queues whose dead letters go to the topic exchange `d`, and `d` with forbidden queues.
 fn lettered(plan: &mut Plan, queues: u32, forbidden: u32, key: Option<&str>, limit: Option<u32>) {
-    plan.exchange("x", ExchangeKind::Topic);
-    plan.exchange("d", ExchangeKind::Topic);
+    plan.exchange(X, ExchangeKind::Topic);
+    plan.exchange(D, ExchangeKind::Topic);
     for number in 0..queues {
         lettered_queue(plan, number, key);
     }
@@ -213,29 +186,21 @@ fn lettered(plan: &mut Plan, queues: u32, forbidden: u32, key: Option<&str>, lim
     }
 }
 
-/// Adds a binding that matches no key.
-fn other(plan: &mut Plan, place: u32) {
-    let mut key = plan.key();
-    key.put_text("other.");
-    key.put_number(u64::from(place));
-    key.put_text(".*");
-    plan.bind_by(&key);
-}
-
 /// Adds a topic exchange, the last of whose bindings is `k.#`; the others match no key.
 fn topic(plan: &mut Plan, bindings: u32) {
-    plan.exchange("x", ExchangeKind::Topic);
-    plan.queue("q");
+    plan.exchange(X, ExchangeKind::Topic);
+    plan.queue(Q);
     for place in 1..bindings {
-        other(plan, place);
+        let mut key = plan.key();
+        key.put_entry("other.", place, ".*");
+        plan.bind(X, Q, Name::Built(&key));
     }
-    plan.bind("x", "q", "k.#");
+    plan.bind(X, Q, Name::Plain("k.#"));
 }
 
 fn among_exchanges(plan: &mut Plan, count: u32) {
     for place in 1..count {
-        let name = plan.texts.numbered("y", place);
-        plan.put_exchange(name, ExchangeKind::Direct);
+        plan.exchange(Name::Numbered("y", place), ExchangeKind::Direct);
     }
     direct(plan);
 }
@@ -243,8 +208,7 @@ fn among_exchanges(plan: &mut Plan, count: u32) {
 /// Adds `count - 1` queues to which nothing leads.
 fn put_others(plan: &mut Plan, count: u32) {
     for place in 1..count {
-        let name = plan.texts.numbered("p", place);
-        plan.put_queue(name);
+        plan.queue(Name::Numbered("p", place));
     }
 }
 
@@ -256,10 +220,13 @@ fn among_queues(plan: &mut Plan, count: u32) {
 /// Adds what [`direct`] adds, and `count - 1` queues to which nothing leads. The queue `q` has the largest limit in bytes.
 fn limited(plan: &mut Plan, count: u32) {
     put_others(plan, count);
-    plan.exchange("x", ExchangeKind::Direct);
-    let name = plan.texts.text(b"q");
-    plan.put_limited(name, Some(u32::MAX));
-    plan.bind("x", "q", "k");
+    plan.exchange(X, ExchangeKind::Direct);
+    let queue = DeclaredQueue {
+        byte_limit: Some(u32::MAX),
+        ..plain_queue()
+    };
+    plan.declare(Q, queue);
+    plan.bind(X, Q, Name::Plain("k"));
 }
 
 /// Binds one of 256 exchanges to its queue with pattern number `place`.
@@ -268,11 +235,11 @@ fn bound(plan: &mut Plan, place: u32) {
     if place % 16 == 0 {
         key.put_text("a.*.#.d.e");
     } else {
-        key.put_text("#.");
-        key.put_number(u64::from(place));
-        key.put_text(".*.#.d.e");
+        key.put_entry("#.", place, ".*.#.d.e");
     }
-    plan.bind_numbered(place % 256, &key);
+    let number = place % 256;
+    let exchange = Name::Numbered("x", number);
+    plan.bind(exchange, Name::Numbered("q", number), Name::Built(&key));
 }
 
 /// Adds 256 exchanges, `links` of which are bound to the next one, 256 queues, and 3,841 bindings from exchanges to queues.
@@ -298,7 +265,7 @@ fn by_digits(plan: &mut Plan, number: u32) {
         }
         rest /= 2;
     }
-    plan.bind_by(&key);
+    plan.bind(X, Q, Name::Built(&key));
 }
 
 /// Appends a word, after a dot unless it is the first.
@@ -311,36 +278,28 @@ fn put_digit(key: &mut Written, digit: u32) {
 
 /// Adds one exchange and one queue, bound with all patterns of at most `words` words.
 fn worded(plan: &mut Plan, words: u32) {
-    plan.queue("q");
+    plan.queue(Q);
     if words == 0 {
-        plan.exchange("x", ExchangeKind::Fanout);
-        return plan.bind("x", "q", "");
+        plan.exchange(X, ExchangeKind::Fanout);
+        return plan.bind(X, Q, Name::Plain(""));
     }
-    plan.exchange("x", ExchangeKind::Topic);
-    plan.bind("x", "q", "#");
+    plan.exchange(X, ExchangeKind::Topic);
+    plan.bind(X, Q, Name::Plain("#"));
     for number in 2..2u32.saturating_pow(words.saturating_add(1)) {
         by_digits(plan, number);
     }
 }
 
-/// Adds one of the 16 bindings of an exchange to its queue.
-fn starred_binding(plan: &mut Plan, number: u32, place: u32) {
-    let mut key = plan.key();
-    key.put_text("k.");
-    if place == 0 {
-        key.put_text("#");
-    } else {
-        key.put_number(u64::from(place));
-        key.put_text(".*");
-    }
-    plan.bind_numbered(number, &key);
-}
-
 /// Adds an exchange and its queue, bound with 16 patterns.
 fn star(plan: &mut Plan, number: u32) {
     plan.numbered(number);
-    for place in 0..16 {
-        starred_binding(plan, number, place);
+    let exchange = Name::Numbered("x", number);
+    let queue = Name::Numbered("q", number);
+    plan.bind(exchange, queue, Name::Plain("k.#"));
+    for place in 1..16 {
+        let mut key = plan.key();
+        key.put_entry("k.", place, ".*");
+        plan.bind(exchange, queue, Name::Built(&key));
     }
 }
 
@@ -353,40 +312,28 @@ fn starred(plan: &mut Plan) {
 
 /// Binds the last exchange of a chain to the queue `q` with pattern number `place`: the large one, then `#.a`, `#.a.*` ..
 fn bind_last(plan: &mut Plan, place: u32) {
-    if place == 0 {
-        return plan.bind("x255", "q", LARGE);
-    }
     let mut key = plan.key();
-    key.put_text("#.a");
+    key.put_text(if place == 0 { LARGE } else { "#.a" });
     for _ in 1..place {
         key.put_text(".*");
     }
-    let source = plan.texts.text(b"x255");
-    let queue = plan.texts.text(b"q");
-    let key = plan.texts.of(&key);
-    plan.put_binding(source, Destination::Queue(queue), key);
+    plan.bind(Name::Numbered("x", 255), Q, Name::Built(&key));
 }
 
 /// Binds exchange `number` of a chain to queue `queue` with a key of its own.
 fn bind_aside(plan: &mut Plan, number: u32, queue: u32, place: u32) {
     let mut key = plan.key();
-    key.put_text("other.");
-    key.put_number(u64::from(number));
-    key.put_text(".");
+    key.put_entry("other.", number, ".");
     key.put_number(u64::from(place));
-    let source = plan.texts.numbered("x", number);
-    let queue = plan.texts.numbered("q", queue);
-    let key = plan.texts.of(&key);
-    plan.put_binding(source, Destination::Queue(queue), key);
+    let exchange = Name::Numbered("x", number);
+    plan.bind(exchange, Name::Numbered("q", queue), Name::Built(&key));
 }
 
 /// Adds an exchange that is bound to the next one with `#`, and has it as its alternate exchange as well.
 fn chained_exchange(plan: &mut Plan, number: u32) {
-    let name = plan.texts.numbered("x", number);
     let next = plan.texts.numbered("x", number.saturating_add(1));
-    plan.put_backed(name, ExchangeKind::Topic, Some(next));
-    let queue = plan.texts.numbered("q", number);
-    plan.put_queue(queue);
+    plan.put_exchange(Name::Numbered("x", number), ExchangeKind::Topic, Some(next));
+    plan.queue(Name::Numbered("q", number));
     for place in 0..15 {
         bind_aside(plan, number, number, place);
     }
@@ -398,9 +345,10 @@ fn chained(plan: &mut Plan, patterns: u32) {
     for number in 0..255 {
         chained_exchange(plan, number);
     }
-    plan.exchange("x255", ExchangeKind::Topic);
-    plan.queue("q");
-    plan.bind("x255", "q", "#");
+    let last = Name::Numbered("x", 255);
+    plan.exchange(last, ExchangeKind::Topic);
+    plan.queue(Q);
+    plan.bind(last, Q, Name::Plain("#"));
     for place in 0..patterns {
         bind_last(plan, place);
     }

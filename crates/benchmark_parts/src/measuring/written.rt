@@ -47,6 +47,13 @@ impl Written {
         }
     }
 
+    /// Appends `before`, `number` and `after`.
+    pub fn put_entry(&mut self, before: &str, number: u32, after: &str) {
+        self.put_text(before);
+        self.put_number(u64::from(number));
+        self.put_text(after);
+    }
+
     /// Removes all bytes.
     pub fn clear(&mut self) {
         self.bytes.clear();

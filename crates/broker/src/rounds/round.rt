@@ -23,7 +23,7 @@ ghost use Rattle.broker.specs.Moving.{all_awake, AllAreAwake};
 
 use crate::rounds::finding::{Found, find, is_able, is_of};
 use crate::rounds::sleepers::{Sleepers, mark_waiter};
-use crate::rounds::waiters::{PlaceMarks, Waiter, is_same, make_room, mark_between};
+use crate::rounds::waiters::{PlaceMarks, Waiter, is_same, make_room, mark_between, mark_if_fewer};
 use commands::{Core, Pick};
 use marks::{Flat, IndexSet, Over};
 use std::alloc::{AllocError, Global};
@@ -89,6 +89,13 @@ fn staying(waiters: &[Waiter], core: &Core, queue: usize, connection: u64) -> us
     count
 }
 
+/// Returns what the index `next` is once the waiter at index `place` is removed: one less if it was behind that.
+fn next_without(next: usize, place: usize) -> usize
+    ensures { ((place < next) × (result + 1 ≡ next)) ⊎ ((next ≤ place) × (result ≡ next)) }
+{
+    if place < next { next - 1 } else { next }
+}
+
 /// Removes the waiter at index `place`. The order of the others is unchanged, and picks look at those of them that are awake. Never allocates.
 fn remove_waiter(
     waiters: &mut Vec<Waiter>,
@@ -110,9 +117,7 @@ fn remove_waiter(
 {
     waiters.remove(place);
     awake.remove(place);
-    if place < *next {
-        *next -= 1;
-    }
+    *next = next_without(*next, place);
 }
 
 /// Removes the waiters that [`sweep`] removes. If there are any, picks look at each waiter that is left. Never allocates.
@@ -134,9 +139,7 @@ fn remove_gone(
     let before = (*next).min(count);
     *next = staying(waiters.split_at(before).0, core, queue, connection);
     sweep(waiters, core, queue, connection);
-    if waiters.len() < count {
-        mark_between(awake, 0, waiters.len());
-    }
+    mark_if_fewer(awake, count, waiters.len());
 }
 
 /// Returns the index behind the end of the order of `count` waiters that begins at `next`: a new waiter is inserted there.

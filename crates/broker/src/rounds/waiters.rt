@@ -61,3 +61,15 @@ pub(crate) fn mark_between(marks: &mut PlaceMarks, from: usize, to: usize)
         marks.set(place);
     }
 }
+
+/// Adds the indices `0..left` to the set if `left`, the number of elements that are left, is less than `before`.
+pub(crate) fn mark_if_fewer(marks: &mut PlaceMarks, before: usize, left: usize)
+    requires { left ≤ length marks.old * 64 }
+    ensures len { length marks.new ≡ length marks.old }
+    ensures marked { left < before → (i : ℕ) → i < left → bit_of marks.new i ≡ 1 }
+    ensures same { before ≤ left → marks.new ≡ marks.old }
+{
+    if left < before {
+        mark_between(marks, 0, left);
+    }
+}

@@ -6,7 +6,7 @@ ghost use Rattle.depot.specs.Store.{Store};
 ghost use Rattle.replies.specs.Sent.{AreAddressed};
 ghost use Rattle.commands.specs.Commands.{CommandsOnQueues};
 
-use crate::refusals::{Stop, check_flow};
+use crate::refusals::{Stop, check_implemented};
 use model::ChannelId;
 use replies::{Step, flow_ok};
 use std::alloc::Global;
@@ -16,6 +16,6 @@ pub(crate) fn flow(alloc: Global, id: ChannelId, is_active: bool) -> Result<Step
     ensures commands { (s : Store) → CommandsOnQueues id.connection id.number s (ChannelFlow is_active) result s }
     ensures addressed { IfOk result (λ s. AreAddressed id.connection s.sends.items) }
 {
-    check_flow(is_active)?;
+    check_implemented(is_active)?;
     Ok(Step::sending(alloc, flow_ok(id.connection, id.number))?)
 }

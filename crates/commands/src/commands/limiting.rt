@@ -7,14 +7,14 @@ ghost use Rattle.channels.specs.Placed.{IsPlaced};
 ghost use Rattle.replies.specs.Sent.{AreAddressed};
 ghost use Rattle.commands.specs.Commands.{CommandsOnChannel};
 
-use crate::refusals::{Stop, check_qos};
+use crate::refusals::{Stop, check_implemented};
 use channels::Channel;
 use model::{ChannelId, Qos};
 use replies::{Step, qos_ok};
 use std::alloc::Global;
 
-/// Sets the channel's prefetch as `qos` says, and replies with `basic.qos-ok`. Fails only if it is refused or an allocation fails; nothing has
-/// changed then.
+/// Sets the channel's prefetch as `qos` says, and replies with `basic.qos-ok`. Refuses a prefetch by the size of messages, which is not
+/// implemented. Fails only if it is refused or an allocation fails; nothing has changed then.
 pub(crate) fn limit(
     alloc: Global,
     id: ChannelId,
@@ -26,7 +26,7 @@ pub(crate) fn limit(
     ensures placed { (t : Topology) → IsPlaced t channel.old → IsPlaced t channel.new }
     ensures err { OnErr result (channel.new ≡ channel.old) }
 {
-    check_qos(qos)?;
+    check_implemented(qos.prefetch_size == 0)?;
     let step = Step::sending(alloc, qos_ok(id.connection, id.number))?;
     channel.limit(qos);
     Ok(step)

@@ -9,7 +9,7 @@ ghost use Rattle.commands.specs.Judged.{refused_by};
 ghost use Rattle.replies.specs.Sent.{AreAddressed};
 ghost use Rattle.commands.specs.Commands.{CanCommand, CommandsPlain, RequeuesHere, WantsNone, seen};
 
-use crate::refusals::{Refusal, Stop, check_recover, check_settling};
+use crate::refusals::{Refusal, Stop, check_implemented, check_settling};
 use channels::Channel;
 use depot::Depot;
 use model::{Ack, ChannelId, Nack, Reject};
@@ -124,7 +124,7 @@ pub(crate) fn recover(
     ensures placed { IsPlaced depot.old.topology channel.new }
     ensures err { OnErr result ((depot.new ≡ depot.old) × (channel.new ≡ channel.old)) }
 {
-    check_recover(is_requeue)?;
+    check_implemented(is_requeue)?;
     let step = Step::sending(alloc, recover_ok(id.connection, id.number))?;
     requeue(id, channel, depot, 0, true)?;
     Ok(step)

@@ -30,11 +30,11 @@ impl Core {
     ghost use Rattle.std.specs.Prelude.{IfOk, OnErr};
     ghost use Rattle.commands.specs.State.{broker_of, topology_kept};
     ghost use Rattle.commands.specs.Obstacles.{ReportsObstacle};
-    ghost use Rattle.reloading.specs.Wanting.{MayWant};
+    ghost use Rattle.reloading.specs.Allocating.{JudgingMayAllocate};
 
     /// Returns the first obstacle to a reload to `topology` and `guarantees`, or `None` if there is none; users don't matter.
-    /// Fails only if an allocation fails. It may allocate only if each queue in use is declared in `topology`, or if the first that is not has a
-    /// name of more than 22 bytes.
+    /// Fails only if an allocation fails. It may allocate only if each queue in use is declared in `topology` and one of `guarantees` is a `never`, or
+    /// if the first queue in use that is not declared has a name of more than 22 bytes.
     pub fn obstacle(
         &self,
         alloc: Global,
@@ -42,7 +42,7 @@ impl Core {
         guarantees: &[Guarantee],
     ) -> Result<Option<Obstacle>, AllocError>
         ensures reported { IfOk result (ReportsObstacle (topology_kept self.now) (broker_of self.now) topology.now guarantees.now) }
-        ensures wants { OnErr result (MayWant (topology_kept self.now) topology.now (broker_of self.now)) }
+        ensures wants { OnErr result (JudgingMayAllocate (topology_kept self.now) topology.now guarantees.now (broker_of self.now)) }
     {
         self.depot.ghost_is_whole();
         ghost_indices_are_named();

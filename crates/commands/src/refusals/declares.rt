@@ -1,4 +1,4 @@
-//! Decides on channel.flow, and on declares.
+//! Decides on declares.
 
 ghost use Rattle.std.specs.Prelude.{◌≡◌, Some, None, IfOk, if◌then◌else◌};
 ghost use Rattle.model.specs.Step as said;
@@ -8,17 +8,6 @@ ghost use Rattle.commands.specs.Judged.{refused_by, IsQueueIndex};
 use crate::refusals::{Refusal, check_queue};
 use exchange_graph::Topology;
 use model::{ExchangeDeclare, QueueDeclare};
-
-/// Refuses to stop the flow, which is not implemented.
-pub fn check_flow(active: bool) -> Result<(), Refusal>
-    ensures { refused_by result ≡ said.refusal_of_flow active }
-{
-    if active {
-        Ok(())
-    } else {
-        Err(Refusal::Connection(540))
-    }
-}
 
 /// Returns whether an exchange with this name exists. The default exchange always does.
 fn is_exchange(topology: &Topology, name: &[u8]) -> bool

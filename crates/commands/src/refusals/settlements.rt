@@ -1,4 +1,4 @@
-//! Decides on acknowledgements, rejections and recoveries.
+//! Decides on acknowledgements and rejections.
 
 ghost use Rattle.std.specs.Prelude.{◌≡◌, List, IfOk};
 ghost use Rattle.model.specs.Words.{Text as Name};
@@ -19,16 +19,5 @@ pub fn check_settling(channel: &Channel, tag: u64, multiple: bool) -> Result<Spa
     match channel.span(tag, multiple) {
         Some(span) => Ok(span),
         None => Err(Refusal::Channel(406)),
-    }
-}
-
-/// Refuses a recovery without requeue, which is not implemented.
-pub fn check_recover(requeue: bool) -> Result<(), Refusal>
-    ensures { refused_by result ≡ said.refusal_of_recover requeue }
-{
-    if requeue {
-        Ok(())
-    } else {
-        Err(Refusal::Connection(540))
     }
 }

@@ -13,7 +13,7 @@ impl Engine {
     ghost use Rattle.engine.specs.InForce.{in_force};
     ghost use Rattle.engine.specs.World.{world_of};
     ghost use Rattle.runs.specs.Reloaded.{IsMemory, IsPutInForce, NothingHinders, ReportsReload};
-    ghost use Rattle.reloading.specs.Wanting.{MayWant};
+    ghost use Rattle.engine.specs.Allocating.{ReloadMayAllocate};
 
     /// Puts the topology, the guarantees and the users of a setup in force. Messages in queues are marked as ones that the reload found there.
     /// Connections stay, with their consumers, their unacknowledged messages, their unread input and their output. The order of each queue's
@@ -21,8 +21,8 @@ impl Engine {
     ///
     /// Refused by the first obstacle: a queue that is no longer declared while messages are in it or consumers take from it, or else a message that
     /// could reach a queue that a guarantee forbids it by dead-lettering. A refused reload changes nothing.
-    /// Also fails if an allocation fails; nothing has changed then. It may allocate only if each queue in use is declared, or if the first that is not
-    /// has a name of more than 22 bytes.
+    /// Also fails if an allocation fails; nothing has changed then. Without an obstacle it always allocates, 1,024 slots for routes at least. With one it
+    /// allocates only if [`Engine::obstacle`] does.
     pub fn reload(
         &mut self,
         alloc: Global,
@@ -35,7 +35,7 @@ impl Engine {
         // Each queue's order of consumers is kept.
         ensures lines { OnOk result (LinesMove self.old.broker self.new.broker) }
         // When it may fail to allocate.
-        ensures wants { IsMemory result → MayWant (world_of self.old).config.topology checked.topology (world_of self.old).state.broker }
+        ensures wants { IsMemory result → ReloadMayAllocate (world_of self.old) (in_force checked users.items) }
     {
         let setup = Setup::new(checked, users);
         if let Some(obstacle) = self.obstacle(alloc, &setup)? {
@@ -46,7 +46,7 @@ impl Engine {
     }
 
     /// Puts `setup` in force, as [`Engine::reload`] does, without looking for an obstacle: there is none. Fails only if an allocation fails; nothing
-    /// has changed then.
+    /// has changed then. It always allocates: the slots for routes, 1,024 whatever `setup` declares, and what is kept of each queue.
     pub fn put_in_force(&mut self, alloc: Global, setup: Setup) -> Result<(), AllocError>
         requires nothing { NothingHinders (world_of self.old) setup }
         ensures done { OnOk result (IsPutInForce (world_of self.old) setup (world_of self.new)) }

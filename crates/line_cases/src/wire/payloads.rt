@@ -82,20 +82,13 @@ fn put_outcome(out: &mut LineAnswer, properties: &Properties) {
     }
 }
 
-/// Appends the outcome of writing a header with `content_type` as its only property.
-fn put_typed(out: &mut LineAnswer, content_type: Text) {
+/// Appends the outcome of writing a header with `bytes` as its content type, its only property.
+pub fn put_content_type(out: &mut LineAnswer, bytes: &[u8]) {
     let mut fields = Fields::none();
-    fields.content_type = Some(content_type);
+    let text = Text::from_slice(out.alloc(), bytes);
+    fields.content_type = out.value_of(text, Unanswered::Memory);
     match Properties::new(out.alloc(), fields) {
         Ok(properties) => put_outcome(out, &properties),
-        Err(_) => out.fail(Unanswered::Memory),
-    }
-}
-
-/// Appends the outcome of writing a header with `bytes` as its content type.
-pub fn put_content_type(out: &mut LineAnswer, bytes: &[u8]) {
-    match Text::from_slice(out.alloc(), bytes) {
-        Ok(text) => put_typed(out, text),
         Err(_) => out.fail(Unanswered::Memory),
     }
 }

@@ -29,12 +29,17 @@ pub fn put_front(out: &mut LineAnswer, bytes: &[u8]) {
 }
 
 /// Appends a frame in hex. Records [`Unanswered::Form`] if its payload is too long for a line.
-pub fn put_frame(out: &mut LineAnswer, frame: &Frame<'_>) {
-    if frame.payload.len() > LONGEST {
+pub fn put_frame(out: &mut LineAnswer, kind: u8, channel: u16, payload: &[u8]) {
+    if payload.len() > LONGEST {
         return out.fail(Unanswered::Form);
     }
+    let frame = Frame {
+        kind,
+        channel,
+        payload,
+    };
     let mut bytes = Vec::new(out.alloc());
-    match write_frame(&mut bytes, frame) {
+    match write_frame(&mut bytes, &frame) {
         Ok(()) => out.put_hex(bytes.as_slice()),
         Err(_) => out.fail(Unanswered::Memory),
     }
@@ -46,17 +51,7 @@ pub fn put_written(out: &mut LineAnswer, asked: &str) {
     let (channel, payload) = cut(out, rest);
     let payload = bytes_of(out, payload);
     match (kind.parse::<u8>(), channel.parse::<u16>()) {
-        (Ok(kind), Ok(channel)) => {
-            let payload = payload.as_slice();
-            put_frame(
-                out,
-                &Frame {
-                    kind,
-                    channel,
-                    payload,
-                },
-            );
-        }
+        (Ok(kind), Ok(channel)) => put_frame(out, kind, channel, payload.as_slice()),
         _ => out.fail(Unanswered::Form),
     }
 }

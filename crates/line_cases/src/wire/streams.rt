@@ -2,7 +2,6 @@
 
 use super::segments::put_frame;
 use assembly::{Fault, Stream};
-use frame::Frame;
 use headers::write_header;
 use line_parts::{LineAnswer, Unanswered, bytes_of};
 use methods::write_method;
@@ -25,15 +24,7 @@ fn put_method(out: &mut LineAnswer, channel: u16, method: &Method) {
     if write_method(&mut payload, method).is_err() {
         return out.fail(Unanswered::Form);
     }
-    let payload = payload.as_slice();
-    put_frame(
-        out,
-        &Frame {
-            kind: 1,
-            channel,
-            payload,
-        },
-    );
+    put_frame(out, 1, channel, payload.as_slice());
 }
 
 /// Appends the frame of a content's header.
@@ -43,29 +34,14 @@ fn put_header(out: &mut LineAnswer, channel: u16, content: &Content) {
     if write_header(&mut payload, size, &content.properties).is_err() {
         return out.fail(Unanswered::Form);
     }
-    let payload = payload.as_slice();
-    put_frame(
-        out,
-        &Frame {
-            kind: 2,
-            channel,
-            payload,
-        },
-    );
+    put_frame(out, 2, channel, payload.as_slice());
 }
 
 /// Appends a body in one frame, unless it is empty.
 fn put_body(out: &mut LineAnswer, channel: u16, content: &Content) {
     let payload = content.body.as_bytes();
     if !payload.is_empty() {
-        put_frame(
-            out,
-            &Frame {
-                kind: 3,
-                channel,
-                payload,
-            },
-        );
+        put_frame(out, 3, channel, payload);
     }
 }
 
@@ -76,29 +52,23 @@ fn put_publish(out: &mut LineAnswer, channel: u16, publish: &Method, content: &C
     put_body(out, channel, content);
 }
 
-/// Appends that a content is too large.
-fn put_too_large(out: &mut LineAnswer, channel: u16) {
-    out.put("too large on ");
-    out.put_number(u64::from(channel));
-}
-
-/// Appends the first eight bytes of a connection.
-fn put_head(out: &mut LineAnswer, bytes: &[u8]) {
-    out.put("first ");
-    out.put_hex(bytes);
-}
-
 /// Appends a command as its frames are written.
 fn put_command(out: &mut LineAnswer, command: Command) {
     match command {
-        Command::Head { bytes } => put_head(out, bytes.as_slice()),
+        Command::Head { bytes } => {
+            out.put("first ");
+            out.put_hex(bytes.as_slice());
+        }
         Command::Plain { channel, method } => put_method(out, channel, &method),
         Command::Full {
             channel,
             publish,
             content,
         } => put_publish(out, channel, &Method::BasicPublish(publish), &content),
-        Command::TooLarge { channel } => put_too_large(out, channel),
+        Command::TooLarge { channel } => {
+            out.put("too large on ");
+            out.put_number(u64::from(channel));
+        }
     }
 }
 
@@ -138,18 +108,11 @@ fn take_all(out: &mut LineAnswer, stream: &mut Stream) -> bool {
     false
 }
 
-/// Feeds a piece to a stream.
-fn feed(out: &mut LineAnswer, stream: &mut Stream, piece: &[u8]) {
-    if stream.feed(piece).is_err() {
-        out.fail(Unanswered::Memory);
-    }
-}
-
 /// Feeds the pieces of a group to a stream.
 fn feed_group(out: &mut LineAnswer, stream: &mut Stream, group: &str) {
     for piece in group.split(" + ") {
         let bytes = bytes_of(out, piece);
-        feed(out, stream, bytes.as_slice());
+        out.value_of(stream.feed(bytes.as_slice()), Unanswered::Memory);
     }
 }
 
@@ -187,7 +150,7 @@ pub fn put_stream(out: &mut LineAnswer, asked: &str) {
 
 /// Feeds a piece, and appends the commands that are complete then.
 fn hear(out: &mut LineAnswer, stream: &mut Stream, piece: &[u8]) {
-    feed(out, stream, piece);
+    out.value_of(stream.feed(piece), Unanswered::Memory);
     take_all(out, stream);
 }
 

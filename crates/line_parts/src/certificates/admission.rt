@@ -4,12 +4,11 @@ use super::faults::put_fault;
 use crate::routing::put_route;
 use crate::{LineAnswer, Unanswered, named_and_edits, sources_of, words_of};
 use certificate::{CertFault, Certificate, Checked, admit};
-use definitions::{Definitions, read_definitions};
-use exchange_graph::Topology;
-use guarantees::{Guarantee, read_guarantees};
+use definitions::read_definitions;
+use guarantees::read_guarantees;
 
 /// Appends the number of admitted guarantees, or the queues to which they route the key in `words`.
-fn answer_of_admitted(out: &mut LineAnswer, admitted: &Checked, words: &[&str]) {
+fn put_admitted(out: &mut LineAnswer, admitted: &Checked, words: &[&str]) {
     match words {
         [] => {
             out.put("admitted ");
@@ -27,76 +26,33 @@ fn put_not_admitted(out: &mut LineAnswer, place: usize, fault: &CertFault) {
     out.put_number(place as u64);
 }
 
-/// Admits the guarantees of a file by its certificates and answers the line.
-fn answer_of_guarantees(
-    out: &mut LineAnswer,
-    topology: Topology,
-    stated: Vec<Guarantee>,
-    certificates: &[Certificate],
-    words: &[&str],
-) {
-    match admit(out.alloc(), topology, stated, certificates) {
-        Ok(checked) => answer_of_admitted(out, &checked, words),
+/// Reads the three files, admits the guarantees by their certificates and answers the line. Returns `None` if a file is refused.
+fn answer_of_files(out: &mut LineAnswer, files: &[String], words: &[&str]) -> Option<()> {
+    let [definitions, guarantees, certificates] = files else {
+        out.fail(Unanswered::Form);
+        return None;
+    };
+    let alloc = out.alloc();
+    let read = read_definitions(alloc, definitions.as_bytes());
+    let (topology, _) = out.value_of(read, Unanswered::File)?.into_parts();
+    let read = read_guarantees(alloc, guarantees.as_bytes(), &topology);
+    let stated = out.value_of(read, Unanswered::File)?;
+    let read = Certificate::read(alloc, certificates.as_bytes());
+    let offered = out.value_of(read, Unanswered::File)?;
+    match admit(alloc, topology, stated, offered.as_slice()) {
+        Ok(admitted) => put_admitted(out, &admitted, words),
         Err((place, fault)) => put_not_admitted(out, place, &fault),
     }
-}
-
-/// Reads a guarantees file, admits it and answers the line.
-fn answer_over(
-    out: &mut LineAnswer,
-    read: Definitions,
-    guarantees: &str,
-    certificates: &[Certificate],
-    words: &[&str],
-) {
-    let (topology, _) = read.into_parts();
-    match read_guarantees(out.alloc(), guarantees.as_bytes(), &topology) {
-        Ok(stated) => answer_of_guarantees(out, topology, stated, certificates, words),
-        Err(_) => out.fail(Unanswered::File),
-    }
-}
-
-/// Reads a definitions and a guarantees file, admits them and answers the line.
-fn answer_by(
-    out: &mut LineAnswer,
-    definitions: &str,
-    guarantees: &str,
-    certificates: &[Certificate],
-    words: &[&str],
-) {
-    match read_definitions(out.alloc(), definitions.as_bytes()) {
-        Ok(read) => answer_over(out, read, guarantees, certificates, words),
-        Err(_) => out.fail(Unanswered::File),
-    }
-}
-
-/// Reads the three files, admits them and answers the line.
-fn answer_of_files(out: &mut LineAnswer, files: &[String], words: &[&str]) {
-    let [definitions, guarantees, certificates] = files else {
-        return out.fail(Unanswered::Form);
-    };
-    match Certificate::read(out.alloc(), certificates.as_bytes()) {
-        Ok(offered) => answer_by(
-            out,
-            definitions.as_str(),
-            guarantees.as_str(),
-            offered.as_slice(),
-            words,
-        ),
-        Err(_) => out.fail(Unanswered::File),
-    }
+    Some(())
 }
 
 /// Answers a line about admission, which names three files.
 pub fn answer(out: &mut LineAnswer, rt: &HostRuntime, asked: &str) {
     let (named, edits) = named_and_edits(asked);
     let words = words_of(out, named);
-    match words.as_slice() {
-        [definitions, guarantees, certificates, rest @ ..] => {
-            let names = [*definitions, *guarantees, *certificates];
-            let files = sources_of(out, rt, names.as_slice(), edits);
-            answer_of_files(out, files.as_slice(), rest);
-        }
-        _ => out.fail(Unanswered::Form),
-    }
+    let Some((names, rest)) = words.as_slice().split_at_checked(3) else {
+        return out.fail(Unanswered::Form);
+    };
+    let files = sources_of(out, rt, names, edits);
+    answer_of_files(out, files.as_slice(), rest);
 }

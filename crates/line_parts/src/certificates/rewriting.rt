@@ -1,21 +1,7 @@
 //! Lines about certificates files.
 
-use crate::{LineAnswer, Unanswered, bytes_of, source_of};
+use crate::{LineAnswer, Unanswered, put_read, text_of_kind};
 use certificate::Certificate;
-
-/// Appends the number of certificates in a file, or why it is refused.
-fn put_outcome(out: &mut LineAnswer, bytes: &[u8]) {
-    match Certificate::read(out.alloc(), bytes) {
-        Ok(found) => {
-            out.put("read ");
-            out.put_number(found.len() as u64);
-        }
-        Err(bad) => {
-            out.put("refused ");
-            out.put_number(u64::from(bad.number()));
-        }
-    }
-}
 
 /// Appends the file of `certificates`.
 pub fn put_file_of(out: &mut LineAnswer, certificates: &[Certificate]) {
@@ -34,24 +20,14 @@ fn put_again(out: &mut LineAnswer, certificates: &[Certificate], file: &[u8]) {
     }
 }
 
-/// Reads a file, writes its certificates again, and appends whether that is the same text.
-fn put_rewritten(out: &mut LineAnswer, file: &[u8]) {
-    match Certificate::read(out.alloc(), file) {
-        Ok(found) => put_again(out, found.as_slice(), file.trim_ascii()),
-        Err(_) => out.fail(Unanswered::File),
-    }
-}
-
-/// Answers a line about a certificates file.
+/// Answers a line about a certificates file: whether it is read, or whether its certificates are written as the same text.
 pub fn answer(out: &mut LineAnswer, rt: &HostRuntime, kind: &str, asked: &str) {
-    if kind == "certificates-hex" {
-        let bytes = bytes_of(out, asked);
-        return put_outcome(out, bytes.as_slice());
+    let file = text_of_kind(out, rt, kind, asked);
+    let read = Certificate::read(out.alloc(), file.as_slice());
+    if kind != "rewritten" {
+        return put_read(out, read.map(|found| found.len()));
     }
-    let file = source_of(out, rt, asked);
-    if kind == "certificates" {
-        put_outcome(out, file.as_bytes());
-    } else {
-        put_rewritten(out, file.as_bytes());
+    if let Some(found) = out.value_of(read, Unanswered::File) {
+        put_again(out, found.as_slice(), file.trim_ascii());
     }
 }

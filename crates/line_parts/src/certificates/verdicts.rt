@@ -24,46 +24,23 @@ fn mode_of(out: &mut LineAnswer, mode: &str) -> Mode {
 
 /// Copies a word.
 fn text_of(out: &mut LineAnswer, word: &str) -> Text {
-    match Text::from_slice(out.alloc(), word.as_bytes()) {
-        Ok(text) => text,
-        Err(_) => {
-            out.fail(Unanswered::Memory);
-            Text::empty()
-        }
-    }
-}
-
-/// Appends the outcome of checking a certificate.
-fn put_checked(
-    out: &mut LineAnswer,
-    topology: &Topology,
-    guarantee: &Guarantee,
-    certificate: &Certificate,
-) {
-    match check(out.alloc(), topology, guarantee, certificate) {
-        Ok(()) => out.put("ok"),
-        Err(fault) => put_fault(out, &fault),
-    }
-}
-
-/// Appends the outcome of checking the only certificate of `found`.
-fn put_one_checked(
-    out: &mut LineAnswer,
-    topology: &Topology,
-    guarantee: &Guarantee,
-    found: &[Certificate],
-) {
-    match found {
-        [one] => put_checked(out, topology, guarantee, one),
-        _ => out.fail(Unanswered::File),
-    }
+    let text = Text::from_slice(out.alloc(), word.as_bytes());
+    out.value_of(text, Unanswered::Memory)
+        .unwrap_or(Text::empty())
 }
 
 /// Appends the outcome of checking the only certificate of a file.
-fn put_check_of(out: &mut LineAnswer, topology: &Topology, guarantee: &Guarantee, file: &str) {
-    match Certificate::read(out.alloc(), file.as_bytes()) {
-        Ok(found) => put_one_checked(out, topology, guarantee, found.as_slice()),
-        Err(_) => out.fail(Unanswered::File),
+fn put_checked(out: &mut LineAnswer, topology: &Topology, guarantee: &Guarantee, file: &str) {
+    let read = Certificate::read(out.alloc(), file.as_bytes());
+    let Some(found) = out.value_of(read, Unanswered::File) else {
+        return;
+    };
+    let [certificate] = found.as_slice() else {
+        return out.fail(Unanswered::File);
+    };
+    match check(out.alloc(), topology, guarantee, certificate) {
+        Ok(()) => out.put("ok"),
+        Err(fault) => put_fault(out, &fault),
     }
 }
 
@@ -127,19 +104,12 @@ fn put_found(out: &mut LineAnswer, topology: &Topology, guarantee: &Guarantee) {
     }
 }
 
-/// Appends a name to a path.
-fn push_name(out: &mut LineAnswer, path: &mut Vec<Text>, name: &str) {
-    let name = text_of(out, name);
-    if path.push(name).is_err() {
-        out.fail(Unanswered::Memory);
-    }
-}
-
 /// Returns a path with the names `names`.
 fn path_of(out: &mut LineAnswer, names: &[&str]) -> Vec<Text> {
     let mut path = Vec::new(out.alloc());
     for name in names {
-        push_name(out, &mut path, name);
+        let name = text_of(out, name);
+        out.push(&mut path, name);
     }
     path
 }
@@ -170,7 +140,7 @@ fn answer_of_guarantee(
         ([], [_]) if kind == "search" => put_searched(out, topology, guarantee),
         ([], [_]) if kind == "certificate" => put_found(out, topology, guarantee),
         ([], [_, file]) if kind == "check" => {
-            put_check_of(out, topology, guarantee, file.as_str());
+            put_checked(out, topology, guarantee, file.as_str());
         }
         ([key, names @ ..], [_]) if kind == "disprove" => {
             put_disproved(out, topology, guarantee, key, names);
@@ -179,40 +149,20 @@ fn answer_of_guarantee(
     }
 }
 
-/// Appends an `except` pattern to `excepts`, if `word` begins with a dash.
-fn push_except(out: &mut LineAnswer, excepts: &mut Vec<Text>, word: &str) {
-    let Some(pattern) = word.strip_prefix('-') else {
-        return;
-    };
-    let pattern = text_of(out, pattern);
-    if excepts.push(pattern).is_err() {
-        out.fail(Unanswered::Memory);
-    }
-}
-
-/// Returns the `except` patterns: the words that begin with a dash, without it.
-fn excepts_of(out: &mut LineAnswer, words: &[&str]) -> Vec<Text> {
+/// Returns the `except` patterns, which are the words that begin with a dash, without it, and the other words.
+fn excepts_and_others<'a>(out: &mut LineAnswer, words: &[&'a str]) -> (Vec<Text>, Vec<&'a str>) {
     let mut excepts = Vec::new(out.alloc());
-    for word in words {
-        push_except(out, &mut excepts, word);
-    }
-    excepts
-}
-
-/// Appends `word` to `others`, unless it begins with a dash.
-fn push_other<'a>(out: &mut LineAnswer, others: &mut Vec<&'a str>, word: &'a str) {
-    if !word.starts_with('-') && others.push(word).is_err() {
-        out.fail(Unanswered::Memory);
-    }
-}
-
-/// Returns the words that don't begin with a dash.
-fn others_of<'a>(out: &mut LineAnswer, words: &[&'a str]) -> Vec<&'a str> {
     let mut others = Vec::new(out.alloc());
     for word in words {
-        push_other(out, &mut others, word);
+        match word.strip_prefix('-') {
+            Some(pattern) => {
+                let pattern = text_of(out, pattern);
+                out.push(&mut excepts, pattern);
+            }
+            None => out.push(&mut others, *word),
+        }
     }
-    others
+    (excepts, others)
 }
 
 /// Answers a line over a topology. Its first words are a guarantee, `MODE EXCHANGE PATTERN QUEUE`, and `-PATTERN` for each of its
@@ -231,8 +181,7 @@ fn answer_over(
     let exchange = text_of(out, exchange);
     let pattern = text_of(out, pattern);
     let queue = text_of(out, queue);
-    let excepts = excepts_of(out, rest);
-    let others = others_of(out, rest);
+    let (excepts, others) = excepts_and_others(out, rest);
     match Guarantee::new(mode, exchange, pattern, queue, excepts) {
         Some(guarantee) => {
             answer_of_guarantee(out, kind, topology, &guarantee, files, others.as_slice());
@@ -241,26 +190,20 @@ fn answer_over(
     }
 }
 
-/// Answers a line over files, the first of which is a definitions file.
-fn answer_of_files(out: &mut LineAnswer, kind: &str, files: &[String], words: &[&str]) {
-    let Some(definitions) = files.first() else {
-        return out.fail(Unanswered::File);
-    };
-    match read_definitions(out.alloc(), definitions.as_bytes()) {
-        Ok(read) => answer_over(out, kind, read.topology(), files, words),
-        Err(_) => out.fail(Unanswered::File),
-    }
-}
-
 /// Answers a line about one guarantee, which names a definitions file, and for a check a certificates file.
 pub fn answer(out: &mut LineAnswer, rt: &HostRuntime, kind: &str, asked: &str) {
     let (named, edits) = named_and_edits(asked);
     let words = words_of(out, named);
     let count = if kind == "check" { 2 } else { 1 };
-    if words.len() < count {
+    let Some((names, rest)) = words.as_slice().split_at_checked(count) else {
         return out.fail(Unanswered::Form);
-    }
-    let (names, rest) = words.as_slice().split_at(count);
+    };
     let files = sources_of(out, rt, names, edits);
-    answer_of_files(out, kind, files.as_slice(), rest);
+    let Some(definitions) = files.first() else {
+        return out.fail(Unanswered::File);
+    };
+    let read = read_definitions(out.alloc(), definitions.as_bytes());
+    if let Some(read) = out.value_of(read, Unanswered::File) {
+        answer_over(out, kind, read.topology(), files.as_slice(), rest);
+    }
 }

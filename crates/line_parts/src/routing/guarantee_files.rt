@@ -1,24 +1,10 @@
 //! Lines about guarantees files over a topology.
 
-use crate::{LineAnswer, Unanswered, bytes_of, file_of, number_of, source_of, words_of};
+use crate::{LineAnswer, Unanswered, file_of, number_of, put_read, text_of_kind, words_of};
 use definitions::read_definitions;
 use exchange_graph::Topology;
 use guarantees::{Guarantee, read_guarantees};
 use model::Mode;
-
-/// Appends the number of guarantees in a file, or why it is refused.
-fn put_outcome(out: &mut LineAnswer, topology: &Topology, bytes: &[u8]) {
-    match read_guarantees(out.alloc(), bytes, topology) {
-        Ok(read) => {
-            out.put("read ");
-            out.put_number(read.len() as u64);
-        }
-        Err(bad) => {
-            out.put("refused ");
-            out.put_number(u64::from(bad.number()));
-        }
-    }
-}
 
 /// Appends the parts of a guarantee.
 fn put_parts(out: &mut LineAnswer, guarantee: &Guarantee) {
@@ -60,24 +46,7 @@ fn answer_at(out: &mut LineAnswer, kind: &str, guarantees: &[Guarantee], words: 
     }
 }
 
-/// Answers a line about a guarantee of a file.
-fn answer_of_file(
-    out: &mut LineAnswer,
-    rt: &HostRuntime,
-    kind: &str,
-    topology: &Topology,
-    asked: &str,
-) {
-    let (name, rest) = asked.split_once(' ').unwrap_or((asked, ""));
-    let file = file_of(out, rt, name);
-    let words = words_of(out, rest);
-    match read_guarantees(out.alloc(), file.as_bytes(), topology) {
-        Ok(read) => answer_at(out, kind, read.as_slice(), words.as_slice()),
-        Err(_) => out.fail(Unanswered::File),
-    }
-}
-
-/// Answers a line about guarantees over a topology.
+/// Answers a line about guarantees over a topology: whether a file is read, or what one of its guarantees says.
 fn answer_over(
     out: &mut LineAnswer,
     rt: &HostRuntime,
@@ -85,16 +54,17 @@ fn answer_over(
     topology: &Topology,
     asked: &str,
 ) {
-    match kind {
-        "guarantees" => {
-            let file = source_of(out, rt, asked);
-            put_outcome(out, topology, file.as_bytes());
-        }
-        "guarantees-hex" => {
-            let bytes = bytes_of(out, asked);
-            put_outcome(out, topology, bytes.as_slice());
-        }
-        _ => answer_of_file(out, rt, kind, topology, asked),
+    if kind.starts_with("guarantees") {
+        let file = text_of_kind(out, rt, kind, asked);
+        let read = read_guarantees(out.alloc(), file.as_slice(), topology);
+        return put_read(out, read.map(|read| read.len()));
+    }
+    let (name, rest) = asked.split_once(' ').unwrap_or((asked, ""));
+    let file = file_of(out, rt, name);
+    let words = words_of(out, rest);
+    let read = read_guarantees(out.alloc(), file.as_bytes(), topology);
+    if let Some(read) = out.value_of(read, Unanswered::File) {
+        answer_at(out, kind, read.as_slice(), words.as_slice());
     }
 }
 
@@ -102,8 +72,8 @@ fn answer_over(
 pub fn answer(out: &mut LineAnswer, rt: &HostRuntime, kind: &str, asked: &str) {
     let (name, rest) = asked.split_once(' ').unwrap_or((asked, ""));
     let file = file_of(out, rt, name);
-    match read_definitions(out.alloc(), file.as_bytes()) {
-        Ok(read) => answer_over(out, rt, kind, read.topology(), rest),
-        Err(_) => out.fail(Unanswered::File),
+    let read = read_definitions(out.alloc(), file.as_bytes());
+    if let Some(read) = out.value_of(read, Unanswered::File) {
+        answer_over(out, rt, kind, read.topology(), rest);
     }
 }

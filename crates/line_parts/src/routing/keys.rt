@@ -35,13 +35,9 @@ fn put_words(out: &mut LineAnswer, key: &str) {
 
 /// Appends the pattern of `text` to `patterns`. Fails with [`Unanswered::Form`] if it is none.
 fn push_pattern(out: &mut LineAnswer, patterns: &mut Vec<Pattern>, text: &str) {
-    match Pattern::read(out.alloc(), text.as_bytes()) {
-        Ok(pattern) => {
-            if patterns.push(pattern).is_err() {
-                out.fail(Unanswered::Memory);
-            }
-        }
-        Err(_) => out.fail(Unanswered::Form),
+    let read = Pattern::read(out.alloc(), text.as_bytes());
+    if let Some(pattern) = out.value_of(read, Unanswered::Form) {
+        out.push(patterns, pattern);
     }
 }
 
@@ -94,38 +90,16 @@ fn put_places_of(out: &mut LineAnswer, key: &str, texts: &[&str]) {
     }
 }
 
-/// Returns the indices of the patterns that match `key`, and the count of [`Trie::matches_counted`].
-fn counted_by(
-    alloc: Global,
-    patterns: Vec<Pattern>,
-    key: &str,
-) -> Result<(Vec<usize>, u128), AllocError> {
-    Trie::new(alloc, patterns)?.matches_counted(alloc, key.as_bytes())
-}
-
-/// Appends the `count` that a trie returned.
-fn put_count(out: &mut LineAnswer, count: u128) {
-    match format!(in out.alloc(); " count {count}") {
-        Ok(text) => out.put(text.as_str()),
-        Err(_) => out.fail(Unanswered::Memory),
-    }
-}
-
-/// Appends the indices of the patterns that match `key`, and the count that [`Trie::matches_counted`] returns.
-fn put_counted(out: &mut LineAnswer, patterns: Vec<Pattern>, key: &str) {
-    match counted_by(out.alloc(), patterns, key) {
-        Ok((places, count)) => {
-            put_places(out, places.as_slice());
-            put_count(out, count);
-        }
-        Err(_) => out.fail(Unanswered::Memory),
-    }
-}
-
-/// Appends the indices of the `texts` that match `key` as patterns, and the count of [`Trie::matches_counted`].
-fn put_counted_of(out: &mut LineAnswer, key: &str, texts: &[&str]) {
-    let patterns = patterns_of(out, texts);
-    put_counted(out, patterns, key);
+/// Appends the indices of the patterns that match `key`, and the count that [`Trie::matches_counted`] returns. Returns `None` if an allocation fails.
+fn put_counted(out: &mut LineAnswer, patterns: Vec<Pattern>, key: &str) -> Option<()> {
+    let alloc = out.alloc();
+    let trie = out.value_of(Trie::new(alloc, patterns), Unanswered::Memory)?;
+    let counted = trie.matches_counted(alloc, key.as_bytes());
+    let (places, count) = out.value_of(counted, Unanswered::Memory)?;
+    put_places(out, places.as_slice());
+    let count = out.value_of(format!(in alloc; " count {count}"), Unanswered::Memory)?;
+    out.put(count.as_str());
+    Some(())
 }
 
 /// Appends the pattern of `text` with `number` in place of its `%`. Fails with [`Unanswered::Form`] if it has none.
@@ -140,20 +114,14 @@ fn push_numbered(out: &mut LineAnswer, patterns: &mut Vec<Pattern>, text: &str, 
 }
 
 /// Returns the patterns of `text` with each number in `from..to` in place of its `%`.
-fn numbered(out: &mut LineAnswer, from: u32, to: u32, text: &str) -> Vec<Pattern> {
+fn numbered(out: &mut LineAnswer, from: &str, to: &str, text: &str) -> Vec<Pattern> {
+    let from = number_of(out, from);
+    let to = number_of(out, to);
     let mut patterns = Vec::new(out.alloc());
     for number in from..to {
         push_numbered(out, &mut patterns, text, number);
     }
     patterns
-}
-
-/// Appends the indices of the numbered patterns that match `key`, and the trie's count.
-fn put_numbered_counted(out: &mut LineAnswer, key: &str, from: &str, to: &str, text: &str) {
-    let from = number_of(out, from);
-    let to = number_of(out, to);
-    let patterns = numbered(out, from, to, text);
-    put_counted(out, patterns, key);
 }
 
 /// Answers a line about patterns, given as words.
@@ -163,9 +131,13 @@ fn answer_of_words(out: &mut LineAnswer, kind: &str, words: &[&str]) {
         [pattern, key] if kind == "match" => put_matched(out, pattern, key),
         [key] if kind == "words" => put_words(out, key),
         [key, texts @ ..] if kind == "places" => put_places_of(out, key, texts),
-        [key, texts @ ..] if kind == "counted" => put_counted_of(out, key, texts),
+        [key, texts @ ..] if kind == "counted" => {
+            let patterns = patterns_of(out, texts);
+            put_counted(out, patterns, key);
+        }
         [key, from, to, text] if kind == "numbered" => {
-            put_numbered_counted(out, key, from, to, text)
+            let patterns = numbered(out, from, to, text);
+            put_counted(out, patterns, key);
         }
         _ => out.fail(Unanswered::Form),
     }

@@ -1,7 +1,7 @@
 //! Lines about definitions files, and about what they define.
 
 use super::routes::{put_dead_route, put_route, put_visited};
-use crate::{LineAnswer, Unanswered, bytes_of, file_of, number_of, source_of, words_of};
+use crate::{LineAnswer, Unanswered, file_of, number_of, put_refused, text_of_kind, words_of};
 use definitions::{Definitions, read_definitions};
 use exchange_graph::Topology;
 use model::{DeclaredQueue, Exchange, ExchangeKind, Text, User};
@@ -10,10 +10,7 @@ use model::{DeclaredQueue, Exchange, ExchangeKind, Text, User};
 fn put_outcome(out: &mut LineAnswer, bytes: &[u8]) {
     match read_definitions(out.alloc(), bytes) {
         Ok(_) => out.put("read"),
-        Err(bad) => {
-            out.put("refused ");
-            out.put_number(u64::from(bad.number()));
-        }
+        Err(bad) => put_refused(out, bad),
     }
 }
 
@@ -113,28 +110,17 @@ fn answer_of_words(out: &mut LineAnswer, kind: &str, read: &Definitions, words: 
     }
 }
 
-/// Answers a line about what a file defines.
-fn answer_of_file(out: &mut LineAnswer, rt: &HostRuntime, kind: &str, asked: &str) {
+/// Answers a line about a definitions file: whether it is read, or what it defines.
+pub fn answer(out: &mut LineAnswer, rt: &HostRuntime, kind: &str, asked: &str) {
+    if kind.starts_with("definitions") {
+        let file = text_of_kind(out, rt, kind, asked);
+        return put_outcome(out, file.as_slice());
+    }
     let (name, rest) = asked.split_once(' ').unwrap_or((asked, ""));
     let file = file_of(out, rt, name);
     let words = words_of(out, rest);
-    match read_definitions(out.alloc(), file.as_bytes()) {
-        Ok(read) => answer_of_words(out, kind, &read, words.as_slice()),
-        Err(_) => out.fail(Unanswered::File),
-    }
-}
-
-/// Answers a line about a definitions file.
-pub fn answer(out: &mut LineAnswer, rt: &HostRuntime, kind: &str, asked: &str) {
-    match kind {
-        "definitions" => {
-            let file = source_of(out, rt, asked);
-            put_outcome(out, file.as_bytes());
-        }
-        "definitions-hex" => {
-            let bytes = bytes_of(out, asked);
-            put_outcome(out, bytes.as_slice());
-        }
-        _ => answer_of_file(out, rt, kind, asked),
+    let read = read_definitions(out.alloc(), file.as_bytes());
+    if let Some(read) = out.value_of(read, Unanswered::File) {
+        answer_of_words(out, kind, &read, words.as_slice());
     }
 }

@@ -1,16 +1,15 @@
 //! Calls one after another, of either implementation of a queue.
 
 use crate::stores::calls::put_call;
-use crate::{LineAnswer, Unanswered, number_of, words_of};
+use crate::{LineAnswer, number_of, words_of};
 use queue::{Indexed, Listed, Store};
 
 /// Parses the numbers of a call, separated by colons.
 fn numbers_of(out: &mut LineAnswer, words: &str) -> Vec<u32> {
     let mut numbers = Vec::new(out.alloc());
     for word in words.split(':') {
-        if numbers.push(number_of(out, word)).is_err() {
-            out.fail(Unanswered::Memory);
-        }
+        let number = number_of(out, word);
+        out.push(&mut numbers, number);
     }
     numbers
 }

@@ -9,13 +9,6 @@ const HEADER: &[u8] =
 /// The end of a frame.
 const END: &[u8] = b"\xce";
 
-/// Appends the content of the message `number`: its body of eight bytes spells the number.
-fn put_content(bytes: &mut Vec<u8>, number: u64) -> Result<(), AllocError> {
-    bytes.extend_from_slice(HEADER)?;
-    bytes.extend_from_slice(number.to_be_bytes().as_slice())?;
-    bytes.extend_from_slice(END)
-}
-
 /// Appends `front`, `number` in eight bytes, and `back`.
 fn put_numbered(
     bytes: &mut Vec<u8>,
@@ -26,6 +19,11 @@ fn put_numbered(
     bytes.extend_from_slice(front)?;
     bytes.extend_from_slice(number.to_be_bytes().as_slice())?;
     bytes.extend_from_slice(back)
+}
+
+/// Appends the content of the message `number`: its body of eight bytes spells the number.
+fn put_content(bytes: &mut Vec<u8>, number: u64) -> Result<(), AllocError> {
+    put_numbered(bytes, HEADER, number, END)
 }
 
 /// Appends `front`, `count`, which is below 2^32, in four bytes, and `back`.
@@ -63,13 +61,6 @@ pub(crate) fn declare(
         b"\x01\x00\x01\x00\x00\x00\x12\x00\x32\x00\x0b\x05audit",
         count,
         b"\x00\x00\x00\x00\xce",
-    )
-}
-
-/// Appends a basic.get of `audit`, to be acknowledged.
-pub(crate) fn get(input: &mut Vec<u8>) -> Result<(), AllocError> {
-    input.extend_from_slice(
-        b"\x01\x00\x01\x00\x00\x00\x0d\x00\x3c\x00\x46\x00\x00\x05audit\x00\xce",
     )
 }
 

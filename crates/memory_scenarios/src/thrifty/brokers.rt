@@ -2,11 +2,11 @@
 
 ghost use Rattle.commands.specs.Judged.{IsAsked};
 
-use crate::parts::{Stated, command, consume, publish};
+use crate::parts::{command, consume, publish};
 use crate::room::Room;
 use broker::Broker;
 use model::{Ack, Event, Method, Qos, Reject};
-use scenario_parts::{Unmet, expect, value_of};
+use scenario_parts::{Stated, Unmet, expect, value_of};
 use std::alloc::Global;
 
 /// Performs a command on channel 1 of connection 1.

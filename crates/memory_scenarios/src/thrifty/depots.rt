@@ -2,13 +2,13 @@
 
 ghost use Rattle.std.specs.Prelude.{◌≡◌, ◌<◌, length, IfOk, vec_len, vec_capacity};
 
-use crate::parts::{Stated, publish};
+use crate::parts::publish;
 use crate::room::Room;
 use crate::thrifty::HOLDER;
 use depot::{Depot, Giving};
 use model::{ChannelId, Delivery, Text};
 use notes::Notes;
-use scenario_parts::{Unmet, expect, expect_number, value_of};
+use scenario_parts::{Stated, Unmet, expect, expect_number, value_of};
 use std::alloc::Global;
 
 /// The channel that publishes the message and holds it.

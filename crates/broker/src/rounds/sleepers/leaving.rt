@@ -8,7 +8,7 @@ ghost use Rattle.broker.specs.Rounds.{is_listed_there, listings_of, listings_on,
 ghost use Rattle.broker.specs.Rounds.{KeepsListings, KeepListingsOn, KeepLists, ListingsLeave, MakesNoList};
 
 use crate::rounds::sleepers::{ChannelSleepers, ConnectionSleepers, Listed, Sleepers};
-use crate::rounds::waiters::{PlaceMarks, mark_between};
+use crate::rounds::waiters::{PlaceMarks, mark_if_fewer};
 use commands::{Core, Pick};
 use marks::IndexSet;
 
@@ -74,9 +74,7 @@ fn remove_gone(listed: &mut Vec<Listed>, asleep: &mut PlaceMarks, core: &Core)
 {
     let before = listed.len();
     sweep(listed, core);
-    if listed.len() < before {
-        mark_between(asleep, 0, listed.len());
-    }
+    mark_if_fewer(asleep, before, listed.len());
 }
 
 impl ChannelSleepers {

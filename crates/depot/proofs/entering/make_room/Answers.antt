@@ -1,20 +1,17 @@
-use Rattle.depot.proofs.Names.{◌∙◌, arith, places}
-use Rattle.depot.proofs.Turning.{place_is, places-length, room_more}
+use Rattle.depot.proofs.Names.{◌∙◌, ap, sym, arith, PlannedTurn, places}
+use Rattle.std.proofs.lemmas.List.{get_or-map}
+use Rattle.depot.proofs.Changes.{below_at}
+use Rattle.depot.proofs.Turning.{room_more}
 use Rattle.depot.proofs.entering.make_room.Goals as goal
 
 pub make_room_at-requires : goal.make_room_at-requires
 make_room_at-requires c =
-    let all = places-length c.args.turns.now in
-    let len = c.loop-turn.invariant.len in
-    let before = c.loop-turn-test.true in
-    let lt = c.requires c.loop-turn.turn-index 0 (omega arith) in
-    let here = place_is c.args.turns.now c.loop-turn.turn-index c.turn-item.result before c.turn-item.is in
-    omega arith
+    below_at (λ (t : PlannedTurn). t.place) _ _ c.args.turns.now c.loop-turn.turn-index c.turn-item.result c.requires c.loop-turn.invariant.len c.loop-turn-test.true c.turn-item.is
 
 pub loop-turn-preserved : goal.loop-turn-preserved
 loop-turn-preserved c =
-    let before = c.loop-turn-test.true in
-    let here = place_is c.args.turns.now c.loop-turn.turn-index c.turn-item.result before c.turn-item.is in
+    let place = λ (t : PlannedTurn). t.place in
+    let here = get_or-map place c.args.turns.now c.loop-turn.turn-index c.turn-item.result 0 c.loop-turn-test.true ∙ ap place (sym c.turn-item.is) in
     record {
       len = c.make_room_at.ensures.len ∙ c.loop-turn.invariant.len;
       same = c.make_room_at.ensures.same ∙ c.loop-turn.invariant.same;

@@ -1,15 +1,11 @@
-use Rattle.depot.proofs.Names.{◌∙◌, arith}
-use Rattle.depot.proofs.Rooms.{arrivals_next, arrives_at, arriving_at-length, emptied_more, emptied_one, gains_more}
+use Rattle.depot.proofs.Names.{◌∙◌, Arrival}
+use Rattle.depot.proofs.Changes.{below_at}
+use Rattle.depot.proofs.Rooms.{arrivals_next, emptied_more, emptied_one, gains_more}
 use Rattle.depot.proofs.promising.give_back_all.Goals as goal
 
 pub give_back_at-requires : goal.give_back_at-requires
 give_back_at-requires c =
-    let all = arriving_at-length c.args.arrivals.now in
-    let len = c.loop-arrival.invariant.len in
-    let before = c.loop-arrival-test.true in
-    let lt = c.requires c.loop-arrival.arrival-index 0 (omega arith) in
-    let here = arrives_at c.args.arrivals.now c.loop-arrival.arrival-index c.arrival-item.result before c.arrival-item.is in
-    omega arith
+    below_at (λ (a : Arrival). a.place) _ _ c.args.arrivals.now c.loop-arrival.arrival-index c.arrival-item.result c.requires c.loop-arrival.invariant.len c.loop-arrival-test.true c.arrival-item.is
 
 pub loop-arrival-preserved : goal.loop-arrival-preserved
 loop-arrival-preserved c =

@@ -1,16 +1,12 @@
 use Rattle.depot.proofs.Names.{◌∙◌, ◌+◌, ◌≡◌, List, arith, subst, Arrival, arriving_at, room_at, times}
 use Rattle.std.proofs.lemmas.List.{take_all}
-use Rattle.depot.proofs.Rooms.{arrivals_fewer, arrivals_next, arrives_at, arriving_at-length}
+use Rattle.depot.proofs.Changes.{below_at}
+use Rattle.depot.proofs.Rooms.{arrivals_fewer, arrivals_next}
 use Rattle.depot.proofs.promising.reserve_all.Goals as goal
 
 pub reserve_at-requires : goal.reserve_at-requires
 reserve_at-requires c =
-    let all = arriving_at-length c.args.arrivals.now in
-    let len = c.loop-arrival.invariant.len in
-    let before = c.loop-arrival-test.true in
-    let lt = c.requires c.loop-arrival.arrival-index 0 (omega arith) in
-    let here = arrives_at c.args.arrivals.now c.loop-arrival.arrival-index c.arrival-item.result before c.arrival-item.is in
-    omega arith
+    below_at (λ (a : Arrival). a.place) _ _ c.args.arrivals.now c.loop-arrival.arrival-index c.arrival-item.result c.requires c.loop-arrival.invariant.len c.loop-arrival-test.true c.arrival-item.is
 
 pub loop-arrival-preserved : goal.loop-arrival-preserved
 loop-arrival-preserved c =

@@ -1,7 +1,6 @@
 use Rattle.depot.proofs.Names.{◌≡◌, ◌∙◌, List, length, waiting, subst, arith, drop_all, all_left, entries_of, Delivery}
 use Rattle.depot.proofs.Performed.{left_next}
-use Rattle.depot.proofs.Settled.{of_next}
-use Rattle.depot.proofs.Waiting.{nothing}
+use Rattle.depot.proofs.Waiting.{nothing, of_next}
 use Rattle.depot.proofs.rejecting.leave_all.Goals as goal
 
 pub leave-requires : goal.leave-requires

@@ -1,7 +1,7 @@
 use Rattle.depot.proofs.Names.{◌∙◌, List, [], sym, length, arith, subst, drop_all, Returns, waiting, Delivery, entries_of, AreSettledBy, store_of}
 use Rattle.depot.proofs.Changes.{entries_of-length}
-use Rattle.depot.proofs.Settled.{of_next, returned_next, none_returns}
-use Rattle.depot.proofs.Waiting.{nothing}
+use Rattle.depot.proofs.Settled.{returned_next, none_returns}
+use Rattle.depot.proofs.Waiting.{nothing, of_next}
 use Rattle.depot.proofs.settling.requeue_in.Goals as goal
 
 pub put_back-requires : goal.put_back-requires

@@ -4,7 +4,7 @@ use Rattle.broker.specs.Turns.{topology_kept, broker_of}
 use Rattle.engine.proofs.Asked.{decides_running, decides_elsewhere, ok_map, ok_both}
 use Rattle.engine.proofs.Replies.{broker_sends}
 use Rattle.engine.proofs.Within.{acts_within, decided_within}
-use Rattle.engine.specs.Wanting.{room_wanted, AreWithin}
+use Rattle.engine.specs.Allocating.{room_wanted, AreWithin}
 use Rattle.engine.proofs.performing.perform.Goals as goal
 
 pub returns-in_ok-step-in-Running-clause-ok : goal.returns-in_ok-step-in-Running-clause-ok

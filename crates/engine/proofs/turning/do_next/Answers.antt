@@ -1,7 +1,7 @@
 use Rattle.engine.proofs.Names.{◌≡◌, ◌≤◌, ◌<◌, ◌∙◌, ◌++◌, arith, true, false, ℕ, List, Option, refl, sym, ap, subst, IfSome, IsSaid, spelling, Event, IsAskedBy, rules_of, Performed, DidNext, brings_message, Connection}
 use Rattle.broker.specs.Turns.{topology_kept, broker_of}
 use Rattle.engine.specs.declared.turning.Turn.TheVariants as turn
-use Rattle.engine.specs.Wanting.{allowance_after, room_wanted, KeepsLarge}
+use Rattle.engine.specs.Allocating.{allowance_after, room_wanted, KeepsLarge}
 use Rattle.outputs.specs.Storages.{AreAtMost, IsWhole, SpareCounts, room_of}
 use Rattle.engine.proofs.Reserved.{taken_few}
 use Rattle.engine.proofs.Turned.{performed_put}

@@ -1,13 +1,15 @@
 use Rattle.queue.proofs.Names.{◌≡◌, ◌≤◌, ◌-◌, ◌∙◌, ap, sym, subst, List, arith, rules, length, vec_len, is_held_as, Entry, tally, AreFilledBut, Stretch, parts, joined, last_room, AreBlocksSigned}
 use Rattle.queue.proofs.Joined.{joined_nothing}
-use Rattle.queue.proofs.Signed.{parts-end, room_at_end, signed_end}
+use Rattle.queue.proofs.Signed.{parts-end, room-end, signed_end}
 use Rattle.queue.proofs.Filled.{but_end}
 use Rattle.queue.proofs.blocks.append_block.Goals as goal
 
-pub settle-requires-clause-signed : goal.settle-requires-clause-signed
-settle-requires-clause-signed c =
-    let is = ap (λ (bs : List Stretch). parts bs) c.push_reserved.ensures.items ∙ parts-end c.args.blocks.now.items _ c.requires.empty in
-    subst (λ (ps : List (List Entry)). AreBlocksSigned ps c.args.signs.now) (sym is) (signed_end (parts c.args.blocks.now.items) c.args.signs.now c.requires.signed)
+pub settle-requires-clause-marked : goal.settle-requires-clause-marked
+settle-requires-clause-marked c =
+    let is = ap (λ (bs : List Stretch). parts bs) c.push_reserved.ensures.items ∙ parts-end c.args.blocks.now.items _ c.requires.empty in record {
+      signed = subst (λ (ps : List (List Entry)). AreBlocksSigned ps c.args.signs.now) (sym is) (signed_end (parts c.args.blocks.now.items) c.args.signs.now c.requires.marked.signed);
+      places = search rules;
+    }
 
 pub settle-requires-clause-distinct : goal.settle-requires-clause-distinct
 settle-requires-clause-distinct c holder =
@@ -21,7 +23,7 @@ returns-clause-entries c =
     c.settle.ensures.entries ∙ ap (λ (ps : List (List Entry)). joined ps) is ∙ joined_nothing (parts c.args.blocks.now.items)
 
 pub returns-clause-room : goal.returns-clause-room
-returns-clause-room c = c.settle.ensures.room ∙ ap (λ (bs : List Stretch). last_room bs) c.push_reserved.ensures.items ∙ room_at_end c.args.blocks.now.items c.args.block
+returns-clause-room c = c.settle.ensures.room ∙ ap (λ (bs : List Stretch). last_room bs) c.push_reserved.ensures.items ∙ room-end 0 c.args.blocks.now.items c.args.block
 
 pub returns-clause-filled : goal.returns-clause-filled
 returns-clause-filled c most few f =

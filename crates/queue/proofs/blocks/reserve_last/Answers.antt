@@ -1,5 +1,5 @@
 use Rattle.queue.proofs.Names.{◌≡◌, ◌≤◌, ◌<◌, ◌-◌, ℕ, true, rules, arith, length, sym, subst, vec_len, IfOk, OnErr}
-use Rattle.queue.proofs.Signed.{parts-kept, room_is, room_at_last, last_place}
+use Rattle.queue.proofs.Signed.{parts-kept, room_is, room-last, last_place}
 use Rattle.queue.proofs.Filled.{filled_last}
 use Rattle.queue.proofs.blocks.reserve_last.Goals as goal
 
@@ -9,7 +9,7 @@ returns-clause-parts c = parts-kept c.args.blocks.now.items (c.len-last.result -
 pub returns-clause-kept : goal.returns-clause-kept
 returns-clause-kept c =
     let last = last_place (vec_len c.args.blocks.now) c.len-last.result (length c.args.blocks.now.items) (search rules) (cc (c.is_empty.ensures, c.if-is_empty.false)) c.len-last.ensures in
-    let a = room_at_last c.args.blocks.now.items (c.len-last.result - 1) c.reserve.new.self last in
+    let a = room-last 0 c.args.blocks.now.items (c.len-last.result - 1) c.reserve.new.self last in
     let b = room_is c.args.blocks.now.items (c.len-last.result - 1) c.index_mut.result.now last (search rules) in
     let k = c.reserve.ensures.kept in
     omega (arith, a, b, k)
@@ -17,7 +17,7 @@ returns-clause-kept c =
 pub returns-clause-room : goal.returns-clause-room
 returns-clause-room c =
     let last = last_place (vec_len c.args.blocks.now) c.len-last.result (length c.args.blocks.now.items) (search rules) (cc (c.is_empty.ensures, c.if-is_empty.false)) c.len-last.ensures in
-    subst (λ (r : ℕ). IfOk c.reserve.result (λ fits. fits ≡ true → c.args.more ≤ r)) (sym (room_at_last c.args.blocks.now.items (c.len-last.result - 1) c.reserve.new.self last)) c.reserve.ensures.room
+    subst (λ (r : ℕ). IfOk c.reserve.result (λ fits. fits ≡ true → c.args.more ≤ r)) (sym (room-last 0 c.args.blocks.now.items (c.len-last.result - 1) c.reserve.new.self last)) c.reserve.ensures.room
 
 pub returns-clause-full : goal.returns-clause-full
 returns-clause-full c =

@@ -1,6 +1,6 @@
 use Rattle.reloading.proofs.Names.{length, ap, subst, arith, queue_names, InUse, ReportsQueue}
 use Rattle.reloading.proofs.First.{all_named, named_at, none_of_all, one_more, told_at}
-use Rattle.reloading.proofs.Wanting.{on_err}
+use Rattle.reloading.proofs.Allocating.{on_err}
 use Rattle.reloading.proofs.orphaned.first_orphaned.Goals as goal
 
 pub returns-in_err-first-clause-wants : goal.returns-in_err-first-clause-wants

@@ -1,5 +1,5 @@
 use Rattle.reloading.proofs.Names.{ap, refl, Text, InUse}
-use Rattle.reloading.proofs.Wanting.{on_err}
+use Rattle.reloading.proofs.Allocating.{on_err}
 use Rattle.reloading.proofs.orphaned.gone_at.Goals as goal
 
 pub returns-then-is_used-clause-reported : goal.returns-then-is_used-clause-reported

@@ -1,7 +1,7 @@
 use Rattle.reloading.proofs.Names.{◌∙◌, subst, IfOk-weaker, Text, IsIn, queue_names}
 use Rattle.reloading.proofs.First.{stranded_not}
 use Rattle.reloading.proofs.Judged.{gone_tells}
-use Rattle.reloading.proofs.Wanting.{on_err_too}
+use Rattle.reloading.proofs.Allocating.{on_err_too}
 use Rattle.reloading.proofs.orphaned.orphaned_at.Goals as goal
 
 pub returns-in-Some-clause-reported : goal.returns-in-Some-clause-reported

@@ -1,5 +1,6 @@
 use Rattle.serving.proofs.Names.{◌≤◌, ◌∙◌, ℕ, false, sym, subst, ◌||◌, served, most_peers}
-use Rattle.serving.proofs.Onward.{or_false, serves_not}
+use Rattle.std.proofs.Math.Bool.{or-false}
+use Rattle.serving.proofs.Onward.{serves_not}
 use Rattle.serving.proofs.Fits.{in_slots_on}
 use Rattle.serving.proofs.rounds.go_round.Goals as goal
 
@@ -33,7 +34,6 @@ returns g c =
         most = subst (λ (n : ℕ). most_peers ≤ n) (sym capacity) c.requires.settled.most;
       };
       full = c.settle_all-has_settled.ensures.full;
-      capacity = capacity;
       round = record {
         met = met;
         heard = heard;
@@ -50,6 +50,6 @@ returns g c =
         writes = c.settle_all-has_settled.ensures.serves;
         closes = serves_not settled;
         ended = c.settle_all-has_settled.ensures.ended;
-        acts = sym (or_false (((c.accept_one-has_met.result || c.read_all-has_heard.result) || c.pump_all-has_pumped.result) || c.settle_all-has_settled.result));
+        acts = sym (or-false (((c.accept_one-has_met.result || c.read_all-has_heard.result) || c.pump_all-has_pumped.result) || c.settle_all-has_settled.result));
       };
     }

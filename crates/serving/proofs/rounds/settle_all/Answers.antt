@@ -1,5 +1,6 @@
 use Rattle.serving.proofs.Names.{◌<◌, ◌≤◌, ◌+◌, ◌∙◌, ◌++◌, ℕ, [], List, None, length, refl, sym, subst, inl, inr, slice_index_or, arith, cases_eq, cases_lt, Bool, false, ◌||◌, Ask, Serves, served, HasEnded, write_of, writes_due}
-use Rattle.serving.proofs.Onward.{or_false, serves_then}
+use Rattle.std.proofs.Math.Bool.{or-false}
+use Rattle.serving.proofs.Onward.{serves_then}
 use Rattle.serving.proofs.Others.{later_on, due_on}
 use Rattle.serving.proofs.Fits.{in_slots_on, slot_within}
 use Rattle.serving.proofs.Loudness.{all_passed}
@@ -63,7 +64,7 @@ loop-slot-preserved g c =
       ];
       so_far = (
         asked ++ passes.asked,
-        subst (λ (x : Bool). Serves g.M.Machine.lacks start (asked ++ passes.asked) x passed) (or_false acted) all,
+        subst (λ (x : Bool). Serves g.M.Machine.lacks start (asked ++ passes.asked) x passed) (or-false acted) all,
         passed_on settled.world start.peers settled.peers (i + 1) j asked (writes_due start) settled.traffic passed.traffic next.least passes later due,
       );
     }

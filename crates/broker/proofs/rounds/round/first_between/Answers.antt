@@ -1,6 +1,7 @@
 use Rattle.broker.proofs.Names.{◌∙◌, get_or, false, sym, subst, arith, same_default, IsPickFrom, Waiter, round_of, listing, FindsWaiter}
 use Rattle.broker.proofs.Sleepers.{more_on}
 use Rattle.broker.proofs.Found.{able_found, none_found}
+use Rattle.broker.proofs.Picks.{no_waiter}
 use Rattle.broker.proofs.Sleeping.{none_gap, none_more, rested_on, rested_gap}
 use Rattle.broker.proofs.rounds.round.first_between.Goals as goal
 
@@ -15,24 +16,21 @@ returns-then-is_able-clause-some c = λ d.
     let before = c.if-place-to.false in
     let most = c.requires.within in
     let long = c.waiters.auto.waiters in
-    let none : Waiter = record { pick = record { connection = 0; channel = 0; number = 0 }; asleep = false } in
-    subst (λ (s : Waiter). IsPickFrom c.args.core.now c.args.queue s.pick) (same_default c.waiters.waiters c.in-Some.place none d (omega (arith, before, most, long)))
-    (able_found c.args.core.now c.args.queue (get_or c.waiters.waiters c.in-Some.place none) c.find-found.result c.find-found.ensures (sym c.is_able.ensures ∙ c.if-is_able.true))
+    subst (λ (s : Waiter). IsPickFrom c.args.core.now c.args.queue s.pick) (same_default c.waiters.waiters c.in-Some.place no_waiter d (omega (arith, before, most, long)))
+    (able_found c.args.core.now c.args.queue (get_or c.waiters.waiters c.in-Some.place no_waiter) c.find-found.result c.find-found.ensures (sym c.is_able.ensures ∙ c.if-is_able.true))
 
 pub rest-requires-clause-found : goal.rest-requires-clause-found
 rest-requires-clause-found c = λ d.
     let before = c.if-place-to.false in
     let most = c.requires.within in
     let long = c.waiters.auto.waiters in
-    let none : Waiter = record { pick = record { connection = 0; channel = 0; number = 0 }; asleep = false } in
-    subst (λ (s : Waiter). FindsWaiter c.args.core.now c.args.queue s c.find-found.result) (same_default c.waiters.waiters c.in-Some.place none d (omega (arith, before, most, long))) c.find-found.ensures
+    subst (λ (s : Waiter). FindsWaiter c.args.core.now c.args.queue s c.find-found.result) (same_default c.waiters.waiters c.in-Some.place no_waiter d (omega (arith, before, most, long))) c.find-found.ensures
 
 pub waiters-preserved : goal.waiters-preserved
 waiters-preserved c =
     let before = c.if-place-to.false in
     let least = c.waiters.invariant.least in
     let next = c.in-Some.ensures.some.least in
-    let none : Waiter = record { pick = record { connection = 0; channel = 0; number = 0 }; asleep = false } in
     record {
       least = omega (arith, least, next);
       len = c.rest.ensures.len ∙ c.waiters.invariant.len;
@@ -43,7 +41,7 @@ waiters-preserved c =
       none = none_more c.args.core.now c.args.queue (round_of c.args.waiters.now c.args.awake.now) c.args.from c.in-Some.place
           (none_gap c.args.core.now c.args.queue (round_of c.args.waiters.now c.args.awake.now) (round_of c.waiters.waiters c.waiters.awake) c.args.from c.waiters.next c.in-Some.place c.waiters.invariant.none c.waiters.invariant.behind c.in-Some.ensures.some.before)
           (λ p at pick.
-          none_found c.args.core.now c.args.queue (get_or c.waiters.waiters c.in-Some.place none) p c.find-found.result c.find-found.ensures (sym c.is_able.ensures ∙ c.if-is_able.false) ((c.waiters.invariant.behind c.in-Some.place next p at).there none) pick);
+          none_found c.args.core.now c.args.queue (get_or c.waiters.waiters c.in-Some.place no_waiter) p c.find-found.result c.find-found.ensures (sym c.is_able.ensures ∙ c.if-is_able.false) ((c.waiters.invariant.behind c.in-Some.place next p at).there no_waiter) pick);
       same = c.rest.ensures.same ∙ c.waiters.invariant.same;
       rested = rested_on c.waiters.awake c.rest.new.awake c.args.from c.waiters.next c.in-Some.place c.waiters.invariant.rested c.in-Some.ensures.some.before c.rest.ensures.passed c.rest.ensures.fewer;
       fewer = λ i zero. c.rest.ensures.fewer i (c.waiters.invariant.fewer i zero);

@@ -1,11 +1,12 @@
 use Rattle.channels.proofs.Imports.{◌≡◌, ◌∙◌, sym, ap, subst, List, map, not, count_to, taker_of, ConsumerCounts, CountsAgree, consumers_of, counts_of, is_named, has_name, Consumer, CountedConsumer}
 use Rattle.std.proofs.Common.{filter}
-use Rattle.channels.proofs.Counting.{consumers_filtered, counts_filtered}
+use Rattle.channels.proofs.Counting.{counts_filtered}
+use Rattle.channels.proofs.Mapped.{filter-map}
 use Rattle.channels.proofs.counted_consumers.CountedConsumers.remove_by_tag.Goals as goal
 
 pub returns-clause-consumers : goal.returns-clause-consumers
 returns-clause-consumers c = subst (λ (s : ConsumerCounts). consumers_of c.remove_tagged.new.consumers.items ≡ filter (λ x. not (is_named c.args.tag.now x)) s.consumers) c.self.view_is
-    (ap consumers_of c.remove_tagged.ensures.consumers ∙ consumers_filtered (λ x. not (is_named c.args.tag.now x)) c.self.inside.consumers.items)
+    (ap consumers_of c.remove_tagged.ensures.consumers ∙ sym (filter-map (λ (s : CountedConsumer). s.consumer) (λ x. not (is_named c.args.tag.now x)) c.self.inside.consumers.items))
 
 pub returns-clause-counted : goal.returns-clause-counted
 returns-clause-counted c given k =

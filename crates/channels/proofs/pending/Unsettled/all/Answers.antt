@@ -1,9 +1,8 @@
-use Rattle.channels.proofs.Imports.{◌+◌, ◌*◌, ◌≤◌, ap, subst, arith, drop, length, length-drop, List, Rises, OutstandingList, tag_of, Delivery}
-use Rattle.channels.proofs.Settlement.{waiting_rises}
+use Rattle.channels.proofs.Imports.{◌+◌, ◌*◌, ◌≤◌, sym, ap, subst, arith, length, length-drop, List, Rises, OutstandingList, given_tag, Delivery}
 use Rattle.channels.proofs.pending.Unsettled.all.Goals as goal
 
 pub returns-clause-rises : goal.returns-clause-rises
-returns-clause-rises c = subst (λ (l : OutstandingList). Rises tag_of l.outstanding) c.self.view_is (waiting_rises (drop c.self.inside.start c.self.inside.items.items) c.self.invariant.order.rises)
+returns-clause-rises c = subst (Rises given_tag) (sym c.behind.ensures) c.self.invariant.order.rises
 
 pub returns-clause-few : goal.returns-clause-few
 returns-clause-few c =

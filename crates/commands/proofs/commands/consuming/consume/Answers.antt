@@ -31,29 +31,23 @@ returns-in_err-tag-clause-commands c = λ content old new turns.
     rw (p.1, p.2)
     (not_made s.topology names c.args.channel.now c.consume.new.self m c.in_ok-place.place c.in_err-tag.field-0.0 (λ x. Performs s.topology (state_of s old) c.args.id.connection c.args.id.number ch (BasicConsume m) content x.sends.items x.notes.items (state_of s new)) free c.in_err-tag.ensures)
 
-pub returns-clause-commands : goal.returns-clause-commands
-returns-clause-commands c = λ content old new turns.
+pub returns : goal.returns
+returns c =
     let s = c.args.depot.now in
+    let ch = c.args.channel.now in
+    let m = c.args.consume.now in
     let names = queue_names s.topology.queues in
-    let at : IsQueueIndex s.topology c.args.consume.now.queue c.in_ok-place.place = subst (λ (t : Topology). IsQueueIndex t c.args.consume.now.queue c.in_ok-place.place) c.topology.ensures c.in_ok-place.ensures.index in
-    let free : refusal_of_consume s.topology (seen s c.args.channel.now) c.args.consume.now ≡ None =
-    sym (subst (λ (t : Topology). None ≡ refusal_of_consume t (seen s c.args.channel.now) c.args.consume.now) c.topology.ensures (c.in_ok-place.ensures.refusal names)) in (
-      free,
-      consumed c.args.id.connection c.args.id.number c.in_ok-place.place s c.args.channel.now c.consume.new.self c.args.consume.now c.in_ok-tag.tag c.answer_consume.new.step.sends.items c.answer_consume.new.step.notes.items old new at c.in_ok-tag.ensures
-          c.answer_consume.ensures.sends (c.answer_consume.ensures.notes ∙ c.nothing-step.ensures.notes) turns,
-    )
-
-pub returns-clause-addressed : goal.returns-clause-addressed
-returns-clause-addressed c = λ said.
-    let s = c.args.depot.now in
-    let names = queue_names s.topology.queues in
-    let free : refusal_of_consume s.topology (seen s c.args.channel.now) c.args.consume.now ≡ None =
-    sym (subst (λ (t : Topology). None ≡ refusal_of_consume t (seen s c.args.channel.now) c.args.consume.now) c.topology.ensures (c.in_ok-place.ensures.refusal names)) in
-    c.answer_consume.ensures.addressed
-    (subst (λ (tag : Text). length tag < 256) (sym (c.in_ok-tag.ensures.named names)) (tag_short (seen s c.args.channel.now) c.args.consume.now (none_against s.topology (seen s c.args.channel.now) c.args.consume.now free) said.1.1.0))
-
-pub returns-clause-placed : goal.returns-clause-placed
-returns-clause-placed c =
-    let t = c.args.depot.now.topology in
-    let at : IsQueueIndex t c.args.consume.now.queue c.in_ok-place.place = subst (λ (x : Topology). IsQueueIndex x c.args.consume.now.queue c.in_ok-place.place) c.topology.ensures c.in_ok-place.ensures.index in
-    placed_made t c.args.channel.now c.consume.new.self c.in_ok-place.place c.args.consume.now c.in_ok-tag.tag at.within c.in_ok-tag.ensures c.requires
+    let at : IsQueueIndex s.topology m.queue c.in_ok-place.place = subst (λ (t : Topology). IsQueueIndex t m.queue c.in_ok-place.place) c.topology.ensures c.in_ok-place.ensures.index in
+    let free : refusal_of_consume s.topology (seen s ch) m ≡ None = sym (subst (λ (t : Topology). None ≡ refusal_of_consume t (seen s ch) m) c.topology.ensures (c.in_ok-place.ensures.refusal names)) in
+    record {
+      commands = λ content old new turns. (
+        free,
+        consumed c.args.id.connection c.args.id.number c.in_ok-place.place s ch c.consume.new.self m c.in_ok-tag.tag c.answer_consume.new.step.sends.items c.answer_consume.new.step.notes.items old new at c.in_ok-tag.ensures
+            c.answer_consume.ensures.sends (c.answer_consume.ensures.notes ∙ c.nothing-step.ensures.notes) turns,
+      );
+      addressed = λ said.
+          c.answer_consume.ensures.addressed
+          (subst (λ (tag : Text). length tag < 256) (sym (c.in_ok-tag.ensures.named names)) (tag_short (seen s ch) m (none_against s.topology (seen s ch) m free) said.1.1.0));
+      placed = placed_made s.topology ch c.consume.new.self c.in_ok-place.place m c.in_ok-tag.tag at.within c.in_ok-tag.ensures c.requires;
+      err = tt;
+    }

@@ -6,7 +6,7 @@ use Rattle.commands.proofs.commands.limiting.limit.Goals as goal
 
 pub returns-clause-commands : goal.returns-clause-commands
 returns-clause-commands c = λ s content old new turns. (
-  sym c.in_ok-check_qos.ensures,
+  sym c.in_ok-check_implemented.ensures,
   does_here c.args.id.connection c.args.id.number s (seen s c.args.channel.now) (seen s c.limit.new.self) (limited (seen s c.args.channel.now) c.args.qos.now)
       c.in_ok-step.step.sends.items (reply c.args.id.connection c.args.id.number BasicQosOk ∷ []) c.in_ok-step.step.notes.items old new
       (c.in_ok-step.ensures.sends ∙ ap (λ (x : Send). x ∷ []) c.qos_ok.ensures.send) c.in_ok-step.ensures.notes

@@ -1,6 +1,5 @@
-use Rattle.commands.proofs.Names.{◌≡◌, sym, subst, Result, Ok, Stop, AnswersOn, IsNotPerformed, UnlessPerformed, Done, Performed, Acted, ReportsEnd, ReportsConsumersOn, broker_of}
+use Rattle.commands.proofs.Names.{◌≡◌, sym, subst, Result, Ok, Stop, AnswersOn, IsNotPerformed, Done, Performed, Acted, ReportsEnd, ReportsConsumersOn, broker_of}
 use Rattle.std.proofs.Common.{Some}
-use Rattle.commands.specs.declared.commands.Done.TheVariants.{Left}
 use Rattle.commands.proofs.Ending.{leaving_runs}
 use Rattle.commands.proofs.Remaining.{performed_reports}
 use Rattle.commands.proofs.Commanding.{left_can, left_done, left_own}
@@ -8,24 +7,15 @@ use Rattle.commands.proofs.cores.Core.command.Goals as goal
 
 pub finish-requires-clause-can : goal.finish-requires-clause-can
 finish-requires-clause-can c =
-    let is : c.in-Some-Ok-Left.field-0 ≡ Ok (Left c.in-Some-Ok-Left.left) = cc (c.in-Some-Ok-Left.field-0-is, c.in-Some-Ok-Left.field-0-0-is) in
-    let answers = subst (λ (r : Result Done Stop). AnswersOn c.args.self.now c.args.id.connection c.args.id.number c.args.method.now c.args.content.now (Some r) c.decide.new.self) is c.in-Some-Ok-Left.ensures.answers in
-    let same = subst (λ (r : Result Done Stop). UnlessPerformed r (c.decide.new.self ≡ c.args.self.now)) is c.in-Some-Ok-Left.ensures.kept in
-    left_can c.args.self.now c.decide.new.self c.args.id.connection c.args.id.number c.args.method.now c.args.content.now c.in-Some-Ok-Left.left same answers
+    left_can c.args.self.now c.decide.new.self c.args.id.connection c.args.id.number c.args.method.now c.args.content.now c.in-Some-Ok-Left.left c.in-Some-Ok-Left.field-0 (cc (c.in-Some-Ok-Left.field-0-is, c.in-Some-Ok-Left.field-0-0-is)) c.in-Some-Ok-Left.ensures.kept c.in-Some-Ok-Left.ensures.answers
 
 pub returns-in-Some-Ok-Left-clause-ok : goal.returns-in-Some-Ok-Left-clause-ok
 returns-in-Some-Ok-Left-clause-ok c =
-    let is : c.in-Some-Ok-Left.field-0 ≡ Ok (Left c.in-Some-Ok-Left.left) = cc (c.in-Some-Ok-Left.field-0-is, c.in-Some-Ok-Left.field-0-0-is) in
-    let answers = subst (λ (r : Result Done Stop). AnswersOn c.args.self.now c.args.id.connection c.args.id.number c.args.method.now c.args.content.now (Some r) c.decide.new.self) is c.in-Some-Ok-Left.ensures.answers in
-    let same = subst (λ (r : Result Done Stop). UnlessPerformed r (c.decide.new.self ≡ c.args.self.now)) is c.in-Some-Ok-Left.ensures.kept in
-    left_done c.args.self.now c.decide.new.self c.finish.new.self c.args.id.connection c.args.id.number c.args.method.now c.args.content.now c.in-Some-Ok-Left.left c.finish.result same answers c.finish.ensures.ok
+    left_done c.args.self.now c.decide.new.self c.args.id.connection c.args.id.number c.args.method.now c.args.content.now c.in-Some-Ok-Left.left c.in-Some-Ok-Left.field-0 (cc (c.in-Some-Ok-Left.field-0-is, c.in-Some-Ok-Left.field-0-0-is)) c.in-Some-Ok-Left.ensures.kept c.in-Some-Ok-Left.ensures.answers c.finish.new.self c.finish.result c.finish.ensures.ok
 
 pub returns-in-Some-Ok-Left-clause-addressed : goal.returns-in-Some-Ok-Left-clause-addressed
 returns-in-Some-Ok-Left-clause-addressed c =
-    let is : c.in-Some-Ok-Left.field-0 ≡ Ok (Left c.in-Some-Ok-Left.left) = cc (c.in-Some-Ok-Left.field-0-is, c.in-Some-Ok-Left.field-0-0-is) in
-    let answers = subst (λ (r : Result Done Stop). AnswersOn c.args.self.now c.args.id.connection c.args.id.number c.args.method.now c.args.content.now (Some r) c.decide.new.self) is c.in-Some-Ok-Left.ensures.answers in
-    let same = subst (λ (r : Result Done Stop). UnlessPerformed r (c.decide.new.self ≡ c.args.self.now)) is c.in-Some-Ok-Left.ensures.kept in
-    left_own c.args.self.now c.decide.new.self c.args.id.connection c.args.id.number c.args.method.now c.args.content.now c.in-Some-Ok-Left.left c.finish.result same answers c.finish.ensures.addressed
+    left_own c.args.self.now c.decide.new.self c.args.id.connection c.args.id.number c.args.method.now c.args.content.now c.in-Some-Ok-Left.left c.in-Some-Ok-Left.field-0 (cc (c.in-Some-Ok-Left.field-0-is, c.in-Some-Ok-Left.field-0-0-is)) c.in-Some-Ok-Left.ensures.kept c.in-Some-Ok-Left.ensures.answers c.finish.result c.finish.ensures.addressed
 
 -- what it ends is told
 pub returns-in-Some-Ok-Performed-clause-ended : goal.returns-in-Some-Ok-Performed-clause-ended

@@ -8,13 +8,16 @@ use Rattle.commands.proofs.cores.Core.go.Goals as goal
 pub requeue_all-requires : goal.requeue_all-requires
 requeue_all-requires c = within_at (record { store = c.self.inside.depot; connections = c.self.inside.connections }) c.args.connection (option_copied c.get.result) c.get.ensures c.self.invariant
 
-pub returns-clause-gone : goal.returns-clause-gone
-returns-clause-gone c =
+pub returns : goal.returns
+returns c =
     let old : Kept = record { store = c.self.inside.depot; connections = c.self.inside.connections } in
     let new : Kept = record { store = c.requeue_all.new.depot; connections = c.remove.new.self } in
     let freed : IsFreed (by_connection c.args.connection) old.store new.store =
     connection_is_freed old c.args.self.now c.args.connection (option_copied c.get.result) new.store c.self.view_is c.requires c.get.ensures c.requeue_all.ensures in
-    rw (← c.self.view_is) (gone_is old new c.args.connection freed c.remove.ensures)
+    record {
+      gone = rw (← c.self.view_is) (gone_is old new c.args.connection freed c.remove.ensures);
+      topology = freed.topology ∙ ap topology_kept c.self.view_is;
+    }
 
 pub invariant_of-self : goal.invariant_of-self
 invariant_of-self c =
@@ -23,10 +26,3 @@ invariant_of-self c =
     let freed : IsFreed (by_connection c.args.connection) old.store new.store =
     connection_is_freed old c.args.self.now c.args.connection (option_copied c.get.result) new.store c.self.view_is c.requires c.get.ensures c.requeue_all.ensures in
     placed_gone old new c.args.connection freed.topology c.remove.ensures.channels_are c.self.invariant
-
-pub returns-clause-topology : goal.returns-clause-topology
-returns-clause-topology c =
-    let old : Kept = record { store = c.self.inside.depot; connections = c.self.inside.connections } in
-    let freed : IsFreed (by_connection c.args.connection) old.store c.requeue_all.new.depot =
-    connection_is_freed old c.args.self.now c.args.connection (option_copied c.get.result) c.requeue_all.new.depot c.self.view_is c.requires c.get.ensures c.requeue_all.ensures in
-    freed.topology ∙ ap topology_kept c.self.view_is

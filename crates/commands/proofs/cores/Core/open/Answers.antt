@@ -11,19 +11,18 @@ requeue_all-requires c =
     let before : option_copied c.as_ref.result ≡ running_in old.connections c.args.connection = c.as_ref.ensures.value ∙ c.in_ok-before.ensures.before in
     within_at old c.args.connection (option_copied c.as_ref.result) before c.self.invariant
 
-pub returns-clause-ok : goal.returns-clause-ok
-returns-clause-ok c =
+pub returns : goal.returns
+returns c =
     let old : Kept = record { store = c.self.inside.depot; connections = c.self.inside.connections } in
     let new : Kept = record { store = c.requeue_all.new.depot; connections = c.open.new.self } in
     let before : option_copied c.as_ref.result ≡ running_in old.connections c.args.connection = c.as_ref.ensures.value ∙ c.in_ok-before.ensures.before in
     let freed : IsFreed (by_connection c.args.connection) old.store new.store =
     connection_is_freed old c.args.self.now c.args.connection (option_copied c.as_ref.result) new.store c.self.view_is c.requires before c.requeue_all.ensures in
-    rw (← c.self.view_is)
-    (record {
-      sent = refl;
-      noted = refl;
-      left = opened_is old new c.args.connection c.args.channel_max c.args.channels freed c.in_ok-before.ensures.ok;
-    })
+    record {
+      ok = rw (← c.self.view_is) (record { sent = refl; noted = refl; left = opened_is old new c.args.connection c.args.channel_max c.args.channels freed c.in_ok-before.ensures.ok });
+      topology = freed.topology ∙ ap topology_kept c.self.view_is;
+      err = tt;
+    }
 
 pub invariant_of-self-2 : goal.invariant_of-self-2
 invariant_of-self-2 c =
@@ -33,11 +32,3 @@ invariant_of-self-2 c =
     let freed : IsFreed (by_connection c.args.connection) old.store new.store =
     connection_is_freed old c.args.self.now c.args.connection (option_copied c.as_ref.result) new.store c.self.view_is c.requires before c.requeue_all.ensures in
     placed_opened old new c.args.connection c.args.channel_max c.args.channels freed.topology c.in_ok-before.ensures.ok c.self.invariant
-
-pub returns-clause-topology : goal.returns-clause-topology
-returns-clause-topology c =
-    let old : Kept = record { store = c.self.inside.depot; connections = c.self.inside.connections } in
-    let before : option_copied c.as_ref.result ≡ running_in old.connections c.args.connection = c.as_ref.ensures.value ∙ c.in_ok-before.ensures.before in
-    let freed : IsFreed (by_connection c.args.connection) old.store c.requeue_all.new.depot =
-    connection_is_freed old c.args.self.now c.args.connection (option_copied c.as_ref.result) c.requeue_all.new.depot c.self.view_is c.requires before c.requeue_all.ensures in
-    freed.topology ∙ ap topology_kept c.self.view_is

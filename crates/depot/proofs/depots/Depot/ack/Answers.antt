@@ -1,8 +1,8 @@
-use Rattle.depot.proofs.Names.{◌≡◌, ◌∙◌, ◌++◌, true, ap, sym, subst, arith, get_or, rules, length, List, Text, Topology, IsWellFormed, Leaves, left_note, is_waiting, waiting, AreWithin, Entry, Acked, Note, queue_name, given_at, Store, entries_of, IsStoreWhole, AreSettledBy, IsHeldOnce, store_of}
+use Rattle.depot.proofs.Names.{◌≡◌, ◌∙◌, ◌++◌, true, refl, ap, sym, subst, arith, get_or, rules, length, List, Text, Topology, IsWellFormed, Leaves, left_note, is_waiting, waiting, AreWithin, Entry, Acked, Note, queue_name, given_at, Store, entries_of, IsStoreWhole, AreSettledBy, IsHeldOnce, store_of}
 use Rattle.depot.proofs.Changes.{entries_of-length}
 use Rattle.depot.proofs.Rejected.{apart_by}
 use Rattle.depot.proofs.Settled.{one_left}
-use Rattle.depot.proofs.Waiting.{nothing, at_waiting}
+use Rattle.depot.proofs.Waiting.{nothing, of_next}
 use Rattle.depot.proofs.depots.Depot.ack.Goals as goal
 
 pub ack_all-requires-clause-distinct : goal.ack_all-requires-clause-distinct
@@ -15,7 +15,7 @@ leave-requires-clause-within c =
     let waits : is_waiting (get_or c.args.gone.now 0 nothing) ≡ true = search rules in
     let one : length c.args.gone.now ≡ 1 = search rules in
     let within : AreWithin c.self.inside.router (waiting c.args.gone.now) = subst (λ (s : Store). AreWithin s.topology (waiting c.args.gone.now)) (sym c.self.view_is) c.requires.within in
-    let lt = at_waiting c.self.inside.router c.args.gone.now 0 nothing within (omega (arith, one)) waits in
+    let lt = of_next _ (length c.self.inside.router.queues) c.args.gone.now 0 nothing within refl (omega (arith, one)) waits in
     let len = c.self.invariant in
     omega (arith, lt, len)
 

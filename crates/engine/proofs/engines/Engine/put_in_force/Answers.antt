@@ -1,17 +1,14 @@
 use Rattle.engine.proofs.Names.{◌∙◌, ap, sym, subst, err_from_is_err_and, Config, Topology, LinesMove, WithTurn, IsPutInForce, in_force, Parts, world_of, IsEngine}
 use Rattle.model.specs.Reloading.{NoneIsOrphaned}
-use Rattle.runs.specs.Reloaded.{NothingHinders}
 use Rattle.broker.specs.Turns.{topology_kept, broker_of}
-use Rattle.engine.proofs.Putting.{takes, offered_sound, put_world, put_engine}
+use Rattle.engine.proofs.Putting.{unhindered, takes, offered_sound, put_world, put_engine}
 use Rattle.engine.proofs.engines.Engine.put_in_force.Goals as goal
 
 pub reload-requires : goal.reload-requires
 reload-requires c =
     let i = c.self.inside in
     let old : Parts = record { broker = i.broker; guarantees = i.guarantees.items; users = i.users.items; given = i.given; connections = i.connections.items } in
-    let given = c.into_parts-checked in
-    let nothing : NothingHinders (world_of old) (in_force given.result.0 given.result.1.items) =
-    subst (λ (s : Config). NothingHinders (world_of old) s) given.ensures (subst (λ (p : Parts). NothingHinders (world_of p) c.args.setup) (sym c.self.view_is) c.requires.nothing) in
+    let nothing = unhindered {old = old} c.self.view_is c.into_parts-checked.ensures c.requires.nothing in
     subst (λ (t : Topology). NoneIsOrphaned (topology_kept i.broker) t (broker_of i.broker)) (sym c.into_parts-topology.ensures.topology) nothing.none_stranded
 
 pub invariant_of-self : goal.invariant_of-self
@@ -43,8 +40,7 @@ invariant_of-self-2 c =
     let old : Parts = record { broker = i.broker; guarantees = i.guarantees.items; users = i.users.items; given = i.given; connections = i.connections.items } in
     let given = c.into_parts-checked in
     let parts = c.into_parts-topology in
-    let nothing : NothingHinders (world_of old) (in_force given.result.0 given.result.1.items) =
-    subst (λ (s : Config). NothingHinders (world_of old) s) given.ensures (subst (λ (p : Parts). NothingHinders (world_of p) c.args.setup) (sym c.self.view_is) c.requires.nothing) in
+    let nothing = unhindered {old = old} c.self.view_is given.ensures c.requires.nothing in
     put_engine old _ _ c.self.invariant (offered_sound given.result.0 given.result.1.items parts.result.0 parts.result.1.items parts.ensures.topology parts.ensures.guarantees parts.ensures.hold parts.ensures.well_formed)
     (takes old c.reload.new.self given.result.0 given.result.1.items parts.result.0 parts.result.1.items parts.ensures.topology parts.ensures.guarantees nothing c.in_ok-reload.ensures.topology c.in_ok-reload.ensures.survived)
 
@@ -55,8 +51,7 @@ returns-clause-done c =
     let given = c.into_parts-checked in
     let parts = c.into_parts-topology in
     let new : Parts = record old { broker = c.reload.new.self; guarantees = parts.result.1.items; users = given.result.1.items } in
-    let nothing : NothingHinders (world_of old) (in_force given.result.0 given.result.1.items) =
-    subst (λ (s : Config). NothingHinders (world_of old) s) given.ensures (subst (λ (p : Parts). NothingHinders (world_of p) c.args.setup) (sym c.self.view_is) c.requires.nothing) in
+    let nothing = unhindered {old = old} c.self.view_is given.ensures c.requires.nothing in
     let put : IsPutInForce (world_of old) (in_force given.result.0 given.result.1.items) (world_of new) =
     put_world old new _ (takes old c.reload.new.self given.result.0 given.result.1.items parts.result.0 parts.result.1.items parts.ensures.topology parts.ensures.guarantees nothing c.in_ok-reload.ensures.topology c.in_ok-reload.ensures.survived) in
     subst (λ (p : Parts). IsPutInForce (world_of p) c.args.setup (world_of new)) c.self.view_is (subst (λ (s : Config). IsPutInForce (world_of old) s (world_of new)) (sym given.ensures) put)

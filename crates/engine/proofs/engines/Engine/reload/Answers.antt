@@ -1,5 +1,6 @@
-use Rattle.engine.proofs.Names.{refl, sym, subst, err_from_is_err_and, Option, Obstacle, Config, MayWant, none_gone, JudgesOffered, engine_lacks, To_reload, IsPutInForce, in_force, world_of}
+use Rattle.engine.proofs.Names.{refl, sym, subst, err_from_is_err_and, Option, Obstacle, Config, puts, judges, JudgesOffered, IsPutInForce, in_force, world_of}
 use Rattle.runs.specs.Reloaded.{NothingHinders, ReportsWhyNot}
+use Rattle.engine.specs.Allocating.{JudgingOfferMayAllocate}
 use Rattle.engine.proofs.Putting.{same_engine, told_is_no_memory}
 use Rattle.engine.proofs.engines.Engine.reload.Goals as goal
 
@@ -20,7 +21,7 @@ returns-in_err-obstacle-clause-lines c =
 
 pub returns-in_err-obstacle-clause-wants : goal.returns-in_err-obstacle-clause-wants
 returns-in_err-obstacle-clause-wants c = λ memory.
-    subst (λ (s : Config). engine_lacks (world_of c.args.self.now) (To_reload s)) c.new-setup.ensures c.in_err-obstacle.ensures.wants
+    judges (subst (λ (s : Config). JudgingOfferMayAllocate (world_of c.args.self.now) s) c.new-setup.ensures c.in_err-obstacle.ensures.wants)
 
 pub returns-in-Some-clause-reported : goal.returns-in-Some-clause-reported
 returns-in-Some-clause-reported c =
@@ -56,7 +57,7 @@ pub returns-in_err-put_in_force-clause-wants : goal.returns-in_err-put_in_force-
 returns-in_err-put_in_force-clause-wants c = λ memory.
     let w = world_of c.args.self.now in
     let nothing : NothingHinders w c.new-setup.result = subst (λ (o : Option Obstacle). JudgesOffered w c.new-setup.result o) c.in_default.is c.in_ok-obstacle.ensures.reported in
-    subst (λ (s : Config). MayWant w.config.topology s.topology w.state.broker) c.new-setup.ensures (none_gone nothing.none_stranded)
+    puts (subst (λ (s : Config). NothingHinders w s) c.new-setup.ensures nothing)
 
 pub returns-clause-reported : goal.returns-clause-reported
 returns-clause-reported c =

@@ -7,7 +7,7 @@ pub invariant_of-self : goal.invariant_of-self
 invariant_of-self c = (
   hold_shows _ _ _ _ _ _ c.args.holder c.self.invariant.0 c.in-Some.ensures.some c.clear.ensures c.hold_at.ensures.contents
       (subst (λ (l : Stretch). find (is_held_as c.args.holder) l.entries ≡ None) (sym c.self.view_is) c.requires),
-  same_bits _ _ _ _ c.self.invariant.1 c.hold_at.ensures.capacity c.clear.ensures.places,
+  same_bits _ _ _ _ c.self.invariant.1 c.hold_at.ensures.size.1 c.clear.ensures.places,
 )
 
 pub returns-in-None-clause-reported : goal.returns-in-None-clause-reported

@@ -9,7 +9,7 @@ pub invariant_of-self : goal.invariant_of-self
 invariant_of-self c =
     let t = subst (λ (ss : List Slot). slot_has (is_held_as c.args.holder.now) (get_or (contents ss) c.in-Some.place None) ≡ true) c.deref.ensures.value c.in-Some.ensures.some in (
       release_shows _ _ _ _ _ _ c.args.holder.now c.self.invariant.0 t c.set_ready.ensures c.free_at.ensures.contents,
-      same_bits _ _ _ _ c.self.invariant.1 c.free_at.ensures.capacity c.set_ready.ensures.places,
+      same_bits _ _ _ _ c.self.invariant.1 c.free_at.ensures.size.1 c.set_ready.ensures.places,
     )
 
 pub returns-in-None-clause-reported : goal.returns-in-None-clause-reported

@@ -15,7 +15,7 @@ invariant_of-self c =
     let t = subst (λ (ss : List Slot). slot_has (is_held_as c.args.holder.now) (get_or (contents ss) c.in-Some.place None) ≡ true) c.deref.ensures.value c.in-Some.ensures.some in
     let least = held_least _ _ _ _ c.args.holder.now c.self.invariant.0 t in (
       remove_shows _ _ _ _ _ _ _ c.args.holder.now c.self.invariant.0 t c.clear.ensures c.take_at.ensures.contents (omega (arith, least)),
-      same_bits _ _ _ _ c.self.invariant.1 c.take_at.ensures.capacity c.clear.ensures.places,
+      same_bits _ _ _ _ c.self.invariant.1 c.take_at.ensures.size.1 c.clear.ensures.places,
     )
 
 pub returns-in-None-clause-taken : goal.returns-in-None-clause-taken

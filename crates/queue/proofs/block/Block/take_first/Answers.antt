@@ -10,7 +10,7 @@ pub invariant_of-self : goal.invariant_of-self
 invariant_of-self c =
     let least = ready_least _ _ _ _ c.self.invariant.0 c.in-Some.ensures.some in (
       take_shows _ _ _ _ _ _ _ c.self.invariant.0 c.in-Some.ensures.some c.clear.ensures c.take_at.ensures.contents (omega (arith, least)),
-      same_bits _ _ _ _ c.self.invariant.1 c.take_at.ensures.capacity c.clear.ensures.places,
+      same_bits _ _ _ _ c.self.invariant.1 c.take_at.ensures.size.1 c.clear.ensures.places,
     )
 
 pub returns-in-None-clause-taken : goal.returns-in-None-clause-taken

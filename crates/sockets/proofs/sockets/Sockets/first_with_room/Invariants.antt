@@ -1,11 +1,10 @@
 use Rattle.std.proofs.Common.{◌≡◌, ◌≤◌, ◌-◌}
+use Rattle.sockets.specs.Traffic.{traffic_of}
 use Rattle.sockets.proofs.sockets.Sockets.first_with_room.Given as goal
 
 abbrev pub invariant-loop-slot : goal.invariant-loop-slot
 invariant-loop-slot l = record {
-  failures : l.self.failures ≡ l.fn.self.failures;
-  counts : l.self.counts ≡ l.fn.self.counts;
-  given : l.self.given ≡ l.fn.self.given;
+  traffic : traffic_of l.self ≡ traffic_of l.fn.self;
   least : l.from ≤ l.slot;
   most : l.slot ≤ l.end;
 }

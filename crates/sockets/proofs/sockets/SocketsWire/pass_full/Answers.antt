@@ -1,5 +1,5 @@
-use Rattle.std.proofs.Common.{◌≡◌, ◌-◌, ◌∙◌, ℕ, zero, suc, List, [], ◌∷◌, Option, Some, None, refl, sym, ap, subst, drop, arith, ◌⊎◌, inl, inr}
-use Rattle.serving.specs.Wire.{Accepted, NoneTakes, Nothing_taken, TakesNothing, AddsCalls, Traffic}
+use Rattle.std.proofs.Common.{◌≡◌, ◌-◌, ℕ, zero, suc, List, [], ◌∷◌, Option, Some, None, refl, sym, subst, drop, arith, ◌⊎◌, inl, inr}
+use Rattle.serving.specs.Wire.{Accepted, NoneTakes, Nothing_taken, TakesNothing, Traffic}
 use Rattle.serving.specs.declared.peers.Peer.{Peer}
 use Rattle.sockets.specs.Counts.{traffic_with}
 use Rattle.sockets.specs.Traffic.{traffic_of}
@@ -26,11 +26,7 @@ none_takes failures given counts output (suc n) (Some p ∷ ps) =
 pub returns-clause-traffic : goal.returns-clause-traffic
 returns-clause-traffic c = λ output.
     let old = c.args.self.now in
-    let new = c.first_with_room.new.self in
-    let same = c.first_with_room.ensures in
     let ps = c.args.peers.now.slots in
     let from = c.args.from in
-    let traffic : traffic_of new ≡ traffic_of old = ap (λ (n : ℕ). traffic_with n new.given new.counts.items) same.failures ∙ ap (λ (n : ℕ). traffic_with old.failures n new.counts.items) same.given
-    ∙ ap (λ counts. traffic_with old.failures old.given counts.items) same.counts in
-    subst (λ (t : Traffic). NoneTakes output (c.first_with_room.result - from) (drop from ps) (traffic_of old) t) (sym traffic)
+    subst (λ (t : Traffic). NoneTakes output (c.first_with_room.result - from) (drop from ps) (traffic_of old) t) (sym c.first_with_room.ensures.traffic)
     (none_takes old.failures old.given old.counts.items output (c.first_with_room.result - from) (drop from ps))

@@ -1,5 +1,6 @@
 use Rattle.std.proofs.Common.{◌≡◌, ◌<◌, ◌+◌, ◌-◌, ◌∙◌, ℕ, zero, suc, List, [], ◌∷◌, true, Option, Some, None, refl, sym, ap, subst, drop, arith, ◌⊎◌, inl, inr}
 use Rattle.std.proofs.lemmas.Bool.{false≢true}
+use Rattle.std.proofs.lemmas.List.{get_or-drop}
 use Rattle.std.specs.Prelude.{is_some, slice_index_or}
 use Rattle.serving.specs.Wire.{Accepted, AllWait, Nothing_got, AddsCalls, Traffic, least_room}
 use Rattle.serving.specs.declared.peers.Peer.{Peer}
@@ -25,25 +26,12 @@ all_wait failures given counts (suc n) (None ∷ ps) taken = absurd (false≢tru
 all_wait failures given counts (suc n) (Some p ∷ ps) taken =
     (traffic_with failures given counts, nothing_added failures given counts p.socket, all_wait failures given counts n ps (λ i lt. taken (suc i) (omega (arith, lt))))
 
-at_drop : (ps : List (Option Peer)) (i j : ℕ) → slice_index_or (drop i ps) j None ≡ slice_index_or ps (i + j) None
-at_drop [] zero j = refl
-at_drop [] (suc i) j = refl
-at_drop (o ∷ ps) zero j =
-    let same : j ≡ 0 + j = omega arith in
-    ap (λ (k : ℕ). slice_index_or (o ∷ ps) k None) same
-at_drop (o ∷ ps) (suc i) j =
-    let same : suc (i + j) ≡ suc i + j = omega arith in
-    at_drop ps i j ∙ ap (λ (k : ℕ). slice_index_or (o ∷ ps) k None) same
-
 pub returns-clause-traffic : goal.returns-clause-traffic
 returns-clause-traffic c =
     let old = c.args.self.now in
-    let new = c.first_asked.new.self in
     let same = c.first_asked.ensures in
     let ps = c.args.peers.now.slots in
     let from = c.args.from in
-    let traffic : traffic_of new ≡ traffic_of old = ap (λ (n : ℕ). traffic_with n new.given new.counts.items) same.failures ∙ ap (λ (n : ℕ). traffic_with old.failures n new.counts.items) same.given
-    ∙ ap (λ counts. traffic_with old.failures old.given counts.items) same.counts in
     let taken : (i : ℕ) → i < c.first_asked.result - from → is_some (slice_index_or (drop from ps) i None) ≡ true =
-    λ i lt. ap is_some (at_drop ps from i) ∙ same.taken (from + i) (omega arith) (omega (arith, lt)) in
-    subst (λ (t : Traffic). AllWait (c.first_asked.result - from) (drop from ps) (traffic_of old) t) (sym traffic) (all_wait old.failures old.given old.counts.items (c.first_asked.result - from) (drop from ps) taken)
+    λ i lt. ap is_some (get_or-drop from ps i None) ∙ same.taken (from + i) (omega arith) (omega (arith, lt)) in
+    subst (λ (t : Traffic). AllWait (c.first_asked.result - from) (drop from ps) (traffic_of old) t) (sym same.traffic) (all_wait old.failures old.given old.counts.items (c.first_asked.result - from) (drop from ps) taken)

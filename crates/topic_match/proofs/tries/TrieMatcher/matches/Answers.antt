@@ -1,7 +1,7 @@
 use Rattle.topic_match.proofs.Names.{List, subst, ◌∙◌, IfOk, Token, AreMatches}
 use Rattle.topic_match.proofs.tries.TrieMatcher.matches.Goals as goal
 
-pub returns-then-are_few : goal.returns-then-are_few
-returns-then-are_few c =
+pub returns : goal.returns
+returns c =
     subst (λ (patterns : List (List Token)). IfOk c.matches_one_by_one.result (λ indices. AreMatches patterns c.args.key.now indices.items))
-    (c.as_slice.ensures.value ∙ c.self.view_is) c.matches_one_by_one.ensures
+    (c.as_slice-patterns.ensures.value ∙ c.self.view_is) c.matches_one_by_one.ensures

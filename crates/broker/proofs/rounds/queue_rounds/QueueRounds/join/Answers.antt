@@ -4,16 +4,15 @@ use Rattle.broker.proofs.Marked.{borrowed, marked_more, marked_set, keep_set}
 use Rattle.broker.proofs.Orders.{adds_set}
 use Rattle.broker.proofs.rounds.queue_rounds.QueueRounds.join.Goals as goal
 
-pub join-requires-clause-room : goal.join-requires-clause-room
-join-requires-clause-room c =
+pub join-requires : goal.join-requires
+join-requires c =
     let lt = subst (λ (xs : List Waiters). c.args.queue < length xs) (sym c.self.view_is) c.requires.within in
-    subst HasRoom (borrowed c.self.inside.rounds.items c.args.queue c.index_mut.result.now lt c.index_mut.ensures.value) (subst (λ (xs : List Waiters). HasRoom (round_at xs c.args.queue)) (sym c.self.view_is) c.requires.room)
-
-pub join-requires-clause-absent : goal.join-requires-clause-absent
-join-requires-clause-absent c =
-    let lt = subst (λ (xs : List Waiters). c.args.queue < length xs) (sym c.self.view_is) c.requires.within in
-    subst (λ (r : Waiters). IsIn c.args.consumer (order r) → ⊥) (borrowed c.self.inside.rounds.items c.args.queue c.index_mut.result.now lt c.index_mut.ensures.value)
-    (subst (λ (xs : List Waiters). IsIn c.args.consumer (order (round_at xs c.args.queue)) → ⊥) (sym c.self.view_is) c.requires.absent)
+    let here = borrowed c.self.inside.rounds.items c.args.queue c.index_mut.result.now lt c.index_mut.ensures.value in
+    record {
+      room = subst HasRoom here (subst (λ (xs : List Waiters). HasRoom (round_at xs c.args.queue)) (sym c.self.view_is) c.requires.room);
+      absent = subst (λ (r : Waiters). IsIn c.args.consumer (order r) → ⊥) here
+          (subst (λ (xs : List Waiters). IsIn c.args.consumer (order (round_at xs c.args.queue)) → ⊥) (sym c.self.view_is) c.requires.absent);
+    }
 
 pub returns-clause-kept : goal.returns-clause-kept
 returns-clause-kept c = λ k.

@@ -1,43 +1,36 @@
-use Rattle.broker.proofs.Names.{◌∙◌, ◌≤◌, length, filter, vec_len, refl, ap, arith, rules, length-filter, count_by-le-length, listings_of, is_listed_there}
+use Rattle.broker.proofs.Names.{length, vec_len, inl, inr, arith, rules, leb_tells, listings_of, is_listed_there}
 use Rattle.std.proofs.Common.{◌≡◌}
-use Rattle.broker.proofs.Later.{filter_full}
+use Rattle.broker.proofs.Later.{all_left, swept_fits}
 use Rattle.broker.proofs.Listed.{kept_swept, kept_all}
 use Rattle.broker.proofs.rounds.sleepers.leaving.remove_gone.Goals as goal
 
--- where some are gone
-pub mark_between-requires-clause-room : goal.mark_between-requires-clause-room
-mark_between-requires-clause-room c =
-    let test = is_listed_there c.args.core.now in
-    let is = c.len-then-len-before.ensures in
-    let same = ap length c.sweep.ensures.listed in
-    let stay = length-filter test c.args.listed.now.items in
-    let fewer = count_by-le-length test c.args.listed.now.items in
-    let room = c.requires in
-    omega (arith, is, same, stay, fewer, room)
+pub mark_if_fewer-requires : goal.mark_if_fewer-requires
+mark_if_fewer-requires c =
+    let left = c.len.ensures in
+    let fits = swept_fits (is_listed_there c.args.core.now) c.args.listed.now.items c.sweep.new.listed.items _ c.sweep.ensures.listed c.requires in
+    omega (arith, left, fits)
 
-pub returns-then-len-before-clause-kept : goal.returns-then-len-before-clause-kept
-returns-then-len-before-clause-kept c =
-    kept_swept c.args.core.now (listings_of c.args.listed.now.items c.args.asleep.now) (listings_of c.sweep.new.listed.items c.mark_between.new.marks) c.sweep.ensures.listed
-    (λ i lt. c.mark_between.ensures.marked i (omega arith) (let is = c.len-then-len-before.ensures in omega (arith, is, lt)))
+pub returns-clause-marks : goal.returns-clause-marks
+returns-clause-marks c =
+    let same = c.mark_if_fewer.ensures.len in
+    let fits = swept_fits (is_listed_there c.args.core.now) c.args.listed.now.items c.sweep.new.listed.items _ c.sweep.ensures.listed c.requires in
+    omega (arith, same, fits)
 
--- where none is
-pub returns-else-len-before-clause-marks : goal.returns-else-len-before-clause-marks
-returns-else-len-before-clause-marks c =
-    let test = is_listed_there c.args.core.now in
-    let same = ap length c.sweep.ensures.listed in
-    let stay = length-filter test c.args.listed.now.items in
-    let fewer = count_by-le-length test c.args.listed.now.items in
-    let room = c.requires in
-    omega (arith, same, stay, fewer, room)
-
-pub returns-else-len-before-clause-kept : goal.returns-else-len-before-clause-kept
-returns-else-len-before-clause-kept c =
-    let test = is_listed_there c.args.core.now in
+pub returns-clause-kept : goal.returns-clause-kept
+returns-clause-kept c =
+    let old = c.args.listed.now.items in
+    let new = c.sweep.new.listed.items in
     let first = c.len-before.ensures in
     let left = c.len.ensures in
-    let before : vec_len c.args.listed.now ≡ length c.args.listed.now.items = search rules in
-    let after : vec_len c.sweep.new.listed ≡ length c.sweep.new.listed.items = search rules in
-    let same = ap length c.sweep.ensures.listed in
-    let none = c.if-len-before.false in
-    let full : length c.args.listed.now.items ≤ length (filter test c.args.listed.now.items) = omega (arith, first, left, before, after, same, none) in
-    kept_all c.args.core.now (listings_of c.args.listed.now.items c.args.asleep.now) (listings_of c.sweep.new.listed.items c.args.asleep.now) (c.sweep.ensures.listed ∙ filter_full test c.args.listed.now.items full) refl
+    let before : vec_len c.args.listed.now ≡ length old = search rules in
+    let after : vec_len c.sweep.new.listed ≡ length new = search rules in
+    elim (leb_tells (length old) (length new)) [
+      | inl a ↦
+          let all = a.1 in
+          kept_all c.args.core.now (listings_of old c.args.asleep.now) (listings_of new c.mark_if_fewer.new.marks) (all_left (is_listed_there c.args.core.now) old new c.sweep.ensures.listed all)
+          (c.mark_if_fewer.ensures.same (omega (arith, all, first, left, before, after)))
+      | inr a ↦
+          let fewer = a.1 in
+          kept_swept c.args.core.now (listings_of old c.args.asleep.now) (listings_of new c.mark_if_fewer.new.marks) c.sweep.ensures.listed
+          (λ i lt. c.mark_if_fewer.ensures.marked (omega (arith, fewer, first, left, before, after)) i (omega (arith, lt, left, after)))
+    ]

@@ -1,4 +1,4 @@
--- When a reload may fail to allocate (own).
+-- When judging a reload may fail to allocate (own).
 use Rattle.std.specs.Prelude.{◌≡◌, ◌<◌, ℕ, List, Bool, length, Some, slice_get}
 use Rattle.model.specs.Words.{Text}
 use Rattle.model.specs.Topology.{Topology}
@@ -16,11 +16,6 @@ use Rattle.reloading.specs.Obstacles.{ReportsQueue}
 abbrev pub IsLong : Text → Type 0
 IsLong q = 22 < length q
 
--- When a reload to the new topology may fail to allocate: if each queue in use is declared in it, or if the first that is not has a long name.
-pub data MayWant (old new : Topology) (b : Broker) : Type 0 where
-  none_gone : NoneIsOrphaned old new b → MayWant old new b
-  long_name : (q : Text) → IsFirstOrphaned old new b q → IsLong q → MayWant old new b
-
 -- Of the queues with these names, the first that is in use and that the new topology lacks has a long name.
 pub record FirstIsLong (new : Topology) (names : List Text) (entries : ℕ → List Entry) (consumed : ℕ → Bool) : Type 0 where
   pub queue : Text
@@ -34,6 +29,12 @@ pub record HasNever (gs : List Guarantee) : Type 0 where
   pub there : slice_get gs place ≡ Some guarantee
   pub never : guarantee.mode ≡ Never
 
--- For each broker with these queues: if all that are in use are declared in the new topology, one of the guarantees is a `never`.
-abbrev pub HasNeverIfKept : Topology → (ℕ → List Entry) → (ℕ → Bool) → Topology → List Guarantee → Type 0
-HasNeverIfKept old entries consumed new gs = (b : Broker) → ShowsQueues old entries consumed b → NoneIsOrphaned old new b → HasNever gs
+-- When judging a reload to the new topology and guarantees may fail to allocate: if the new topology declares each queue in use and one of the guarantees
+-- is a `never`, as what dead letters reach is explored then; or if the first queue in use that it lacks has a long name, which is copied.
+pub data JudgingMayAllocate (old new : Topology) (gs : List Guarantee) (b : Broker) : Type 0 where
+  explores : NoneIsOrphaned old new b → HasNever gs → JudgingMayAllocate old new gs b
+  copies : (q : Text) → IsFirstOrphaned old new b q → IsLong q → JudgingMayAllocate old new gs b
+
+-- judging may fail to allocate for each broker with these entries and consumers
+abbrev pub JudgingQueuesMayAllocate : Topology → (ℕ → List Entry) → (ℕ → Bool) → Topology → List Guarantee → Type 0
+JudgingQueuesMayAllocate old entries consumed new gs = (b : Broker) → ShowsQueues old entries consumed b → JudgingMayAllocate old new gs b

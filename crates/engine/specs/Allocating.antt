@@ -1,7 +1,8 @@
 -- When a call of an engine may fail to allocate (own).
 use Rattle.std.specs.Prelude.{◌≡◌, ◌<◌, ◌≤◌, if◌then◌else◌, ℕ, List, [], length, Bool, true, false, None, Some}
-use Rattle.reloading.specs.Wanting.{MayWant}
+use Rattle.reloading.specs.Allocating.{JudgingMayAllocate}
 use Rattle.model.specs.Consuming.{CanDeliver}
+use Rattle.model.specs.State.{Config}
 use Rattle.model.specs.Arrivals.{World, can_open, is_over, is_awake}
 use Rattle.model.specs.Spelling.{spelling}
 use Rattle.model.specs.declared.methods.Method.TheVariants.{BasicAck, BasicGet, BasicNack, BasicPublish, BasicReject}
@@ -12,18 +13,29 @@ use Rattle.outputs.specs.Storages.{SpareCounts, room_of}
 use Rattle.outputs.specs.declared.room.Room.{Room}
 use Rattle.outputs.specs.declared.room.Room.TheVariants as room
 use Rattle.engine.specs.Reading.{HasMore}
+use Rattle.runs.specs.Reloaded.{NothingHinders}
 use Rattle.runs.specs.Wants.{Want, To_open, To_open_ready, To_feed, To_turn, To_pump, To_reload}
 
+-- judging `offered` may fail to allocate
+abbrev pub JudgingOfferMayAllocate : World → Config → Type 0
+JudgingOfferMayAllocate w offered = JudgingMayAllocate w.config.topology offered.topology offered.guarantees w.state.broker
+
+-- When a reload may fail to allocate: always if there is no obstacle, as the 1,024 slots for routes are made anew whatever `offered` declares; and if
+-- judging it may.
+pub data ReloadMayAllocate (w : World) (offered : Config) : Type 0 where
+  puts : NothingHinders w offered → ReloadMayAllocate w offered
+  judges : JudgingOfferMayAllocate w offered → ReloadMayAllocate w offered
+
 -- Which calls may fail to allocate: opening if a connection can be opened; feeding if the connection is not over and there are bytes; a turn if the
--- connection is awake and a command is pending or there is something to read; a delivery if one can be made; a reload if the new topology declares
--- each queue in use, or if the first queue in use that it lacks has a name of more than 22 bytes.
-abbrev pub engine_lacks : World → Want → Type 0
-engine_lacks w To_open = can_open w ≡ true
-engine_lacks w (To_open_ready k) = can_open w ≡ true
-engine_lacks w (To_feed c bytes) = (is_over w c ≡ false) × (0 < length bytes)
-engine_lacks w (To_turn c) = (is_awake w c ≡ true) × HasMore (w.wire c).kept (w.wire c).stream
-engine_lacks w To_pump = (c : ℕ) × CanDeliver w.state.broker c
-engine_lacks w (To_reload offered) = MayWant w.config.topology offered.topology w.state.broker
+-- connection is awake and a command is pending or there is something to read; a delivery if one can be made; a reload if there is no
+-- obstacle, or if judging it may.
+abbrev pub MayAllocate : World → Want → Type 0
+MayAllocate w To_open = can_open w ≡ true
+MayAllocate w (To_open_ready k) = can_open w ≡ true
+MayAllocate w (To_feed c bytes) = (is_over w c ≡ false) × (0 < length bytes)
+MayAllocate w (To_turn c) = (is_awake w c ≡ true) × HasMore (w.wire c).kept (w.wire c).stream
+MayAllocate w To_pump = (c : ℕ) × CanDeliver w.state.broker c
+MayAllocate w (To_reload offered) = ReloadMayAllocate w offered
 
 -- the event is a command with a content, as a publish is (own)
 abbrev pub brings_message : Event → Bool
