@@ -18,7 +18,7 @@ pub struct Setting<'a> {
     pub certificates: &'a str,
 }
 
-/// Makes a call, and makes it once more if its outcome matches `$lack`, since an allocation failed; `$sum` counts that.
+/// Makes a call, and makes it again if its outcome matches `$lack`, since an allocation failed; `$sum` counts that.
 macro_rules! again {
     ($call:expr, $lack:pat, $sum:expr) => {
         match $call {

@@ -16,7 +16,7 @@ use std::io;
 /// The number of commands that one event brings at most.
 const MOST_COMMANDS: u64 = 1 << 32;
 
-/// Makes a call of `$replay`'s engine, and makes it once more if it fails, since an allocation failed. Counts that in `$counts.$sum`, and whether an
+/// Makes a call of `$replay`'s engine, and makes it again if it fails, since an allocation failed. Counts that in `$counts.$sum`, and whether an
 /// output differs after it.
 macro_rules! again {
     ($replay:expr, $call:expr, $counts:ident.$sum:ident) => {
