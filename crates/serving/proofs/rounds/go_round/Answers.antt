@@ -34,6 +34,7 @@ returns g c =
         most = subst (λ (n : ℕ). most_peers ≤ n) (sym capacity) c.requires.settled.most;
       };
       full = c.settle_all-has_settled.ensures.full;
+      capacity = capacity;
       round = record {
         met = met;
         heard = heard;
