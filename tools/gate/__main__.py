@@ -1,6 +1,7 @@
 #!/usr/bin/env python3
 """Runs the gate: `rt ci`, with as many checks side by side as processors and memory allow, and then the proved programs with growths of memory
-refused. The last line is `N passed, M failed`, both counted. RT_JOBS in the environment sets the number of checks."""
+refused. It ends with the processor time of each crate, and the last line is `N passed, M failed`, both counted. A must-fail edit that is refused only
+because a proof names what it takes away counts as failed. RT_JOBS in the environment sets the number of checks."""
 
 import os
 import re
@@ -11,6 +12,7 @@ import sys
 
 HERE = os.path.dirname(os.path.abspath(__file__))
 sys.path[:0] = [HERE, os.path.join(HERE, "../shared")]
+from costs import Costs  # noqa: E402
 from machine import checks_at_once, free_memory, processors  # noqa: E402
 from words import Parser  # noqa: E402
 
@@ -18,6 +20,7 @@ ROOT = os.path.dirname(os.path.dirname(HERE))
 STATUSES = "Status: 0 all passed; 1 something failed; 2 rt judged nothing; 3 rt or the command line is at fault; 130, 143 broken off."
 PASSED, FAILED, REFUSED = 0, 1, 3
 SUM = re.compile(r"(\d+) passed, (\d+) failed\n?")
+SAYS_LITTLE = re.compile(r"must-fail (\S+): refused, as it must be \(only because ")
 REFUSALS = os.path.join(ROOT, "examples/refusals/run")
 PROGRAMS = [os.path.join(ROOT, f"crates/{name}/out/{name}") for name in ("warren", "memory_refusals")]
 
@@ -42,8 +45,8 @@ def environment():
     return given
 
 
-def followed(command, **how):
-    """Runs a command and prints its lines as they come, but for the sum at its end; its status and that sum, if there is one."""
+def followed(command, see=lambda line: None, **how):
+    """Runs a command and prints its lines as they come, but for the sum at its end; its status and that sum, if there is one. Each line goes to `see`."""
     counts, last = None, None
     with subprocess.Popen(command, cwd=ROOT, stdin=subprocess.DEVNULL, stdout=subprocess.PIPE, **how) as running:
         try:
@@ -51,6 +54,7 @@ def followed(command, **how):
                 if last is not None:
                     show(last)
                 last = line
+                see(line.decode("utf-8", "replace"))
         except (KeyboardInterrupt, SystemExit):
             running.terminate()
             raise
@@ -80,8 +84,24 @@ def refusals():
     return counts if counts and bool(status) == bool(counts[1]) else (0, 1)
 
 
+def proofs():
+    """The status and the counts of `rt ci`; an edit whose refusal says little of a contract counts as failed."""
+    little = []
+
+    def see(line):
+        little.extend(SAYS_LITTLE.findall(line))
+
+    with Costs() as costs:
+        status, counts = followed(["rt", "ci"], see, env=environment())
+    for line in costs.lines():
+        tell(f"gate: {line}")
+    for edit in little:
+        tell(f"gate: {edit} keeps no name that a proof cites, so its refusal shows nothing of the contract: change a value")
+    return status, counts and (counts[0] - len(little), counts[1] + len(little))
+
+
 def gate():
-    status, counts = followed(["rt", "ci"], env=environment())
+    status, counts = proofs()
     if status or not counts:
         # what rt could not judge counts as one that failed
         passed, failed = counts or (0, 1)

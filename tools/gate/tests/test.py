@@ -4,6 +4,7 @@
 """
 
 import os
+import re
 import signal
 import subprocess
 import sys
@@ -46,9 +47,37 @@ class Gate(unittest.TestCase):
         return running.returncode, told.splitlines(), said
 
     def test_the_last_line_counts_both(self):
-        told = ["gate: RT_JOBS=3, as set", "a line", "jobs 3", "refused: one", "16 passed, 0 failed"]
-        self.assertEqual(self.run_gate(), (0, told, ""))
+        status, told, said = self.run_gate()
+        self.assertEqual((status, said), (0, ""))
+        self.assertEqual(told[:3] + told[-2:], ["gate: RT_JOBS=3, as set", "a line", "jobs 3", "refused: one", "16 passed, 0 failed"])
         self.assertEqual(self.trial.runs(), ["ci"])
+
+    def test_each_crate_has_its_time(self):
+        # a check of a crate, one of an edit of it, and a program of another crate, each of which takes 1.5 seconds
+        root = self.trial.root
+        self.trial.write("busy", "import time\nwhile time.process_time() < 1.5:\n    pass\n")
+        self.trial.write("rt-run-1-x/bin/no", "")
+        os.symlink(sys.executable, f"{root}/rt-run-1-x/bin/cases")
+        os.mkdir(f"{root}/rt-edit-1-x")
+        check = f"{sys.executable} {root}/busy --crate-name below src"
+        self.trial.write("bin/rt", f"#!/bin/sh\n{check} &\n(cd {root}/rt-edit-1-x; {check}) &\n{root}/rt-run-1-x/bin/cases {root}/busy &\nwait\necho 12 passed, 0 failed\n")
+        status, told, said = self.run_gate()
+        self.assertEqual((status, said), (0, ""))
+        lines = [line.removeprefix("gate: ").split() for line in told if line.startswith("gate: ")]
+        table = {words[0]: words[1:] for words in lines if len(words) == 4 and words[1].isdigit()}
+        self.assertEqual({crate: [int(it) > 0 for it in seconds] for crate, seconds in table.items()}, {"below": [True, True, False], "cases": [False, False, True]})
+        self.assertIn("gate: crates over 300 seconds: none", told)
+        whole = next(line for line in told if "of processor" in line)
+        self.assertGreaterEqual(int(re.search(r": (\d+) seconds", whole)[1]), 4)
+
+    def test_a_refusal_that_says_little_fails(self):
+        why = "only because a proof file names what the edit took away, so this says little of the contract: change a value and keep the names"
+        lines = [f"rt: must-fail below/a.edit: refused, as it must be ({why}): x", "rt: must-fail below/b.edit: refused, as it must be: ./src/lib.rt:1:1: error"]
+        self.trial.rt("\n".join(f"echo '{it}'" for it in lines) + '\necho "12 passed, 0 failed"')
+        status, told, _ = self.run_gate()
+        self.assertEqual((status, told[-1]), (1, "15 passed, 1 failed"))
+        self.assertEqual([line for line in told if "says little" in line or "shows nothing" in line and "below/b" in line], lines[:1])
+        self.assertTrue(any(line.startswith("gate: below/a.edit ") for line in told))
 
     def test_without_a_compiler_that_is_told(self):
         os.unlink(f"{self.trial.root}/bin/cc")
@@ -75,9 +104,12 @@ class Gate(unittest.TestCase):
 
     def test_nothing_is_refused_behind_what_failed(self):
         self.trial.rt(FAILS)
-        self.assertEqual(self.run_gate()[:2], (1, ["gate: RT_JOBS=3, as set", "rt: FAILED: below", "11 passed, 1 failed"]))
+        status, told, _ = self.run_gate()
+        self.assertEqual((status, told[:2], told[-1]), (1, ["gate: RT_JOBS=3, as set", "rt: FAILED: below"], "11 passed, 1 failed"))
+        self.assertFalse(any(line.startswith("refused:") for line in told))
         self.trial.rt("echo stopped; exit 2")
-        self.assertEqual(self.run_gate()[:2], (2, ["gate: RT_JOBS=3, as set", "stopped", "0 passed, 1 failed"]))
+        status, told, _ = self.run_gate()
+        self.assertEqual((status, told[:2], told[-1]), (2, ["gate: RT_JOBS=3, as set", "stopped"], "0 passed, 1 failed"))
         self.trial.rt("kill -9 $$")
         self.assertEqual(self.run_gate()[1][-1], "0 passed, 1 failed")
 
