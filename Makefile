@@ -143,6 +143,8 @@ CASES_OF_FILES = crates/cases/data/definitions
 same:
 	@cmp examples/first_publish/script $(CASES)/first_publish.script
 	@cmp examples/first_publish/output $(CASES)/first_publish.expected
+	@cmp examples/first_publish/script crates/warren/stdin
+	@cmp examples/first_publish/output crates/warren/stdout
 	@cmp examples/shop/script $(CASES)/shop.script
 	@cmp examples/shop/output $(CASES)/shop.expected
 	@cmp examples/shop/definitions.json $(CASES)/shop.json
