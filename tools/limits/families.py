@@ -1,4 +1,4 @@
-"""Files at the greatest sizes of docs/LIMITS.md: definitions, guarantees and scripts over them, each family meant to be the worst of its kind."""
+"""Files at the greatest sizes of docs/COSTS.md: definitions, guarantees and scripts over them, each family meant to be the worst of its kind."""
 
 import itertools
 import os

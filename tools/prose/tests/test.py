@@ -164,7 +164,7 @@ class Pages(unittest.TestCase):
         self.assertNotIn('"so many"', self.said()[1])
 
     def test_a_word_of_the_dialect(self):
-        self.add("docs/LIMITS.md", "Here it stands.")
+        self.add("docs/COSTS.md", "Here it stands.")
         self.assertSays('"stands"')
 
     def test_a_dead_link(self):
@@ -172,17 +172,17 @@ class Pages(unittest.TestCase):
         self.assertSays("docs/CLIENTS.md: NOWHERE.md leads nowhere")
 
     def test_a_heading_that_is_not_there(self):
-        self.add("docs/CLIENTS.md", "See [this](LIMITS.md#every-limit) and [that](LIMITS.md#no-limit).")
-        self.assertSays("docs/CLIENTS.md: LIMITS.md#no-limit leads nowhere")
+        self.add("docs/CLIENTS.md", "See [this](COSTS.md#limits) and [that](COSTS.md#no-limit).")
+        self.assertSays("docs/CLIENTS.md: COSTS.md#no-limit leads nowhere")
 
     def test_a_heading_of_the_same_page(self):
-        self.add("docs/LIMITS.md", "See [this](#every-limit).")
+        self.add("docs/COSTS.md", "See [this](#limits).")
         self.assertNotIn("leads nowhere", self.said()[1])
-        self.add("docs/LIMITS.md", "See [that](#no-limit).")
-        self.assertSays("docs/LIMITS.md: #no-limit leads nowhere")
+        self.add("docs/COSTS.md", "See [that](#no-limit).")
+        self.assertSays("docs/COSTS.md: #no-limit leads nowhere")
 
     def test_a_link_by_a_name(self):
-        self.add("docs/CLIENTS.md", "See [`this`] and [`that`].\n\n[`this`]: LIMITS.md\n[`that`]: NOWHERE.md")
+        self.add("docs/CLIENTS.md", "See [`this`] and [`that`].\n\n[`this`]: COSTS.md\n[`that`]: NOWHERE.md")
         self.assertSays("docs/CLIENTS.md: NOWHERE.md leads nowhere")
 
     def test_a_name_that_leads_nowhere(self):
@@ -190,8 +190,8 @@ class Pages(unittest.TestCase):
         self.assertSays("docs/CLIENTS.md: no line says where `this` leads")
 
     def test_a_row_with_a_name(self):
-        self.add("docs/LIMITS.md", '| <a id="a-row"></a>a row |')
-        self.add("docs/CLIENTS.md", "See [this](LIMITS.md#a-row).")
+        self.add("docs/COSTS.md", '| <a id="a-row"></a>a row |')
+        self.add("docs/CLIENTS.md", "See [this](COSTS.md#a-row).")
         self.assertNotIn("leads nowhere", self.said()[1])
 
     def test_a_page_that_is_named_and_not_there(self):
