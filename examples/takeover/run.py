@@ -1,6 +1,6 @@
 """Takes over a part of a RabbitMQ, and goes back: python3 run.py WARREN
 
-docs/FROM_RABBITMQ.md has the steps. A RabbitMQ of its own, with the shop's topology and messages that wait, is exported; two of its queues are
+docs/RABBITMQ.md has the steps. A RabbitMQ of its own, with the shop's topology and messages that wait, is exported; two of its queues are
 served by warren; a shovel brings what waits; a client publishes. Then warren's exchanges are made internal, and a shovel brings all back. Status 0 if
 each message is in RabbitMQ once, in its order, within a minute of the decision; or if RabbitMQ is not installed, which a line says.
 """
