@@ -1,20 +1,21 @@
 """Loads a server over sockets, and prints what each message costs the server's process.
 
 Takes the server's port, the number of its process, and which loads are wanted: `few` or `steady`, which another server is given, too,
-`rare`, `neighbours` or `all`, and the program.
+`rare`, `neighbours`, `removals`, `strangers` or `all`, and the program.
 Each load is a fixed number of messages and ends early once it has taken its seconds, so the whole ends by itself.
 """
 
-import glob
-import os
 import sys
 import time
 
-from client import Client, properties, publish
+from client import properties, publish
 from neighbours import neighbours
 from occasional import latencies, publishers, tell_latencies
+from process import Server
 from rare import rare
+from removals import removals
 from steady import steady
+from strangers import strangers
 
 SECONDS = 10
 """How long one load takes at most."""
@@ -31,33 +32,6 @@ SET = {
     "delivery-mode, content-type and message-id": properties("application/octet-stream", 2, MESSAGE_ID),
 }
 """The properties that clients set most."""
-
-
-def first_number(name):
-    with open(name) as file:
-        return int(file.read().split()[0])
-
-
-class Server:
-    def __init__(self, port, process):
-        self.port = port
-        self.process = process
-
-    def nanoseconds(self):
-        """Of processor time so far, of all threads, in the system's calls too."""
-        return sum(first_number(name) for name in glob.glob(f"/proc/{self.process}/task/*/schedstat"))
-
-    def resident(self):
-        """Bytes of memory that are there."""
-        with open(f"/proc/{self.process}/statm") as file:
-            return int(file.read().split()[1]) * os.sysconf("SC_PAGE_SIZE")
-
-    def clients(self, count):
-        return [Client(self.port) for _ in range(count)]
-
-    def settle(self):
-        """Waits until what was closed is let go."""
-        time.sleep(0.5)
 
 
 def measured(server, step, wanted):
@@ -222,6 +196,10 @@ def main(port, process, kind, program=None):
         rare(server)
     if kind in ("neighbours", "all"):
         neighbours(server, program)
+    if kind in ("removals", "all"):
+        removals(program)
+    if kind in ("strangers", "all"):
+        strangers(program)
 
 
 main(int(sys.argv[1]), int(sys.argv[2]), *sys.argv[3:])

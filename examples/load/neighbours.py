@@ -3,13 +3,11 @@
 import contextlib
 import json
 import os
-import shutil
 import socket
 import struct
-import subprocess
-import tempfile
 
 from client import Client, method, publish, short_text
+from process import FILES, copied, started
 from steady import PREFETCH, Busy
 
 NEVER_READ = 200
@@ -21,8 +19,6 @@ LARGE = b"x" * 200_000
 GETS = 30
 """So many gets of that body fill an output whose client never reads, and what the system keeps for it."""
 
-HERE = os.path.dirname(os.path.realpath(__file__))
-FILES = ("definitions.json", "guarantees.json", "certificates.json")
 
 
 def large_publish(body):
@@ -111,30 +107,22 @@ def refused_certificates():
     return json.dumps([wanted])
 
 
-def beside_a_refused_reload(program, server_of):
+def beside_a_refused_reload(program):
     """A publisher while a server looks at its files, and while it refuses them at each look."""
-    with tempfile.TemporaryDirectory() as folder:
-        for name in FILES:
-            shutil.copy(os.path.join(HERE, name), folder)
-        words = [program, "serve", *FILES, "--listen", "127.0.0.1:0", "--reload", str(LOOKS)]
-        with open(os.path.join(folder, "refused"), "w") as refused:
-            process = subprocess.Popen(words, cwd=folder, stdout=subprocess.PIPE, stderr=refused, text=True)
-        try:
-            server = server_of(int(process.stdout.readline().rsplit(":", 1)[1]), process.pid)
+    with copied() as folder:
+        refused = os.path.join(folder, "refused")
+        with open(refused, "w") as errors, started(program, folder, "--reload", str(LOOKS), errors=errors) as server:
             alone = Busy(server, 1, 100, 0, 0)
             alone.tell(f"1 x 100 publishes, --reload {LOOKS}")
             with open(os.path.join(folder, FILES[2]), "w") as file:
                 file.write(refused_certificates())
             tell_beside(f"1 x 100 publishes, --reload {LOOKS}, a refused file of 1 MB", alone, Busy(server, 1, 100, 0, 0))
-        finally:
-            process.kill()
-            process.wait()
-        with open(os.path.join(folder, "refused")) as refused:
-            print(f"  it was refused {len(refused.readlines())} times", flush=True)
+        with open(refused) as lines:
+            print(f"  it was refused {len(lines.readlines())} times", flush=True)
 
 
 def neighbours(server, program):
     for window in (1, 100):
         beside_deaf(server, window)
     beside_idle(server)
-    beside_a_refused_reload(program, type(server))
+    beside_a_refused_reload(program)

@@ -12,6 +12,8 @@ import sys
 PAGES = ("docs/inside/TESTING.md", "docs/TESTING.md")
 MOST = 139
 MOST_OF_A_CRATE = 10
+# a crate is proved once more for its first edit
+MOST_CRATES = 22
 NAMED = re.compile(r"`([a-z0-9_]+)`")
 
 
@@ -87,7 +89,10 @@ def faults(root):
             told.append(f"{name[0]}/must-fail/{name[1]}.edit: {why}")
     if len(edits) > MOST:
         told.append(f"{len(edits)} edits, and at most {MOST} may be")
-    for crate in sorted({crate for crate, _ in edits}):
+    crates = sorted({crate for crate, _ in edits})
+    if len(crates) > MOST_CRATES:
+        told.append(f"{len(crates)} crates have edits, and at most {MOST_CRATES} may have any")
+    for crate in crates:
         count = sum(1 for it in edits if it[0] == crate)
         if count > MOST_OF_A_CRATE:
             told.append(f"{crate}: {count} edits, and at most {MOST_OF_A_CRATE} may be")
