@@ -117,12 +117,16 @@ class Waits:
         self.over.set()
         self.process.join()
 
+    def end_of_a_wait(self):
+        before = self.count.value
+        while self.count.value == before and self.process.is_alive():
+            time.sleep(GAP)
+
     def beside(self, name, work):
         with self.longest.get_lock():
             self.longest.value, self.count.value = 0.0, 0
         work()
-        # a wait that has begun ends
-        time.sleep(20 * GAP)
+        self.end_of_a_wait()
         with self.longest.get_lock():
             print(f"another client's longest wait beside {name}: {1000 * self.longest.value:.1f} ms, of {self.count.value} waits", flush=True)
 
