@@ -1,7 +1,7 @@
 # `make` alone lists the targets.
 SHELL := bash
 .SHELLFLAGS := -o pipefail -c
-.PHONY: help try look run shop verdicts serve clients libraries deploy reload load refusals cases same promise edits widths map names prose tools pictures examples bench install package manual statuses test
+.PHONY: help try look run shop verdicts serve clients libraries deploy reload load refusals cases same promise edits widths map names prose tools pictures examples growth beside test-packages install package manual statuses test
 
 # where `make install` puts the program
 PREFIX ?= /usr/local
@@ -21,13 +21,14 @@ help:
 	@echo "  make reload    serves while its files are replaced, and looks at what clients and the operator see"
 	@echo "  make metrics   has an exporter and a Prometheus watch the shop; make parts serves it by processes behind HAProxy;"
 	@echo "  make shovel    has RabbitMQ's shovels take messages from warren and back: each says what it wants of Debian"
-	@echo "  make load      loads a server over sockets, and prints what a message costs it               4 minutes"
+	@echo "  make load      loads a server over sockets, and prints what a message costs it              10 minutes"
 	@echo "  make refusals  refuses each growth of memory of the proved programs in turn, and compares          15 minutes"
 	@echo "  make cases     runs the cases of crates/cases, and tells of one that its list lacks"
 	@echo "  make pictures  draws the shop anew, whole and broken, with Graphviz"
 	@echo "  make examples  replays the examples, and compares them with their outputs and with the cases"
 	@echo "  make statuses  looks at each exit status of the proved program"
-	@echo "  make bench     prints what publishes, deliveries, routes, large files and files at the limits cost"
+	@echo "  make growth    checks that a server doesn't grow while messages and consumers come and go            half a minute"
+	@echo "  make beside    compares what tools/ say of files with what the program says                          half a minute"
 	@echo "  make takeover  takes over a part of a RabbitMQ of its own, and goes back (part of make around)             a minute"
 	@echo "  make unmodified runs clients as they are, with a RabbitMQ and through tools/front (part of make around)     two minutes"
 	@echo "  make around    tries warren beside a RabbitMQ of its own; make around-packages names Debian's for it   10 minutes"
@@ -41,6 +42,7 @@ help:
 	@echo "without rt, with Python 3 alone:"
 	@echo "  make prose     looks in pages and doc comments for dead links, a long README, and words that readers stumble over"
 	@echo "  make tools     runs the tests of tools/ and checks the names in docs/PROMISE.md               two minutes"
+	@echo "  make test-packages  names Debian's packages without which some of these tests are skipped, in one line"
 
 # one's own files: make try DEFS=definitions.json GUARANTEES=guarantees.json, and another address: LISTEN=127.0.0.1:5673. Names may have blanks.
 export DEFS GUARANTEES LISTEN
@@ -250,10 +252,13 @@ takeover: warren
 unmodified: warren
 	@python3 examples/clients/libraries/unmodified/run.py "$(WARREN)"
 
-bench: warren
-	@$(PROVED) benchmarks > /dev/null
-	@crates/benchmarks/out/benchmarks all
-	@python3 tools/limits "$(WARREN)"
+# a server doesn't grow while messages and consumers come and go
+growth: warren
+	@examples/load/growth "$(WARREN)"
+
+# what scripts say beside what the program says
+beside: warren
+	@for tool in audit from_rabbitmq why split; do echo "tools/$$tool:"; python3 tools/$$tool/tests/with_warren.py "$(WARREN)" || exit 1; done
 
 install: warren
 	@install -D "$(WARREN)" $(PREFIX)/bin/warren
@@ -275,7 +280,12 @@ statuses: warren
 	@"$(WARREN)" check $(SHOP)/guarantees.json $(SHOP)/guarantees.json > $(OUT)/verdicts 2> $(OUT)/refused; [ $$? -eq 3 ]
 	@"$(WARREN)" check $(OUT)/nowhere.json $(SHOP)/guarantees.json > $(OUT)/verdicts 2> $(OUT)/refused; [ $$? -eq 4 ]
 
-# the program that the gate leaves is the one whose statuses are looked at
+# a test whose package is missing is skipped
+test-packages:
+	@echo "apt-get install --no-install-recommends gcc man-db openssl python3-pamqp python3-prometheus-client rabbitmq-server zsh"
+
+# the program that the gate leaves is the one that the later targets run
 test: same tools
 	@python3 tools/gate
 	@$(MAKE) -s statuses
+	@$(MAKE) -s growth beside > $(OUT)/behind || { cat $(OUT)/behind; exit 1; }

@@ -321,7 +321,7 @@ class Command(unittest.TestCase):
             self.assertEqual((status, out, said.count("\n")), (3, "", 1))
             self.assertIn("no whole number from 1", said)
 
-    @unittest.skipUnless(is_here(), "without a RabbitMQ no program is asked for")
+    @unittest.skipUnless(is_here(), "no RabbitMQ is here: apt-get install rabbitmq-server")
     def test_what_is_no_program(self):
         for name in ("/nowhere", HERE, __file__):
             self.assertEqual(self.run_agree(name), (3, "", f"agree: {name} is no program\n"))

@@ -402,7 +402,7 @@ class Serving(unittest.TestCase):
             self.assertEqual(self.read(client), b"")
         self.assertIn(f"closed: no way to 127.0.0.1:{port}: ", self.ended(running, 2)[0])
 
-    @unittest.skipUnless(shutil.which("openssl"), "openssl is not installed")
+    @unittest.skipUnless(shutil.which("openssl"), "openssl is not here: apt-get install openssl")
     def test_over_tls(self):
         with tempfile.TemporaryDirectory() as folder, Broker({"audit": Queue([("", "audit", bytes(2), b"x")])}) as broker:
             key, certificate = os.path.join(folder, "key.pem"), os.path.join(folder, "certificate.pem")

@@ -98,7 +98,7 @@ class Reading(unittest.TestCase):
         self.assertIn("'2:A key\\: '\\''its'\\'' \\[own\\] \\\\ name: '", made["_warren"])
 
 
-@unittest.skipUnless(shutil.which("man"), "no man here")
+@unittest.skipUnless(shutil.which("man"), "man is not here: apt-get install man-db")
 class Manual(unittest.TestCase):
     def test_it_is_read_without_a_warning(self):
         setting = {**os.environ, "LC_ALL": "C.UTF-8", "MANWIDTH": "80"}
@@ -146,7 +146,7 @@ class Bash(unittest.TestCase):
                 self.assertEqual(sorted(self.completed(*words)), sorted(wanted))
 
 
-@unittest.skipUnless(shutil.which("zsh"), "no zsh here")
+@unittest.skipUnless(shutil.which("zsh"), "zsh is not here: apt-get install zsh")
 class Zsh(unittest.TestCase):
     def test_it_is_a_script(self):
         done = subprocess.run(["zsh", "-n", os.path.join(MADE, "_warren")], capture_output=True, text=True, timeout=120)

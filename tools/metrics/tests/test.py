@@ -294,7 +294,7 @@ class Bad(Scripts):
         self.assertEqual((done.returncode, done.stdout, done.stderr.count("\n"), done.stderr[:9]), (3, "", 1, "metrics: "), done.stderr)
         return done.stderr
 
-    @unittest.skipUnless(PYTHON, "prometheus_client is not here")
+    @unittest.skipUnless(PYTHON, "prometheus_client is not here: apt-get install python3-prometheus-client")
     def test_what_is_wrong_is_one_line(self):
         self.refused()
         server = "till@127.0.0.1:1"

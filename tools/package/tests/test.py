@@ -52,7 +52,7 @@ class Packages(unittest.TestCase):
         done = subprocess.run([sys.executable, TOOL, *words], capture_output=True, text=True, timeout=120, env={**os.environ, "SOURCE_DATE_EPOCH": "1700000000"})
         return done.returncode, done.stdout, done.stderr
 
-    @unittest.skipUnless(shutil.which("dpkg-deb"), "no dpkg-deb here")
+    @unittest.skipUnless(shutil.which("dpkg-deb"), "dpkg-deb is not here: apt-get install dpkg")
     def test_a_package(self):
         status, out, said = self.run_tool(self.program, self.folder)
         self.assertEqual((status, said), (0, ""))
