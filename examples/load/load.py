@@ -10,11 +10,11 @@ import os
 import sys
 import time
 
-from client import Client, properties, publish
-from neighbours import neighbours
-from occasional import latencies, publishers, tell_latencies
-from rare import rare
-from steady import steady
+from examples.load.client import Client, properties, publish
+from examples.load.neighbours import neighbours
+from examples.load.occasional import latencies, publishers, tell_latencies
+from examples.load.rare import rare
+from examples.load.steady import steady
 
 SECONDS = 10
 """How long one load takes at most."""

@@ -9,8 +9,8 @@ import struct
 import subprocess
 import tempfile
 
-from client import Client, method, publish, short_text
-from steady import PREFETCH, Busy
+from examples.load.client import Client, method, short_text
+from examples.load.steady import PREFETCH, Busy
 
 NEVER_READ = 200
 IDLE = 1000
