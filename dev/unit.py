@@ -28,8 +28,8 @@ SKIPPED = re.compile(r" \.\.\. skipped (['\"])(.*)\1$", re.MULTILINE)
 
 def modules():
     """The names of all modules of tests."""
-    paths = sorted(it for top in ("warrenctl", "dev") for it in glob.glob(f"{top}/tests/test_*.py", root_dir=ROOT))
-    return [it.removesuffix(".py").replace("/", ".") for it in paths]
+    paths = [it for top in ("warrenctl", "dev") for it in glob.glob(os.path.join(ROOT, top, "tests/test_*.py"))]
+    return sorted(os.path.relpath(it, ROOT).removesuffix(".py").replace("/", ".") for it in paths)
 
 
 def chosen(words):
@@ -73,7 +73,7 @@ def main(words):
             skipped.update(why for _, why in SKIPPED.findall(said))
     for why, number in sorted(skipped.items()):
         print(f"skipped {number}, since this is not installed: {why}")
-    print(f"{len(listed)} modules, {count} tests, {skipped.total()} skipped, {failed} modules failed")
+    print(f"{len(listed)} modules, {count} tests, {sum(skipped.values())} skipped, {failed} modules failed")
     return FAILED if failed else DONE
 
 

@@ -99,7 +99,8 @@ def written(name, status):
         drop_output()
     except OSError as error:
         drop_output()
-        tell(name, f"standard output: {error.strerror}")
+        if status != FAILED:
+            tell(name, f"standard output: {error.strerror}")
     return status or FAILED
 
 

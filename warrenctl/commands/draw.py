@@ -8,6 +8,7 @@ import sys
 
 from warrenctl.cli.run import DONE
 from warrenctl.cli.words import Words
+from warrenctl.files.writing import write
 from warrenctl.routing.topology import BadFile, Step, Topology, read_guarantees, read_verdicts
 
 SHAPES = {"topic": "hexagon", "direct": "box", "fanout": "ellipse"}
@@ -145,6 +146,5 @@ def main(given):
     done = subprocess.run(["dot", "-Tsvg"], input=text.encode(), capture_output=True)
     if done.returncode:
         raise BadFile(f"dot failed: {done.stderr.decode(errors='replace').strip()}")
-    with open(given.svg, "wb") as file:
-        file.write(done.stdout)
+    write(given.svg, done.stdout, given.definitions)
     return DONE

@@ -1,10 +1,9 @@
 """A definitions file that is read, and written anew with another entry."""
 
 import json
-import os
-import tempfile
 
 from warrenctl.fault import Fault
+from warrenctl.files.writing import write
 
 
 def read(name, *lists):
@@ -37,17 +36,4 @@ def replace(name, definitions):
         data = text_of(definitions).encode()
     except UnicodeEncodeError:
         raise Fault(f"{name} has a text that is no UTF-8") from None
-    name = os.path.realpath(name)
-    status = os.stat(name)
-    handle, new = tempfile.mkstemp(dir=os.path.dirname(name), prefix=".new")
-    try:
-        with open(handle, "wb") as target:
-            target.write(data)
-            target.flush()
-            os.fchmod(handle, status.st_mode & 0o7777)
-            os.fchown(handle, status.st_uid, status.st_gid)
-            os.fsync(handle)
-        os.replace(new, name)
-    except BaseException:
-        os.unlink(new)
-        raise
+    write(name, data)

@@ -8,6 +8,7 @@ from contextlib import contextmanager
 
 from warrenctl.amqp.client import Message
 from warrenctl.fault import Fault
+from warrenctl.files.writing import sync_folder
 
 FORMAT = "messages 1"
 MOST_PENDING = 1 << 20
@@ -84,14 +85,6 @@ def whole_size(name):
     """How many bytes the whole lines have."""
     with open(name, "rb") as file:
         return sum(len(line) for line in file if line.endswith(b"\n"))
-
-
-def sync_folder(name):
-    folder = os.open(os.path.dirname(os.path.abspath(name)), os.O_RDONLY)
-    try:
-        os.fsync(folder)
-    finally:
-        os.close(folder)
 
 
 class Kept:

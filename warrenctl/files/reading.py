@@ -1,5 +1,7 @@
 """The files that warren reads, as the scripts read them: a value, or the least cause for which warren would refuse the file."""
 
+import sys
+
 from warrenctl.fault import Fault
 from warrenctl.files.causes import MOST_BYTES, Cause, NotJson, causes_in, read_json
 from warrenctl.files.guarantees import certificate_causes, guarantee_causes
@@ -12,6 +14,14 @@ class Refused(Fault):
         self.name, self.causes = name, causes
         self.number = min(it.number for it in causes)
         super().__init__(f"{name}: refused {self.number} (`warrenctl why` tells more)")
+
+
+def read_input():
+    """All bytes of standard input."""
+    try:
+        return sys.stdin.buffer.read()
+    except OSError as error:
+        raise Fault(f"standard input: {error.strerror}") from None
 
 
 def read(name, causes_of_value):

@@ -10,6 +10,8 @@ from warrenctl.commands.convert.report import sections, staying
 from warrenctl.commands.convert.still import may_break, told
 from warrenctl.fault import Fault
 from warrenctl.files.causes import MOST_BYTES, NotJson, causes_in, causes_of, quoted, read_json
+from warrenctl.files.reading import read_input
+from warrenctl.files.writing import write
 
 TAKEN, REFUSED = 0, 1
 # with --strict: the file was written, and a `yes` of it may not be one of RabbitMQ
@@ -35,7 +37,7 @@ def words(arguments):
 
 def read(name):
     if name == "-":
-        return sys.stdin.buffer.read()
+        return read_input()
     with open(name, "rb") as file:
         return file.read()
 
@@ -161,8 +163,7 @@ def make(data, given):
     if given.file is None:
         sys.stdout.buffer.write(text)
     else:
-        with open(given.file, "wb") as out:
-            out.write(text)
+        write(given.file, text)
     if given.strict:
         return tell_breaking(changes)
     tell_written(made, changes, given.all)

@@ -3,7 +3,6 @@ served by a process of its own. Says which port a client has to connect to for w
 
 import json
 import os
-import shutil
 
 from warrenctl.cli.words import Words
 from warrenctl.commands.split.parting import at_most, definitions_of, members_of, parts_of, place_of, ties
@@ -11,6 +10,7 @@ from warrenctl.fault import Fault
 from warrenctl.files.causes import quoted
 from warrenctl.files.definitions_file import text_of
 from warrenctl.files.reading import read_definitions, read_guarantees
+from warrenctl.files.writing import write
 
 WRITTEN, ONE_PART = 0, 1
 STATUSES = "Status: 0 the parts were written; 1 there is one part alone, and nothing was written; 3 not done, and a line says why."
@@ -75,19 +75,12 @@ def tell_left_out(number, guarantee, parts):
     print(f"guarantee {number} ({sentence_of(guarantee)}) is in no file. It holds: its exchange is in part{exchange}, and its queue in part{queue}.")
 
 
-def write(path, text, mode=0o666):
-    with open(path, "w", encoding="utf-8", opener=lambda name, flags: os.open(name, flags, mode)) as file:
-        file.write(text)
-
-
 def write_part(given, definitions, guarantees, name, part):
     folder = os.path.join(given.folder, name)
     os.mkdir(folder)
-    file = os.path.join(folder, "definitions.json")
     # it has password hashes, so nobody may read it who could not read the file of before
-    write(file, text_of(definitions_of(definitions, part)), 0o600)
-    shutil.copymode(given.definitions, file)
-    write(os.path.join(folder, "guarantees.json"), text_of({"guarantees": guarantees}))
+    write(os.path.join(folder, "definitions.json"), text_of(definitions_of(definitions, part)), given.definitions)
+    write(os.path.join(folder, "guarantees.json"), text_of({"guarantees": guarantees}), given.guarantees)
 
 
 def ports_of(parts, first):
@@ -115,7 +108,7 @@ def main(given):
         numbers = [number for number, at in enumerate(places, 1) if at == place]
         write_part(given, definitions, [guarantees[it - 1] for it in numbers], f"part{place + 1}", part)
         tell_part(f"part{place + 1}", given.port + place, part, definitions, numbers)
-    write(os.path.join(given.folder, "ports.json"), json.dumps(ports_of(parts, given.port), ensure_ascii=False, indent=2) + "\n")
+    write(os.path.join(given.folder, "ports.json"), json.dumps(ports_of(parts, given.port), ensure_ascii=False, indent=2) + "\n", given.guarantees)
     for number, (guarantee, at) in enumerate(zip(guarantees, places), 1):
         if at is None:
             tell_left_out(number, guarantee, parts)

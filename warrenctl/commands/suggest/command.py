@@ -14,6 +14,7 @@ from warrenctl.commands.suggest.patterns import includes
 from warrenctl.fault import Fault
 from warrenctl.files.guarantees import MOST_GUARANTEES
 from warrenctl.files.reading import Refused, read_definitions
+from warrenctl.files.writing import write
 from warrenctl.program import program_here
 from warrenctl.routing.checker import Topology
 from warrenctl.routing.search import search
@@ -122,8 +123,7 @@ def suggest(given):
     if given.file is None:
         sys.stdout.write(text)
     else:
-        with open(given.file, "w", encoding="utf-8") as file:
-            file.write(text)
+        write(given.file, text, given.definitions)
     by = "`warren check`" if program else "matching alone; `warren check` decides (make try)"
     tell(f"{len(written)} guarantee{' holds' if len(written) == 1 else 's hold'}, by {by}. Strike out what you do not want to promise.")
     for answer, why in (

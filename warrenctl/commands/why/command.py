@@ -1,15 +1,15 @@
 """Says why warren refuses a file, and what its verdicts mean; for what it leaves undecided, looks for a key that breaks it."""
 
 import subprocess
-import sys
 
 from warrenctl.cli.run import tell, why_of
 from warrenctl.cli.words import Words
-from warrenctl.commands.why.junit import ERROR, FAILURE, PASSED, Case, write
+from warrenctl.commands.why.junit import ERROR, FAILURE, PASSED, Case, report
 from warrenctl.commands.why.sentences import broken, fault, promise, told, way
 from warrenctl.files.causes import EMPTY_ARRAYS, ENTRIES, name_of, quoted, read_json
 from warrenctl.files.places import lines_of
-from warrenctl.files.reading import Refused, read_certificates, read_definitions, read_guarantees
+from warrenctl.files.reading import Refused, read_certificates, read_definitions, read_guarantees, read_input
+from warrenctl.files.writing import write
 from warrenctl.program import program_here
 from warrenctl.routing.checker import Topology, refutes
 from warrenctl.routing.search import MOST_STATES, search
@@ -152,7 +152,7 @@ class Answers:
 
 def lines_in(name):
     if name == "-":
-        return sys.stdin.read().splitlines()
+        return read_input().decode(errors="replace").splitlines()
     with open(name, encoding="utf-8", errors="replace") as file:
         return file.read().splitlines()
 
@@ -214,5 +214,5 @@ def main(given):
     cases = []
     status = run(given, cases)
     if given.junit is not None:
-        write(given.junit, given.guarantees or given.definitions, cases)
+        write(given.junit, report(given.guarantees or given.definitions, cases), given.definitions)
     return status

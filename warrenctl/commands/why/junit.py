@@ -37,8 +37,3 @@ def report(name, cases):
             told.text = plain(f"{it.name}: {it.said}")
     tree.indent(suites)
     return tree.tostring(suites, encoding="utf-8", xml_declaration=True) + b"\n"
-
-
-def write(file, name, cases):
-    with open(file, "wb") as out:
-        out.write(report(name, cases))
