@@ -2,7 +2,7 @@
 
 import random
 
-from client import method, publish
+from examples.load.client import method, publish
 
 BODY = b"x" * 1_000_000
 BODIES = 200

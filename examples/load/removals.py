@@ -5,9 +5,9 @@ import contextlib
 import multiprocessing
 import time
 
-from client import Client, cancel, declare, method, properties, publish
-from process import copied, started, with_dead_letters
-from rare import cost, publish_all, taken
+from examples.load.client import Client, cancel, declare, method, properties, publish
+from examples.load.process import copied, started, with_dead_letters
+from examples.load.rare import cost, publish_all, taken
 
 SMALL = b"x" * 12
 WINDOW = 1000

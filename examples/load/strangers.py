@@ -4,8 +4,8 @@ import contextlib
 import socket
 import struct
 
-from client import PATIENCE, START_OK, frame, method, short_text
-from process import copied, started
+from examples.load.client import PATIENCE, START_OK, frame, method, short_text
+from examples.load.process import copied, started
 
 STRANGERS, CHANNELS = 200, 255
 PIECE = 3_840
