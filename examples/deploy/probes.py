@@ -11,7 +11,7 @@ import subprocess
 import sys
 
 HERE = os.path.dirname(os.path.abspath(__file__))
-TOOLS = os.path.join(HERE, "../../tools")
+ROOT = os.path.join(HERE, "../..")
 
 
 def text_of(name):
@@ -33,7 +33,7 @@ def commands():
 
 
 def here(word, port, password):
-    word = word.replace("/usr/share/warren/tools", TOOLS).replace("127.0.0.1:5672", f"127.0.0.1:{port}")
+    word = word.replace("127.0.0.1:5672", f"127.0.0.1:{port}")
     return re.sub(r"^(/run/secrets/ping|\$\{CREDENTIALS_DIRECTORY\}/password)$", lambda _: password, word)
 
 
@@ -42,7 +42,10 @@ def main(port, password):
         if command is None:
             print(f"{name}: left out, PyYAML is not here")
             continue
-        done = subprocess.run([here(it, port, password) for it in command], stdin=subprocess.DEVNULL, capture_output=True, text=True, timeout=60)
+        program, *words = (here(it, port, password) for it in command)
+        if os.path.basename(program) != "warrenctl":
+            raise SystemExit(f"{name}: it runs {program}")
+        done = subprocess.run([sys.executable, "-m", "warrenctl", *words], cwd=ROOT, stdin=subprocess.DEVNULL, capture_output=True, text=True, timeout=60)
         print(f"{name}: status {done.returncode}", flush=True)
 
 

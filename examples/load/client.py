@@ -53,6 +53,11 @@ def cancel(tag):
     return method(1, 60, 30, short_text(tag) + b"\0")
 
 
+def declare(queue):
+    """The frame of a passive declare of a queue on channel 1, whose answer has its depth."""
+    return method(1, 50, 10, b"\0\0" + short_text(queue) + b"\1" + struct.pack(">I", 0))
+
+
 START_OK = struct.pack(">I", 0) + short_text("PLAIN") + struct.pack(">I", 10) + b"\0till\0till" + short_text("en_US")
 
 

@@ -8,14 +8,14 @@ Each load is a fixed number of messages and ends early once it has taken its sec
 import sys
 import time
 
-from client import properties, publish
-from neighbours import neighbours
-from occasional import latencies, publishers, tell_latencies
-from process import Server
-from rare import rare
-from removals import removals
-from steady import steady
-from strangers import strangers
+from examples.load.client import properties, publish
+from examples.load.neighbours import neighbours
+from examples.load.occasional import latencies, publishers, tell_latencies
+from examples.load.process import Server
+from examples.load.rare import rare
+from examples.load.removals import removals
+from examples.load.steady import steady
+from examples.load.strangers import strangers
 
 SECONDS = 10
 """How long one load takes at most."""

@@ -6,9 +6,9 @@ import os
 import socket
 import struct
 
-from client import Client, method, publish, short_text
-from process import FILES, copied, started
-from steady import PREFETCH, Busy
+from examples.load.client import Client, method, publish, short_text
+from examples.load.process import FILES, copied, started
+from examples.load.steady import PREFETCH, Busy
 
 NEVER_READ = 200
 IDLE = 1000

@@ -4,7 +4,7 @@ import contextlib
 import multiprocessing
 import time
 
-from client import Client
+from examples.load.client import Client
 
 GAP = 0.1
 """How many seconds pass between two of its publishes."""

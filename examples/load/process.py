@@ -10,7 +10,7 @@ import sys
 import tempfile
 import time
 
-from client import Client
+from examples.load.client import Client
 
 HERE = os.path.dirname(os.path.realpath(__file__))
 FILES = ("definitions.json", "guarantees.json", "certificates.json")

@@ -2,7 +2,7 @@
 
 import random
 
-from client import method, publish
+from examples.load.client import method, publish
 
 BODY = b"x" * 1_000_000
 BODIES = 200
@@ -13,11 +13,16 @@ DRAINED = 500_000
 WINDOW = 100
 
 
-def taken(server, name, count, work):
-    """What some work costs the server, for each of so many messages."""
+def cost(server, count, work):
+    """The microseconds of the server's processor time that some work takes, for each of so many messages."""
     start = server.nanoseconds()
     work()
-    print(f"{name}: {(server.nanoseconds() - start) / 1000 / count:.2f} us a message, of {count}", flush=True)
+    return (server.nanoseconds() - start) / 1000 / count
+
+
+def taken(server, name, count, work):
+    """Prints what some work costs the server."""
+    print(f"{name}: {cost(server, count, work):.2f} us a message, of {count}", flush=True)
 
 
 def publish_all(client, words, count, window=WINDOW):

@@ -3,11 +3,11 @@ waits meanwhile. Servers of their own, so that no row takes memory that another 
 
 import contextlib
 import multiprocessing
-import struct
 import time
 
-from client import Client, method, properties, publish, short_text
-from process import LETTERS, copied, started, with_dead_letters
+from examples.load.client import Client, cancel, declare, method, properties, publish
+from examples.load.process import copied, started, with_dead_letters
+from examples.load.rare import cost, publish_all, taken
 
 SMALL = b"x" * 12
 WINDOW = 1000
@@ -22,17 +22,11 @@ HELD_OF = 10
 GAP = 0.002
 
 
-def publish_all(client, words, count):
-    for _ in range(count // WINDOW):
-        client.socket.sendall(words * WINDOW)
-        client.await_acks(WINDOW)
-
-
 def filled(server, queue, count, given=properties()):
     """Publishes messages into a queue, by the default exchange."""
     with contextlib.closing(Client(server.port)) as client:
         client.select()
-        publish_all(client, publish("", queue, SMALL, given), count)
+        publish_all(client, publish("", queue, SMALL, given), count, WINDOW)
 
 
 def held(client, queue, count):
@@ -44,25 +38,17 @@ def held(client, queue, count):
     return last
 
 
-def cost(server, work, count):
-    """The microseconds of the server's processor time that some work takes a message."""
-    before = server.nanoseconds()
-    work()
-    return (server.nanoseconds() - before) / 1000 / count
-
-
 def purge(server):
     filled(server, "one", PURGED)
     [client] = server.clients(1)
-    taken = cost(server, lambda: client.purge("one"), PURGED)
-    print(f"a purge of {PURGED} waiting messages: {taken:.2f} us a message", flush=True)
+    taken(server, f"a purge of {PURGED} waiting messages", PURGED, lambda: client.purge("one"))
     client.close()
 
 
 def losses(server):
     """A connection is lost that holds messages, again and again."""
     filled(server, "two", HELD)
-    taken = 0.0
+    total = 0.0
     for _ in range(LOSSES):
         [client] = server.clients(1)
         held(client, "two", HELD)
@@ -71,8 +57,8 @@ def losses(server):
             client.close()
             server.settle()
 
-        taken += cost(server, lose, HELD)
-    print(f"the loss of a connection that holds {HELD} messages: {taken / LOSSES:.2f} us a message", flush=True)
+        total += cost(server, HELD, lose)
+    print(f"the loss of a connection that holds {HELD} messages: {total / LOSSES:.2f} us a message", flush=True)
 
 
 def reject_all(client, tag, queue):
@@ -87,10 +73,10 @@ def rejection(program, name, count, limit=None, given=properties()):
         [client] = server.clients(1)
         tag = held(client, "dying", REJECTED)
         resident, greatest = server.resident(), server.greatest()
-        taken = cost(server, lambda: reject_all(client, tag, "dying"), REJECTED)
+        each = cost(server, REJECTED, lambda: reject_all(client, tag, "dying"))
         left, most = server.resident() - resident, server.greatest() - greatest
         print(
-            f"a rejection of {REJECTED} messages at once, {name}: {taken:.2f} us a message; "
+            f"a rejection of {REJECTED} messages at once, {name}: {each:.2f} us a message; "
             f"{left / REJECTED:.0f} bytes a message more, {most / REJECTED:.0f} at most meanwhile",
             flush=True,
         )
@@ -106,10 +92,9 @@ def rejections(program):
 def ask_on(port, longest, count, over):
     """Asks for the depth of a queue again and again, and notes the longest wait."""
     with contextlib.closing(Client(port)) as client:
-        words = method(1, 50, 10, b"\0\0" + short_text("three") + b"\1" + struct.pack(">I", 0))
         while not over.is_set():
             began = time.perf_counter()
-            client.ask(words, 50, 11)
+            client.ask(declare("three"), 50, 11)
             waited = time.perf_counter() - began
             with longest.get_lock():
                 longest.value = max(longest.value, waited)
@@ -132,12 +117,16 @@ class Waits:
         self.over.set()
         self.process.join()
 
+    def end_of_a_wait(self):
+        before = self.count.value
+        while self.count.value == before and self.process.is_alive():
+            time.sleep(GAP)
+
     def beside(self, name, work):
         with self.longest.get_lock():
             self.longest.value, self.count.value = 0.0, 0
         work()
-        # a wait that has begun ends
-        time.sleep(20 * GAP)
+        self.end_of_a_wait()
         with self.longest.get_lock():
             print(f"another client's longest wait beside {name}: {1000 * self.longest.value:.1f} ms, of {self.count.value} waits", flush=True)
 
@@ -150,7 +139,7 @@ def make_gaps(client, queue, count):
         acks = [tag for number, tag in enumerate(tags, place) if number % HELD_OF]
         place += len(tags)
         client.socket.sendall(b"".join(method(1, 60, 80, tag + b"\0") for tag in acks))
-    client.socket.sendall(method(1, 60, 30, short_text("c") + b"\0"))
+    client.socket.sendall(cancel("c"))
     while not any(it[:2] == (60, 31) for it in client.methods()):
         pass
 
@@ -161,11 +150,11 @@ def waits(server):
     publisher.select()
     words = publish("direct", "new", SMALL)
     with Waits(server.port) as it:
-        it.beside(f"publishes of {LARGE}", lambda: publish_all(publisher, words, LARGE))
+        it.beside(f"publishes of {LARGE}", lambda: publish_all(publisher, words, LARGE, WINDOW))
         it.beside(f"deliveries of {LARGE // 2}, nine of each ten acknowledged", lambda: make_gaps(consumer, "one", LARGE // 2))
-        it.beside(f"publishes of {LARGE // 2} behind the gaps", lambda: publish_all(publisher, words, LARGE // 2))
+        it.beside(f"publishes of {LARGE // 2} behind the gaps", lambda: publish_all(publisher, words, LARGE // 2, WINDOW))
         it.beside("the purge of what is not held", lambda: publisher.purge("one"))
-        it.beside(f"publishes of {LARGE // 2} behind the purge", lambda: publish_all(publisher, words, LARGE // 2))
+        it.beside(f"publishes of {LARGE // 2} behind the purge", lambda: publish_all(publisher, words, LARGE // 2, WINDOW))
     publisher.close()
     consumer.close()
 

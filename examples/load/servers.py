@@ -5,14 +5,12 @@ import glob
 import json
 import os
 import subprocess
-import sys
 import time
 
-from client import Client
+from dev.beds.rabbit import Rabbit, RabbitFault
+from examples.load.client import Client
 
 HERE = os.path.dirname(os.path.realpath(__file__))
-sys.path.append(os.path.join(HERE, "../../tools/shared"))
-from rabbit import Rabbit, RabbitFault  # noqa: E402
 
 FILES = [os.path.join(HERE, it) for it in ("definitions.json", "guarantees.json", "certificates.json")]
 QUEUES = ("one", "two", "three", "full")

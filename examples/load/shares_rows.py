@@ -8,12 +8,11 @@ import select
 import socket
 import struct
 import subprocess
-import threading
 import time
 
-from client import Client, frame, method, publish, short_text
-from neighbours import IDLE, LARGE, NEVER_READ, Deaf, held, large_publish
-from steady import OPENING, PREFETCH, until_opened
+from examples.load.client import Client, frame, method, publish, short_text
+from examples.load.neighbours import IDLE, LARGE, NEVER_READ, Deaf, held, large_publish
+from examples.load.steady import OPENING, until_opened
 
 FLOOD = (64, 1000)
 """Publishers that never pause, and their window."""

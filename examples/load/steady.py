@@ -7,7 +7,7 @@ import struct
 import subprocess
 import time
 
-from client import PATIENCE, START_OK, Client, method, short_text
+from examples.load.client import PATIENCE, START_OK, Client, method, short_text
 
 SECONDS = 1.5
 """How long one such load is counted."""

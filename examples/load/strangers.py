@@ -4,8 +4,8 @@ import contextlib
 import socket
 import struct
 
-from client import PATIENCE, START_OK, method, short_text
-from process import copied, started
+from examples.load.client import PATIENCE, START_OK, frame, method, short_text
+from examples.load.process import copied, started
 
 STRANGERS, CHANNELS = 200, 255
 PIECE = 3_840
@@ -20,16 +20,12 @@ PHASES = {
 }
 
 
-def frame_of(kind, channel, payload):
-    return struct.pack(">BHI", kind, channel, len(payload)) + payload + b"\xce"
-
-
 def begun_contents():
     """A publish on each channel, up to a part of its body."""
     words = b""
     for channel in range(1, CHANNELS + 1):
         words += method(channel, 60, 40, b"\0\0" + short_text("direct") + short_text("new") + b"\0")
-        words += frame_of(2, channel, struct.pack(">HHQH", 60, 0, 1 << 20, 0)) + frame_of(3, channel, b"x" * PIECE)
+        words += frame(2, channel, struct.pack(">HHQH", 60, 0, 1 << 20, 0)) + frame(3, channel, b"x" * PIECE)
     return words
 
 

@@ -12,8 +12,23 @@ import socket
 import tempfile
 import time
 
-from filled import ACCOUNT, OTHERS, PATIENCE, REST, Drain, Publisher, Server, by_a_client, logins, number_of, publishes_taken, topology, tried_with, write_files
-from serve import Lost
+from examples.refusals.filled import (
+    ACCOUNT,
+    OTHERS,
+    PATIENCE,
+    REST,
+    Drain,
+    Publisher,
+    Server,
+    by_a_client,
+    logins,
+    number_of,
+    publishes_taken,
+    topology,
+    tried_with,
+    write_files,
+)
+from examples.refusals.serve import Lost
 
 SIZES = (12, 100, 1_000, 5_000, 100_000)
 PUBLISHERS, CONSUMERS, STRANGERS = 6, 3, 2

@@ -1,9 +1,10 @@
 """Takes all descriptors of a server that looks at its files, and gives them back.
 
-    descriptors.py WARREN
+    python3 -m examples.refusals.descriptors WARREN
 
 While as many sockets are open as the server has descriptors, each look at the files tells `no descriptor is free`. Once they are closed no look
 tells anything, files that were replaced meanwhile are in force, and a client is served."""
+
 import os
 import resource
 import select
@@ -14,7 +15,7 @@ import sys
 import tempfile
 import time
 
-from serve import LOAD, Client, Lost
+from examples.refusals.serve import LOAD, Client, Lost
 
 FILES = ("definitions.json", "guarantees.json", "certificates.json")
 DESCRIPTORS, SOCKETS = 24, 32

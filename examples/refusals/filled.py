@@ -10,7 +10,7 @@ import sys
 import tempfile
 import time
 
-from serve import LOAD, Client, Lost, method, publish, shortstr
+from examples.refusals.serve import LOAD, Client, Lost, method, publish, shortstr
 
 ACCOUNT = ("till", "till")
 NAMES = ("definitions.json", "guarantees.json", "certificates.json")

@@ -1,6 +1,6 @@
 """Fills servers until memory is refused, and looks whether they can be emptied then.
 
-    full.py WARREN [--limit MB ..] [--body BYTES ..] [--queues N ..] [--pressing N ..] [--allocator NAME ..] [--chaos SECONDS] [--jobs N]
+    python3 -m examples.refusals.full WARREN [--limit MB ..] [--body BYTES ..] [--queues N ..] [--pressing N ..] [--allocator NAME ..] [--chaos SECONDS] [--jobs N]
 
 A row is one server with a limit of address space and an allocator. One publisher confirms publishes to a queue without a limit, or to several
 by a fanout, until it is lost. All clients leave; in some rows eight others press on by publishing. Then 100 clients log in and stay, others
@@ -19,14 +19,33 @@ import sys
 import tempfile
 import time
 
-HERE = os.path.dirname(os.path.realpath(__file__))
-sys.path.insert(0, os.path.join(HERE, "../../tools/shared"))
+from examples.refusals import chaos
+from examples.refusals.filled import (
+    ACCOUNT,
+    ALLOCATORS,
+    EXCHANGE,
+    KEY,
+    OTHERS,
+    REST,
+    Publisher,
+    Server,
+    Taken,
+    Tally,
+    by_a_client,
+    is_here,
+    logins,
+    number_of,
+    publishes_taken,
+    topology,
+    tried_with,
+    write_files,
+)
+from examples.refusals.serve import Lost
+from warrenctl.cli.run import run
+from warrenctl.cli.words import Words
+
 sys.dont_write_bytecode = True
 
-import chaos  # noqa: E402
-from filled import ACCOUNT, ALLOCATORS, EXCHANGE, KEY, OTHERS, REST, Publisher, Server, Taken, Tally, by_a_client, is_here, logins, number_of, publishes_taken, topology, tried_with, write_files  # noqa: E402
-from serve import Lost  # noqa: E402
-from words import Parser, run_script  # noqa: E402
 
 HOLDS, FAILS, REFUSED = 0, 1, 3
 # messages got one by one, and those consumed without acks at least
@@ -199,7 +218,7 @@ class Row:
 
 
 def words():
-    parser = Parser(prog="full.py", description=__doc__, formatter_class=argparse.RawDescriptionHelpFormatter)
+    parser = Words("full.py", __doc__, None, "python3 -m examples.refusals.full", formatter_class=argparse.RawDescriptionHelpFormatter)
     parser.add_argument("warren", metavar="WARREN", help="the program")
     parser.add_argument("--limit", type=int, nargs="+", default=[48, 150, 300], help="of address space, in MB")
     parser.add_argument("--body", type=int, nargs="*", default=[12, 100, 1_000, 5_000, 100_000], help="bytes of a body, 12 at least")
@@ -256,4 +275,4 @@ def run_row(row, warren):
 
 
 if __name__ == "__main__":
-    sys.exit(run_script("full.py", main))
+    sys.exit(run("full.py", main))

@@ -3,6 +3,7 @@
     serve.py WARREN LIBRARY [few | one]
 
 At each place in turn: at most one connection is lost, nothing that was acked is gone, and a later client is served."""
+
 import errno
 import os
 import socket

@@ -1,11 +1,11 @@
 """Opens as many sockets as a server has room for, none of which runs, and waits for their ends.
 
-    silent.py WARREN
+    python3 -m examples.refusals.silent WARREN
 
 First they say nothing, or a part of a login, then a login that is refused, and then they log in and are sent connection.close, which they
 never answer. Each is ended after 30 seconds. Not so a client that logs in slowly, one that has logged in and opens no channel, and one that
 answers its close late, which ends at once. A later one is served each time."""
-import os
+
 import resource
 import select
 import socket
@@ -14,12 +14,11 @@ import subprocess
 import sys
 import time
 
-HERE = os.path.dirname(os.path.realpath(__file__))
-sys.path.insert(0, os.path.join(HERE, "../../tools/shared"))
+from dev.beds.example import run_example
+from examples.refusals.serve import LOAD, Client, Lost, method, opening, shortstr
+
 sys.dont_write_bytecode = True
 
-from serve import LOAD, Client, Lost, method, opening, shortstr  # noqa: E402
-from words import run_example  # noqa: E402
 
 ROOM = 1024
 PATIENCE, LATE = 30, 1

@@ -1,4 +1,4 @@
-"""costs.py WARREN [N ..]: what `--reload N` costs the program WARREN, idle and busy, with definitions of 2 kB, 200 kB and 16 MB, and
+"""python3 -m examples.reload.costs WARREN [N ..]: what `--reload N` costs the program WARREN, idle and busy, with definitions of 2 kB, 200 kB and 16 MB, and
 beside a certificates file of 1 MB that is refused at each look. Without N it takes 2, 10, 100, 1,000 and 10,000. It wants Linux."""
 
 import os
@@ -7,11 +7,11 @@ import sys
 import tempfile
 import time
 
+from examples.load import client
+
 HERE = os.path.dirname(os.path.abspath(__file__))
-sys.path.insert(0, f"{HERE}/../load")
 sys.dont_write_bytecode = True
 
-import client
 
 SECONDS = 2
 """How long each load lasts."""

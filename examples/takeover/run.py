@@ -1,4 +1,4 @@
-"""Takes over a part of a RabbitMQ, and goes back: python3 run.py WARREN
+"""Takes over a part of a RabbitMQ, and goes back: python3 -m examples.takeover.run WARREN
 
 docs/RABBITMQ.md has the steps. A RabbitMQ of its own, with the shop's topology and messages that wait, is exported; two of its queues are
 served by warren; a shovel brings what waits; a client publishes. Then warren's exchanges are made internal, and a shovel brings all back. Status 0 if
@@ -14,12 +14,13 @@ import sys
 import tempfile
 import time
 
+from dev.beds.commands import warrenctl
+from dev.beds.example import run_example
+from dev.beds.rabbit import NotHere, Rabbit, quoted
+from warrenctl.amqp.client import Client, Message, Refused
+
 HERE = os.path.dirname(os.path.abspath(__file__))
 ROOT = os.path.join(HERE, "../..")
-sys.path[:0] = [os.path.join(ROOT, "tools"), os.path.join(ROOT, "tools/shared")]
-from amqp.client import Client, Message, Refused  # noqa: E402
-from rabbit import NotHere, Rabbit, quoted  # noqa: E402
-from words import run_example  # noqa: E402
 
 PART = ["packing", "audit"]
 WAITING, PUBLISHED = 2_000, 100
@@ -32,10 +33,10 @@ REST = 0.2
 
 
 def tool(name, *words):
-    """Runs a script of tools/, and returns what it prints."""
-    done = subprocess.run([sys.executable, os.path.join(ROOT, "tools", name), *words], capture_output=True, text=True)
+    """Runs a command of warrenctl, and returns what it prints."""
+    done = subprocess.run([*warrenctl(name), *words], capture_output=True, text=True)
     if done.returncode:
-        raise SystemExit(f"tools/{name}: {done.stderr}")
+        raise SystemExit(done.stderr)
     return done.stdout
 
 
@@ -91,7 +92,7 @@ def part_of(rabbit, warren, folder):
     names = [os.path.join(folder, f"{it}.json") for it in ("export", "definitions", "guarantees", "certificates")]
     with open(names[0], "w", encoding="utf-8") as file:
         json.dump(rabbit.export_definitions(), file)
-    tool("from_rabbitmq", names[0], names[1], "--only", *PART)
+    tool("convert", names[0], names[1], "--only", *PART)
     tool("suggest", names[1], names[2], "--warren", warren)
     subprocess.run([warren, "check", names[1], names[2], "--out", names[3]], check=True, stdout=subprocess.DEVNULL)
     return names[1:]

@@ -1,4 +1,4 @@
-"""Runs clients of this folder as they are, with RabbitMQ and then with warren through tools/front: python3 run.py WARREN
+"""Runs clients of this folder as they are, with RabbitMQ and then with warren through `warrenctl front`: python3 -m examples.clients.libraries.unmodified.run WARREN
 
 Each declares an exchange and a queue of the shop, binds them, publishes under confirms and consumes, with the defaults of its library: it asks
 for a heartbeat, if its library does. A line for each says whether it printed what it should. Status 0 if none printed something else.
@@ -16,12 +16,13 @@ import subprocess
 import sys
 import tempfile
 
+from dev.beds.commands import warrenctl
+from dev.beds.example import run_example
+from dev.beds.rabbit import NotHere, Rabbit
+
 HERE = os.path.dirname(os.path.abspath(__file__))
 ROOT = os.path.join(HERE, "../../../..")
 SHOP = [os.path.join(ROOT, "examples/shop", f"{it}.json") for it in ("definitions", "guarantees", "certificates")]
-sys.path[:0] = [os.path.join(ROOT, "tools/shared")]
-from rabbit import NotHere, Rabbit  # noqa: E402
-from words import run_example  # noqa: E402
 
 PYTHON = "/usr/bin/python3"
 JARS = "/usr/share/java/amqp-client.jar:/usr/share/java/slf4j-api.jar"
@@ -120,10 +121,10 @@ def main(warren):
         return 0
     serve = [warren, "serve", *SHOP, "--listen", "127.0.0.1:0"]
     with tempfile.TemporaryDirectory() as folder, rabbitmq() as rabbit, listening(serve) as port:
-        front = [PYTHON, os.path.join(ROOT, "tools/front"), SHOP[0], "--listen", "127.0.0.1:0", "--to", f"127.0.0.1:{port}"]
+        front = [*warrenctl("front", PYTHON), SHOP[0], "--listen", "127.0.0.1:0", "--to", f"127.0.0.1:{port}"]
         with listening(front) as front_port:
             servers = {"RabbitMQ": rabbit} if rabbit else {}
-            servers["warren through tools/front"] = front_port
+            servers["warren through the front"] = front_port
             return 0 if all([try_client(name, servers, folder) for name in CLIENTS]) else 1
 
 

@@ -1,0 +1,3 @@
+from warrenctl.commands.fill.command import main, words
+
+__all__ = ["main", "words"]

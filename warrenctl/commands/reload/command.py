@@ -1,0 +1,85 @@
+"""Puts a folder of files in force for a broker that runs with --reload. The broker has to be started with the three names under FOLDER, which is
+a link to a folder. This checks the definitions and the guarantees of the folder NEW, writes its certificates, verifies them, has the link lead
+to NEW at once, and looks by a passive declare whether the broker has it."""
+
+import os
+import time
+
+from warrenctl.cli.login import log_in
+from warrenctl.cli.run import DONE, NOT_WHOLE, tell
+from warrenctl.cli.words import STATUSES, Words
+from warrenctl.commands.reload.folders import certify, check_folders, mark, path_in, swap
+from warrenctl.commands.reload.probes import probe_of
+from warrenctl.fault import Fault
+
+# seconds between two questions
+PAUSE = 0.2
+
+
+def seconds(text):
+    number = float(text)
+    if not 0 <= number <= 86400:
+        raise ValueError
+    return number
+
+
+def words(arguments):
+    parser = Words("reload", __doc__, STATUSES)
+    parser.add_argument("folder", metavar="FOLDER", help="the link, such as /etc/warren/current")
+    parser.add_argument("new", metavar="NEW", help="the folder with the new definitions.json and guarantees.json")
+    parser.add_argument("--look", dest="server", metavar="USER@HOST[:PORT]", help="the broker to ask; without it nobody is asked")
+    parser.add_password()
+    mark_help = "put an exchange into the new definitions whose name says which files these are, so that the broker can be asked for it"
+    parser.add_argument("--mark", action="store_true", help=mark_help)
+    parser.add_argument("--seconds", type=seconds, default=60, help="how long to look (60)")
+    parser.add_argument("--warren", metavar="PROGRAM", default="warren", help="the program (warren)")
+    return parser.parse_args(arguments)
+
+
+def look(client, probe, limit):
+    """How many seconds it took until what is asked for was so; none if it never was."""
+    began = time.monotonic()
+    while not probe.holds(client):
+        if time.monotonic() - began > limit:
+            return None
+        time.sleep(PAUSE)
+    return time.monotonic() - began
+
+
+def swap_and_look(given, client, probe, old):
+    if probe.holds(client):
+        raise Fault(f"the broker has {probe} before anything was changed: its files are not those of {given.folder}")
+    swap(given.folder, given.new)
+    swapped = f"{given.folder} leads to {given.new}"
+    try:
+        took = look(client, probe, given.seconds)
+    except Fault as error:
+        tell("reload", f"{swapped}; whether it is in force is not known: {error}")
+        return NOT_WHOLE
+    if took is None:
+        why = f"the broker's standard error says why, and `reload {given.folder} {old}` goes back"
+        tell("reload", f"{swapped}, which is not in force after {given.seconds:g} seconds; {why}")
+        return NOT_WHOLE
+    tell("reload", f"{given.new} is in force: after {took:.1f} seconds the broker has {probe}")
+    return DONE
+
+
+def main(given):
+    check_folders(given.folder, given.new)
+    old = os.path.realpath(given.folder)
+    if given.mark:
+        mark(given.new)
+    certify(given.warren, given.new)
+    if given.server is None:
+        swap(given.folder, given.new)
+        tell("reload", f"{given.folder} leads to {given.new}; whether it is in force was not asked")
+        return DONE
+    probe = probe_of(path_in(old, 0), path_in(given.new, 0))
+    with log_in(given) as client:
+        if probe:
+            return swap_and_look(given, client, probe, old)
+        swap(given.folder, given.new)
+        mend = "the files are as before" if given.mark else "--mark makes it so"
+        unknown = f"no queue and no exchange came or went, so the broker can't be asked whether it is in force; {mend}"
+        tell("reload", f"{given.folder} leads to {given.new}; {unknown}")
+        return NOT_WHOLE

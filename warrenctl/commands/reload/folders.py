@@ -1,0 +1,81 @@
+"""Folders with the three files of a broker, and the link to the one in force."""
+
+import hashlib
+import os
+import re
+import subprocess
+import sys
+
+from warrenctl.fault import Fault
+from warrenctl.files.definitions_file import read, replace
+
+NAMES = ("definitions.json", "guarantees.json", "certificates.json")
+MARK = re.compile(r"reload\.[0-9a-f]{12}")
+MEANINGS = {1: "a guarantee does not hold, or a certificate has a fault", 2: "a guarantee is undecided"}
+
+
+def path_in(folder, place):
+    return os.path.join(folder, NAMES[place])
+
+
+def check_folders(link, new):
+    """Refuses a link that is none, and a folder that can't be put in its place."""
+    if not os.path.islink(link):
+        if os.path.lexists(link):
+            raise Fault(f"{link} is no link; move it to another name, and make the link by ln -s")
+        raise Fault(f"{link} is not there; make the link to the folder in force by ln -s")
+    if not os.path.isdir(link):
+        raise Fault(f"{link} leads to no folder")
+    if not os.path.isdir(new):
+        raise Fault(f"{new} is no folder")
+    if os.path.samefile(link, new):
+        raise Fault(f"{link} leads to {new} already; copy the folder, and change the copy")
+    for place in (0, 1):
+        if not os.path.isfile(path_in(new, place)):
+            raise Fault(f"{path_in(new, place)} is not there")
+
+
+def mark(folder):
+    """Puts an exchange into the definitions whose name is of the files' sum, in place of the one of another time."""
+    name = path_in(folder, 0)
+    definitions = read(name, "exchanges")
+    definitions["exchanges"] = [it for it in definitions["exchanges"] if not MARK.fullmatch(str(it.get("name")))]
+    total = hashlib.sha256(repr(definitions).encode(errors="surrogatepass"))
+    with open(path_in(folder, 1), "rb") as file:
+        total.update(file.read())
+    made = {"name": f"reload.{total.hexdigest()[:12]}", "vhost": "/", "type": "fanout", "durable": True, "auto_delete": False, "internal": True}
+    definitions["exchanges"].append({**made, "arguments": {}})
+    replace(name, definitions)
+
+
+def asked(program, *words):
+    """Runs a command of the program. Its lines are shown unless it is done, and then it is told what it ended with."""
+    try:
+        done = subprocess.run([program, *words], capture_output=True)
+    except OSError as error:
+        raise Fault(f"{program}: {error.strerror}") from None
+    if done.returncode:
+        sys.stdout.write(done.stdout.decode(errors="replace"))
+        sys.stdout.flush()
+        said = done.stderr.decode(errors="replace").strip().splitlines()
+        meaning = MEANINGS.get(done.returncode) or (said[-1] if said else "it said nothing")
+        raise Fault(f"nothing was changed: {words[0]} ended with {done.returncode}: {meaning}")
+
+
+def certify(program, folder):
+    """Writes the certificates of a folder and has them verified."""
+    files = [path_in(folder, it) for it in range(3)]
+    asked(program, "check", *files[:2], "--out", files[2])
+    asked(program, "verify", *files)
+
+
+def swap(link, new):
+    """Has the link lead to the folder, at once: as `ln -sfn` of another name and `mv -T` over it."""
+    folder = os.path.dirname(os.path.abspath(link))
+    target = os.path.abspath(new)
+    target = os.path.basename(target) if os.path.dirname(target) == folder else target
+    other = os.path.abspath(link) + ".new"
+    if os.path.islink(other):
+        os.unlink(other)
+    os.symlink(target, other)
+    os.replace(other, link)

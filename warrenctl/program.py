@@ -1,0 +1,28 @@
+"""The program warren: where it is, and which version it is."""
+
+import contextlib
+import os
+import re
+import shutil
+import subprocess
+
+# in the repository, a program that was made there comes before the one on the path
+ROOT = os.path.dirname(os.path.dirname(os.path.abspath(__file__)))
+UNPROVED, PROVED = (os.path.join(ROOT, it) for it in ("out/try/warren", "crates/warren/out/warren"))
+# seconds in which a program says its version
+ANSWERS = 20
+VERSION = re.compile(r"warren ([0-9][0-9.]*)\n")
+
+
+def program_here():
+    """A program that was made before, proved or not, or the one on the path; or nothing."""
+    return next((it for it in (UNPROVED, PROVED) if os.path.exists(it)), None) or shutil.which("warren")
+
+
+def version_of(path):
+    """The version that a program of warren tells, such as "0.1.0"; nothing if it is another program. The status is that of a refused command line."""
+    with contextlib.suppress(subprocess.TimeoutExpired):
+        done = subprocess.run([os.path.abspath(path), "--version"], stdin=subprocess.DEVNULL, stdout=subprocess.PIPE, stderr=subprocess.STDOUT, timeout=ANSWERS)
+        found = VERSION.fullmatch(done.stdout.decode(errors="replace"))
+        return found and found.group(1)
+    return None
