@@ -21,7 +21,7 @@ help:
 	@echo "  make reload    serves while its files are replaced, and looks at what clients and the operator see"
 	@echo "  make metrics   has an exporter and a Prometheus watch the shop; make parts serves it by processes behind HAProxy;"
 	@echo "  make shovel    has RabbitMQ's shovels take messages from warren and back: each says what it wants of Debian"
-	@echo "  make load      loads a server over sockets, and prints what a message costs it              10 minutes"
+	@echo "  make load      loads a server over sockets, and prints what a message costs it         several minutes"
 	@echo "  make refusals  refuses each growth of memory of the proved programs in turn, and compares          15 minutes"
 	@echo "  make cases     runs the cases of crates/cases, and tells of one that its list lacks"
 	@echo "  make pictures  draws the shop anew, whole and broken, with Graphviz"
