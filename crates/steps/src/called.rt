@@ -3,8 +3,7 @@
 use callers::{answer, ask_route, serve_client};
 use engine::Engine;
 use line_parts::{LineAnswer, Unanswered};
-use model::{Binding, DeclaredQueue, Destination, Exchange, Text};
-use scenario_parts::{direct_exchange, plain_queue};
+use model::{Binding, DeclaredQueue, Destination, Exchange, ExchangeKind, Text};
 use std::alloc::{AllocError, Global};
 
 /// What a topology is built from.
@@ -13,6 +12,27 @@ struct Declared {
     exchanges: Vec<Exchange>,
     queues: Vec<DeclaredQueue>,
     bindings: Vec<Binding>,
+}
+
+/// Returns a queue called `name`, without length limits and without a dead-letter exchange.
+fn plain_queue(name: Text) -> DeclaredQueue {
+    DeclaredQueue {
+        name,
+        limit: None,
+        byte_limit: None,
+        dead_letter_exchange: None,
+        dead_letter_key: None,
+    }
+}
+
+/// Returns a direct exchange called `name`, without an alternate exchange.
+fn direct_exchange(name: Text) -> Exchange {
+    Exchange {
+        name,
+        kind: ExchangeKind::Direct,
+        internal: false,
+        alternate: None,
+    }
 }
 
 /// Declares the queues `a` and `b`, and an exchange `D` that routes the key `new` to `b`.

@@ -6,6 +6,7 @@ use crate::wires::engine_of;
 use crate::worlds::{World, first_number};
 use engine::Engine;
 use line_parts::{LineAnswer, Unanswered};
+use scenario_outcomes::{earliest_end, expect_past};
 use scenario_parts::Watched;
 use serving::{Server, serve};
 use sockets::Sockets;
@@ -171,7 +172,7 @@ impl<'a, N: Net> Peers<'a, N> {
 
     /// Names the moment `time` milliseconds from now.
     fn set_moment(&mut self, out: &mut LineAnswer, time: u64) {
-        match scenario_parts::earliest_end(self.rt, time) {
+        match earliest_end(self.rt, time) {
             Ok(moment) => self.moment = Some(moment),
             Err(_) => out.put("no clock"),
         }
@@ -180,7 +181,7 @@ impl<'a, N: Net> Peers<'a, N> {
     /// Returns whether the named moment has passed.
     fn is_past(&self) -> bool {
         match self.moment {
-            Some(moment) => scenario_parts::expect_past(self.rt, moment).is_ok(),
+            Some(moment) => expect_past(self.rt, moment).is_ok(),
             None => false,
         }
     }

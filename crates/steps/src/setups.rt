@@ -4,7 +4,7 @@ use certificate::{Certificate, admit};
 use definitions::read_definitions;
 use engine::Setup;
 use guarantees::read_guarantees;
-use line_parts::{LineAnswer, Unanswered};
+use line_parts::{LineAnswer, Unanswered, cut};
 use std::fs;
 
 /// The folder with the files that scenarios name.
@@ -39,8 +39,8 @@ impl Disk<'_> {
 
     /// Returns what the files `DEFINITIONS GUARANTEES CERTIFICATES` put in force.
     pub(crate) fn setup(&self, out: &mut LineAnswer, files: &str) -> Option<Setup> {
-        let (definitions, rest) = line_parts::cut(out, files);
-        let (guarantees, certificates) = line_parts::cut(out, rest);
+        let (definitions, rest) = cut(out, files);
+        let (guarantees, certificates) = cut(out, rest);
         let definitions = self.bytes(out, definitions);
         let guarantees = self.bytes(out, guarantees);
         let certificates = self.bytes(out, certificates);

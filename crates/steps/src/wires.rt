@@ -5,7 +5,7 @@ use crate::names::Names;
 use crate::setups::Disk;
 use crate::worlds::{World, first_number, put_failure};
 use engine::{Engine, Setup};
-use line_parts::{LineAnswer, Unanswered};
+use line_parts::{LineAnswer, Unanswered, cut, number_of};
 use memory_wire::{Client, Failing, FailingCall, Logged, MemoryWire};
 use serving::{Server, serve};
 
@@ -45,7 +45,7 @@ fn size_of(out: &mut LineAnswer, word: &str) -> usize {
     if word == "all" {
         return usize::MAX;
     }
-    line_parts::number_of(out, word) as usize
+    number_of(out, word) as usize
 }
 
 /// Returns the number of bytes that `call` was offered, if it is a read of `socket` that got any.
@@ -88,7 +88,7 @@ impl<'a> Served<'a> {
 
     /// Adds a client that connects in the next rounds: `PIECE WINDOW BYTES`.
     fn add_client(&mut self, out: &mut LineAnswer, names: &Names<'_>, asked: &str) {
-        let (piece, rest) = line_parts::cut(out, asked);
+        let (piece, rest) = cut(out, asked);
         let (window, input) = rest.split_once(' ').unwrap_or((rest, ""));
         let client = Client {
             input: names.bytes_of(out, input),
