@@ -15,7 +15,7 @@ help:
 	@echo "  make verdicts  checks the guarantees of examples/shop; then one binding is changed, and a key breaks one"
 	@echo "  make serve     serves the shop, or your files, under their guarantees: DEFS=.. GUARANTEES=.. LISTEN=.."
 	@echo "  make clients   serves the shop, and has pika and six other client libraries publish to it and take from it"
-	@echo "  make load      loads a server over sockets, and prints what a message costs it                  10 minutes"
+	@echo "  make load      loads a server over sockets, and prints what a message costs it         several minutes"
 	@echo "  make refusals  refuses each growth of memory of the proved programs in turn, and compares          15 minutes"
 	@echo "  make cases     runs the cases of crates/cases, and prints those that its list lacks"
 	@echo "  make examples  replays the examples, and compares them with their outputs and with the cases"

@@ -83,7 +83,7 @@ fn all_pass(folder: Folder<'_>) -> io::Result<bool> {
         failed,
     } = run_all(folder)?;
     println!(folder.rt; "{cases} cases, {rows} rows, {failed} failed")?;
-    let hold = all_hold(folder.rt)?;
+    let hold = all_hold(folder)?;
     Ok(cases > 0 && failed == 0 && hold)
 }
 

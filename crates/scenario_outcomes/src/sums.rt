@@ -27,6 +27,16 @@ impl Sums {
             }
         }
     }
+
+    /// Counts a scenario of a file and prints its line: its name with `ok` if `wrong` is empty, otherwise with `wrong`.
+    pub fn record_text(&mut self, rt: &HostRuntime, name: &str, wrong: &str) -> io::Result<()> {
+        self.scenarios = self.scenarios.saturating_add(1);
+        if wrong.is_empty() {
+            return println!(rt; "{name}: ok");
+        }
+        self.failed = self.failed.saturating_add(1);
+        println!(rt; "{name}: {wrong}")
+    }
 }
 
 /// Runs scenarios, each of which is called by its path, and prints a line for each under its name.

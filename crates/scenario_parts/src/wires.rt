@@ -1,6 +1,6 @@
 //! Clients of a wire in memory.
 
-use memory_wire::{Client, Logged, MemoryWire};
+use memory_wire::Client;
 
 /// Returns a client that writes `input` in pieces of at most `piece` bytes, and takes at most `window` bytes of a write.
 pub fn memory_client(input: Vec<u8>, piece: usize, window: usize) -> Client {
@@ -10,14 +10,4 @@ pub fn memory_client(input: Vec<u8>, piece: usize, window: usize) -> Client {
         piece,
         window,
     }
-}
-
-/// Returns how often the socket of `client` was closed.
-pub fn closes_of(wire: &MemoryWire, client: u64) -> u64 {
-    let mut count = 0u64;
-    for call in &wire.log.calls {
-        let is_close = matches!(call, Logged::Closed(socket) if *socket == client);
-        count = count.saturating_add(u64::from(is_close));
-    }
-    count
 }
