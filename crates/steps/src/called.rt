@@ -36,7 +36,7 @@ fn direct_exchange(name: Text) -> Exchange {
 }
 
 /// Declares the queues `a` and `b`, and an exchange `D` that routes the key `new` to `b`.
-fn declared(alloc: Global) -> Result<Declared, AllocError> {
+fn declare_all(alloc: Global) -> Result<Declared, AllocError> {
     let mut all = Declared {
         exchanges: Vec::new(alloc),
         queues: Vec::new(alloc),
@@ -53,10 +53,10 @@ fn declared(alloc: Global) -> Result<Declared, AllocError> {
     Ok(all)
 }
 
-/// Appends the indices of the queues that the key `key` reaches from `exchange` in [`declared`].
+/// Appends the indices of the queues that the key `key` reaches from `exchange` in [`declare_all`].
 pub(crate) fn put_route(out: &mut LineAnswer, exchange: &str, key: &str) {
     let alloc = out.alloc();
-    let Some(all) = out.value_of(declared(alloc), Unanswered::Memory) else {
+    let Some(all) = out.value_of(declare_all(alloc), Unanswered::Memory) else {
         return;
     };
     let Declared {
