@@ -15,7 +15,7 @@ import xml.etree.ElementTree as tree
 from dev import SHOP
 from dev.beds.commands import warrenctl
 from dev.beds.rows import guarantee_of, rows
-from warrenctl.commands.why.sentences import promise
+from warrenctl.routing.sentences import promise
 from warrenctl.files.places import lines_of
 from warrenctl.files.reading import Refused, read_guarantees
 from warrenctl.routing.checker import Topology, refutes

@@ -1,21 +1,20 @@
 """Says why warren refuses a file, and what its verdicts mean; for what it leaves undecided, looks for a key that breaks it."""
 
-import subprocess
-
 from warrenctl.cli.run import tell, why_of
 from warrenctl.cli.words import Words
 from warrenctl.commands.why.junit import ERROR, FAILURE, PASSED, Case, report
-from warrenctl.commands.why.sentences import broken, fault, promise, told, way
+from warrenctl.fault import FAILED, Fault
 from warrenctl.files.causes import EMPTY_ARRAYS, ENTRIES, name_of, quoted, read_json
 from warrenctl.files.places import lines_of
 from warrenctl.files.reading import Refused, read_certificates, read_definitions, read_guarantees, read_input
 from warrenctl.files.writing import write
 from warrenctl.program import program_here
+from warrenctl.routing.asking import BROKEN, HOLDS, UNDECIDED, checked, ran
 from warrenctl.routing.checker import Topology, refutes
 from warrenctl.routing.search import MOST_STATES, search
+from warrenctl.routing.sentences import broken, fault, promise, told, way
 from warrenctl.routing.topology import BadFile, read_verdicts
 
-HOLDS, BROKEN, UNDECIDED, FAILED = range(4)
 STATUSES = "Status: 0 all hold; 1 a file is refused, or a guarantee is broken; 2 some are undecided, and no key was found; 3 this could not be told."
 
 
@@ -76,22 +75,11 @@ class Warren:
     def __init__(self, program, definitions):
         self.program, self.definitions = program, definitions
 
-    def run(self, *words):
-        try:
-            return subprocess.run([self.program, *words], capture_output=True, text=True)
-        except OSError as error:
-            raise BadFile(f"{self.program}: {error.strerror}") from None
-
-    def check(self, guarantees):
-        done = self.run("check", self.definitions, guarantees)
-        if done.returncode < 0:
-            raise BadFile(f"{self.program} was ended by signal {-done.returncode}")
-        if done.returncode > UNDECIDED:
-            raise BadFile(f"{self.program} refuses what this script does not: {done.stderr.strip()}")
-        return done.stdout.splitlines()
+    def check(self, guarantees, count):
+        return checked(self.program, self.definitions, guarantees, count)
 
     def queues(self, exchange, key):
-        return self.run("route", "--", self.definitions, exchange, key).stdout.splitlines()
+        return ran(self.program, "route", "--", self.definitions, exchange, key).stdout.splitlines()
 
     def agrees(self, topology, guarantee, key, path):
         """Whether `warren route` leads the key as this script does: past the queue, or along the path, from each exchange where it has a key."""
@@ -161,12 +149,14 @@ def answered(given, definitions, guarantees):
     """Each guarantee that is asked for: its number, its sentence, its status, and what is said of it."""
     program = None if given.alone else given.warren or program_here()
     warren = Warren(program, given.definitions) if program else None
-    lines = lines_in(given.verdicts) if given.verdicts else warren.check(given.guarantees) if warren else []
-    verdicts = read_verdicts(lines, len(guarantees))
+    if given.verdicts:
+        verdicts = read_verdicts(lines_in(given.verdicts), len(guarantees))
+    else:
+        verdicts = warren.check(given.guarantees, len(guarantees)) if warren else {}
     asked = range(1, len(guarantees) + 1) if given.only is None else [given.only]
     lacks = next((it for it in asked if it not in verdicts), None)
-    if lacks is not None and (given.verdicts or warren):
-        raise BadFile(f"{given.verdicts or warren.program} says nothing of guarantee {lacks}")
+    if lacks is not None and given.verdicts:
+        raise BadFile(f"{given.verdicts} says nothing of guarantee {lacks}")
     answers = Answers(Topology(definitions), warren, given.states)
     for number in asked:
         it = guarantees[number - 1]
@@ -201,7 +191,7 @@ def run(given, cases):
     except Refused as refused:
         cases += tell_refusal(refused)
         return BROKEN
-    except BadFile as error:
+    except Fault as error:
         wrong = str(error)
     except OSError as error:
         wrong = why_of(error)
