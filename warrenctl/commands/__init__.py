@@ -13,6 +13,8 @@ COMMANDS = {
     "drain": "moves the messages of a queue into a file",
     "fill": "publishes the messages of such a file",
     "reload": "puts a folder of changed files in force",
+    "close": "shuts publishers out while consumers go on",
+    "open": "lets publishers in again",
     "metrics": "serves metrics of a broker to Prometheus",
     "front": "serves clients that ask for heartbeats, declare or bind",
 }
