@@ -3,6 +3,7 @@
 COMMANDS = {
     "convert": "makes a definitions file of an export of RabbitMQ",
     "suggest": "writes a first guarantees file: what holds today",
+    "unrouted": "says which messages are dropped, since no binding takes them",
     "why": "says why a file is refused, and what a verdict means",
     "draw": "draws a topology, and what breaks a guarantee",
     "audit": "checks certificates without warren",
