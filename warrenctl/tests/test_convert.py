@@ -9,7 +9,9 @@ import json
 import os
 import random
 import re
+import stat
 import subprocess
+import tempfile
 import unittest
 
 from dev import ROOT
@@ -482,6 +484,15 @@ class Stays(unittest.TestCase):
         for row in STAYS:
             for it in convert(row.export)[1]:
                 self.assertTrue(it.still and set(it.still) <= set(still.KINDS), it)
+
+    def test_a_file_with_password_hashes_is_its_owners_alone(self):
+        with tempfile.TemporaryDirectory() as folder:
+            name = os.path.join(folder, "definitions.json")
+            self.assertEqual(run("-", name, given=json.dumps(export_of()).encode())[0], 0)
+            self.assertEqual(stat.S_IMODE(os.stat(name).st_mode), 0o600)
+            os.chmod(name, 0o640)
+            self.assertEqual(run("-", name, given=json.dumps(export_of()).encode())[0], 0)
+            self.assertEqual(stat.S_IMODE(os.stat(name).st_mode), 0o640)
 
     def test_strict(self):
         for row in STAYS:

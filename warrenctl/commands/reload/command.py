@@ -48,7 +48,7 @@ def main(given):
     old = os.path.realpath(given.folder)
     if given.mark:
         mark(given.new)
-    certify(given.warren, given.new)
+    certify(given.warren, given.new, old)
     if given.server is None:
         swap(given.folder, given.new)
         tell("reload", f"{given.folder} leads to {given.new}; whether it is in force was not asked")
