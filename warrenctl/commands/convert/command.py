@@ -3,6 +3,8 @@
 import json
 import sys
 
+from warrenctl.cli.junit import ERROR, FAILURE, Case, report
+from warrenctl.cli.run import why_of
 from warrenctl.cli.words import Words
 from warrenctl.commands.convert.convert import SOURCE, NoFile, convert, no_export
 from warrenctl.commands.convert.part import part_of
@@ -28,10 +30,13 @@ def words(arguments):
     parser.add_argument("--only", action="append", default=[], metavar="NAME", nargs="+", help="take these queues, and those behind these exchanges, and nothing else; * is any characters")
     parser.add_argument("--all", action="store_true", help="tell each change by its entry, those too after which all is as before")
     parser.add_argument("--strict", action="store_true", help="for a RabbitMQ that stays: tell what becomes of a `yes` of warren check, and end with 1 if a change may break one")
+    parser.add_argument("--junit", metavar="FILE", help="with --strict: write a report in JUnit's form too, with a failure for each change that may break a `yes`")
     given = parser.parse_args(arguments)
     given.only = [name for names in given.only for name in names]
     if given.check and (given.only or given.all or given.strict):
         parser.error("--check is of the export as it is, without --only, --all and --strict")
+    if given.junit and not given.strict:
+        parser.error("--junit needs --strict")
     return given
 
 
@@ -137,15 +142,18 @@ def tell_written(made, changes, every):
         tell(f"RIGHTS GREW of user{'s' * (len(grew) > 1)} {', '.join(map(quoted, grew))}")
 
 
-def tell_breaking(changes):
-    """Tells how many changes may break a `yes`, and returns the status."""
-    count = sum(may_break(it.still) for it in changes)
+def tell_breaking(changes, cases, export):
+    """Tells how many changes may break a `yes`, adds a case for each, and returns the status."""
+    breaking = [it for it in changes if may_break(it.still)]
+    cases += [Case(export, f"{it.entry}: {it.what}", FAILURE, "may break", told(it.still)) for it in breaking]
+    cases += [] if breaking else [Case(export, "no change may break a `yes` for a RabbitMQ that stays")]
+    count = len(breaking)
     if count:
         tell(f"written, but {count} change{'s' * (count > 1)} MAY BREAK A `yes`")
     return BREAKS if count else TAKEN
 
 
-def make(data, given):
+def make(data, given, cases):
     value = read_json(mended_bytes(data, tell))
     part = part_of(value, given.vhost, given.only) if given.only else None
     made, changes = convert(part.export, given.vhost, part.stays) if part else convert(value, given.vhost)
@@ -165,16 +173,31 @@ def make(data, given):
     else:
         write(given.file, text)
     if given.strict:
-        return tell_breaking(changes)
+        return tell_breaking(changes, cases, given.export)
     tell_written(made, changes, given.all)
     return TAKEN
 
 
-def main(given):
+def work(given, cases):
     try:
         data = read(given.export)
-        return check(data) if given.check else make(data, given)
+        if not data.strip():
+            raise Fault(f"{given.export} is empty, as `curl -f` leaves it if the download was refused")
+        return check(data) if given.check else make(data, given, cases)
     except NotJson as error:
         raise Fault(f"{given.export} is not JSON (refused 1): {error}") from None
     except NoFile as error:
         raise Fault(f"{given.export}: {error}") from None
+
+
+def main(given):
+    cases = []
+    if given.junit is None:
+        return work(given, cases)
+    try:
+        return work(given, cases)
+    except (Fault, OSError) as error:
+        cases.append(Case(given.export, "a definitions file is made", ERROR, "failed", why_of(error) if isinstance(error, OSError) else str(error)))
+        raise
+    finally:
+        write(given.junit, report(given.export, cases or [Case(given.export, "a definitions file is made", ERROR, "failed", "it was broken off")]))

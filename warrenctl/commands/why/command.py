@@ -1,8 +1,11 @@
 """Says why warren refuses a file, and what its verdicts mean; for what it leaves undecided, looks for a key that breaks it."""
 
+import os
+import sys
+
+from warrenctl.cli.junit import ERROR, FAILURE, PASSED, Case, cases_in, report
 from warrenctl.cli.run import tell, why_of
 from warrenctl.cli.words import Words
-from warrenctl.commands.why.junit import ERROR, FAILURE, PASSED, Case, report
 from warrenctl.fault import FAILED, Fault
 from warrenctl.files.causes import EMPTY_ARRAYS, ENTRIES, name_of, quoted, read_json
 from warrenctl.files.places import lines_of
@@ -27,6 +30,7 @@ def words(arguments):
     parser.add_argument("--only", type=int, metavar="I", help="of guarantee I alone, counted from 1")
     parser.add_argument("--warren", metavar="PROGRAM", help="the program; without it, that of `make try`, a proved one, or the one on the path")
     parser.add_argument("--junit", metavar="FILE", help="write a report in JUnit's form too, one test for each guarantee, for a pipeline to show")
+    parser.add_argument("--with", dest="before", metavar="FILE", help="put the tests of this report, such as that of `convert --strict`, into the report, too")
     parser.add_argument("--alone", action="store_true", help="ask no program")
     parser.add_argument("--states", type=int, default=MOST_STATES, help=f"how far a search goes; without it, {MOST_STATES} states")
     return parser.parse_args(arguments)
@@ -187,7 +191,11 @@ def why(given, cases):
 def run(given, cases):
     """Does what is asked, and returns the status. What is wrong is a case, too."""
     try:
-        return why(given, cases)
+        if given.before is not None:
+            cases += cases_in(given.before)
+        status = why(given, cases)
+        sys.stdout.flush()
+        return status
     except Refused as refused:
         cases += tell_refusal(refused)
         return BROKEN
@@ -200,9 +208,15 @@ def run(given, cases):
     return FAILED
 
 
+def put_report(given, cases):
+    write(given.junit, report(given.guarantees or given.definitions, cases), given.definitions if os.path.exists(given.definitions) else None)
+
+
 def main(given):
     cases = []
+    if given.junit is not None:
+        put_report(given, [Case(given.definitions, "this came to an end", ERROR, "failed", "it was broken off")])
     status = run(given, cases)
     if given.junit is not None:
-        write(given.junit, report(given.guarantees or given.definitions, cases), given.definitions)
+        put_report(given, cases)
     return status
