@@ -9,7 +9,7 @@ import sys
 import tempfile
 
 from dev import SHOP
-from dev.program import given_program, proved, unproved
+from dev.program import check_readable, given_program, proved, unproved
 from warrenctl.cli.run import run
 from warrenctl.cli.words import Words
 from warrenctl.fault import Fault
@@ -116,6 +116,8 @@ def main(given):
     why = why_not(given.listen)
     if why:
         raise Fault(f"{given.listen}: {why}", TAKEN)
+    if given.definitions:
+        check_readable(given.definitions, given.guarantees)
     warren = program_of(given)
     with tempfile.TemporaryDirectory(prefix="warren-") as folder:
         files, status = files_of(warren, given, folder)

@@ -35,8 +35,9 @@ def words(arguments):
 
 
 def quoted(*lines):
-    """A text of Graphviz, of these lines."""
-    return '"' + "\\n".join(it.replace("\\", "\\\\").replace('"', '\\"').replace("\n", " ") for it in lines) + '"'
+    """A text of Graphviz, of these lines. A control character is shown as Python writes it."""
+    shown = ("".join(it if it.isprintable() else repr(it)[1:-1] for it in line) for line in lines)
+    return '"' + "\\n".join(it.replace("\\", "\\\\").replace('"', '\\"') for it in shown) + '"'
 
 
 def node(kind, name):

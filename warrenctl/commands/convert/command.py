@@ -154,6 +154,8 @@ def tell_breaking(changes, cases, export):
 
 
 def make(data, given, cases):
+    if not data.strip():
+        raise NoFile("it is empty, as `curl -f` leaves a file if the download was refused")
     value = read_json(mended_bytes(data, tell))
     part = part_of(value, given.vhost, given.only) if given.only else None
     made, changes = convert(part.export, given.vhost, part.stays) if part else convert(value, given.vhost)
@@ -181,8 +183,6 @@ def make(data, given, cases):
 def work(given, cases):
     try:
         data = read(given.export)
-        if not data.strip():
-            raise Fault(f"{given.export} is empty, as `curl -f` leaves it if the download was refused")
         return check(data) if given.check else make(data, given, cases)
     except NotJson as error:
         raise Fault(f"{given.export} is not JSON (refused 1): {error}") from None
