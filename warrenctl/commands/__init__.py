@@ -6,6 +6,7 @@ COMMANDS = {
     "unrouted": "says which messages are dropped, since no binding takes them",
     "why": "says why a file is refused, and what a verdict means",
     "draw": "draws a topology, and what breaks a guarantee",
+    "report": "writes one HTML page of a topology and its guarantees",
     "audit": "checks certificates without warren",
     "split": "cuts a topology into parts, each for a process of its own",
     "user": "adds a user, or gives a user a new password",
