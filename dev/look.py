@@ -32,7 +32,7 @@ def words():
     by.add_argument("--by", metavar="PROGRAM", help="by this program, such as /usr/bin/warren")
     given = parser.parse_args()
     if given.definitions and not given.guarantees:
-        parser.error("definitions want guarantees")
+        parser.error("definitions need guarantees")
     if given.seconds is None and is_unproved(given):
         given.seconds = 600
     return given
@@ -85,7 +85,7 @@ def certified(warren, given, folder):
         sys.stdout.write(checked.stdout.decode("utf-8", "replace"))
         sys.stdout.flush()
     if checked.returncode in NOT_ALL_HOLD:
-        tell(f"look: not all of {given.guarantees} holds, and warren serves only what holds (`python3 -m warrenctl why` tells more)")
+        tell(f"look: not all of {given.guarantees} holds, and warren serves only what holds (`python3 -m warrenctl why` says more)")
     return certificates, checked.returncode
 
 

@@ -17,7 +17,7 @@ MEANINGS = {
     0: "Nothing was proved. `make run` proves all of it first.",
     1: "A line `no` is a guarantee that does not hold, with a key that breaks it: no broker runs under it (docs/GUARANTEES.md, \"Reading a `no`\").",
     2: "A line `undecided` is a guarantee that may hold or not: no broker runs under it (docs/GUARANTEES.md). `python3 -m warrenctl why` looks for a key that breaks it.",
-    3: "A file is refused: `python3 -m warrenctl why` tells each cause with its entry (docs/FORMATS.md).",
+    3: "A file is refused: `python3 -m warrenctl why` names each cause with its entry (docs/FORMATS.md).",
     4: "A file could not be read.",
 }
 
@@ -28,7 +28,7 @@ def words():
     parser.add_argument("guarantees", nargs="?", help="a guarantees file")
     given = parser.parse_args()
     if given.definitions and not given.guarantees:
-        parser.error("definitions want guarantees")
+        parser.error("definitions need guarantees")
     if not given.definitions:
         given.definitions, given.guarantees = (os.path.join(SHOP, it) for it in ("definitions.json", "guarantees.json"))
     return given

@@ -61,7 +61,7 @@ class Serves(unittest.TestCase):
                 trial.write(it, "{}")
             status, out, said = trial.run("look", "mine.json", "wishes.json", "--listen", "127.0.0.1:0")
             self.assertEqual((status, out), (1, '1 no key "a"\n'))
-            self.assertEqual(said, "look: not all of wishes.json holds, and warren serves only what holds (`python3 -m warrenctl why` tells more)\n")
+            self.assertEqual(said, "look: not all of wishes.json holds, and warren serves only what holds (`python3 -m warrenctl why` says more)\n")
 
 
     def test_what_is_told_of_a_check(self):

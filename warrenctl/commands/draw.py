@@ -22,12 +22,12 @@ def words(arguments):
     parser.add_argument("--guarantees", help="the guarantees file that was checked")
     parser.add_argument("--verdicts", help="what `warren check` printed of them; what breaks a guarantee is red")
     parser.add_argument("--only", type=int, metavar="I", help="guarantee I alone, counted from 1")
-    parser.add_argument("--svg", help="the file for the picture; this wants Graphviz's program dot")
+    parser.add_argument("--svg", help="the file for the picture; this needs Graphviz's program dot")
     given = parser.parse_args(arguments)
     if given.verdicts and not given.guarantees:
-        parser.error("--verdicts wants --guarantees")
+        parser.error("--verdicts needs --guarantees")
     if given.only is not None and not given.guarantees:
-        parser.error("--only wants --guarantees")
+        parser.error("--only needs --guarantees")
     return given
 
 

@@ -18,7 +18,7 @@ from warrenctl.routing.dropping import enters, first_words, keeps, public_exchan
 from warrenctl.routing.sentences import key_told, told
 
 REFUSED = 1
-STATUSES = "Status: 0 none is dropped; 1 a key is, or warren refuses the definitions file; 2 some are undecided; 3 this could not be told."
+STATUSES = "Status: 0 none is dropped; 1 a key is, or warren refuses the definitions file; 2 some are undecided; 3 there is no answer."
 EVERY = "#"
 # of one exchange the first words that are asked for
 MOST_FIRST = 64

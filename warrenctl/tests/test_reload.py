@@ -236,7 +236,7 @@ class Reloads(unittest.TestCase):
 
         self.assertEqual(refused(self.old), "current leads to old already; copy the folder, and change the copy")
         self.assertEqual(refused(self.top + "/nowhere"), "nowhere is no folder")
-        self.assertEqual(refused(new, "--look", "127.0.0.1"), "127.0.0.1: a user and a host are wanted, as in till@127.0.0.1:5672")
+        self.assertEqual(refused(new, "--look", "127.0.0.1"), "127.0.0.1: a user and a host are required, as in till@127.0.0.1:5672")
         self.assertIn("--seconds", refused(new, "--seconds", "nan"))
         os.rename(self.program, self.program + ".away")
         self.assertEqual(refused(new), "program: No such file or directory")

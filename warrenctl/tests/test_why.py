@@ -177,7 +177,7 @@ class Refusals(unittest.TestCase):
             f'{names[0]}:{first}: exchange "payments": argument "x-message-ttl" (refused 7)',
         }
         self.assertEqual(set(out.splitlines()[:-1]), wanted)
-        self.assertEqual(out.splitlines()[-1], f"{names[0]}: 3 causes; warren tells the least: refused 7")
+        self.assertEqual(out.splitlines()[-1], f"{names[0]}: 3 causes; the lowest is what warren prints: refused 7")
 
     def test_policies_and_topic_permissions(self):
         definitions = {**topology({}, {}, []), "policies": [{"name": "p"}], "topic_permissions": [{"user": "till"}]}
@@ -220,7 +220,7 @@ class Refusals(unittest.TestCase):
 
     def test_what_is_taken(self):
         name = os.path.join(SHOP, "definitions.json")
-        self.assertEqual(run(name), (0, f"nothing stands against {name}: warren takes it\n", ""))
+        self.assertEqual(run(name), (0, f"warren accepts {name}\n", ""))
 
 
 class Junit(unittest.TestCase):
@@ -265,8 +265,8 @@ class Junit(unittest.TestCase):
         status, said, counts, cases = self.report(shop, "/nowhere")
         why = "/nowhere: No such file or directory"
         self.assertEqual((status, said, counts), (3, f"why: {why}\n", "1:0:1:0"))
-        self.assertEqual(cases, [("this could not be told", [("error", "failed", why, f"this could not be told: {why}")])])
-        self.assertEqual(run(shop, "--junit", "/no/where.xml"), (3, f"nothing stands against {shop}: warren takes it\n", "why: /no/where.xml: No such file or directory\n"))
+        self.assertEqual(cases, [("there is no answer", [("error", "failed", why, f"this could not be told: {why}")])])
+        self.assertEqual(run(shop, "--junit", "/no/where.xml"), (3, "", "why: /no/where.xml: No such file or directory\n"))
 
     def test_names_of_any_text(self):
         name = "<&\"'>\x01\ufffe\n\ud7ff\U0001f600]]>"

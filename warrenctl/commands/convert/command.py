@@ -1,4 +1,4 @@
-"""Makes a definitions file that warren takes out of an export of RabbitMQ, and tells what it changed or left out."""
+"""Makes a definitions file that warren takes out of an export of RabbitMQ, and prints what it changed or left out."""
 
 import json
 import sys
@@ -25,11 +25,11 @@ def words(arguments):
     parser = Words("convert", __doc__, STATUSES)
     parser.add_argument("export", help="the export of RabbitMQ (GET /api/definitions); - is standard input")
     parser.add_argument("file", nargs="?", help="the file to be written; without it, standard output")
-    parser.add_argument("--check", action="store_true", help="write nothing, and tell all causes for which warren refuses the export as it is")
+    parser.add_argument("--check", action="store_true", help="write nothing, and print all causes for which warren refuses the export as it is")
     parser.add_argument("--vhost", help="the virtual host to take; without it \"/\", or the only one")
     parser.add_argument("--only", action="append", default=[], metavar="NAME", nargs="+", help="take these queues, and those behind these exchanges, and nothing else; * is any characters")
-    parser.add_argument("--all", action="store_true", help="tell each change by its entry, those too after which all is as before")
-    parser.add_argument("--strict", action="store_true", help="for a RabbitMQ that stays: tell what becomes of a `yes` of warren check, and end with 1 if a change may break one")
+    parser.add_argument("--all", action="store_true", help="print each change by its entry, also those after which all is as before")
+    parser.add_argument("--strict", action="store_true", help="for a RabbitMQ that stays: print what becomes of a `yes` of warren check, and end with 1 if a change may break one")
     parser.add_argument("--junit", metavar="FILE", help="with --strict: write a report in JUnit's form too, with a failure for each change that may break a `yes`")
     given = parser.parse_args(arguments)
     given.only = [name for names in given.only for name in names]
@@ -73,9 +73,9 @@ def check(data):
     for it in sorted(causes, key=lambda it: it.number):
         print(f"refused {it.number}: {it.entry}: {it.what}")
     if not causes:
-        print("nothing stands against it: warren takes it as it is")
+        print("warren accepts it as it is")
         return TAKEN
-    print(f"{len(causes)} causes; warren tells the least: refused {min(it.number for it in causes)}")
+    print(f"{len(causes)} causes; the lowest is what warren prints: refused {min(it.number for it in causes)}")
     return REFUSED
 
 
@@ -136,7 +136,7 @@ def tell_staying(changes, every):
 def tell_written(made, changes, every):
     counts = ", ".join(f"{name} {len(made[name])}" for name in ("exchanges", "queues", "bindings", "users"))
     graver = sum(1 for it in changes if it.meaning)
-    tell(f"written: {counts}; changes {len(changes)}{'' if every else ' (--all tells each)'}, of these {graver} change the meaning. Messages are in memory alone, durable or not.")
+    tell(f"written: {counts}; changes {len(changes)}{'' if every else ' (--all prints each)'}, of these {graver} change the meaning. Messages are in memory alone, durable or not.")
     grew = list(dict.fromkeys(it.grew for it in changes if it.grew is not None))
     if grew:
         tell(f"RIGHTS GREW of user{'s' * (len(grew) > 1)} {', '.join(map(quoted, grew))}")

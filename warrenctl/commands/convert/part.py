@@ -1,6 +1,6 @@
 """A part of an export: some queues, with every exchange by which something reaches them. The rest stays in RabbitMQ.
 
-An exchange that is named stands for the queues to which it leads. Dead letters are followed from queues of the part alone: a queue that
+An exchange that is named means the queues to which it leads. Dead letters are followed from queues of the part alone: a queue that
 stays sends its own to RabbitMQ's exchanges.
 """
 

@@ -18,7 +18,7 @@ from warrenctl.routing.search import MOST_STATES, search
 from warrenctl.routing.sentences import broken, fault, promise, told, way
 from warrenctl.routing.topology import BadFile, read_verdicts
 
-STATUSES = "Status: 0 all hold; 1 a file is refused, or a guarantee is broken; 2 some are undecided, and no key was found; 3 this could not be told."
+STATUSES = "Status: 0 all hold; 1 a file is refused, or a guarantee is broken; 2 some are undecided, and no key was found; 3 there is no answer."
 
 
 def words(arguments):
@@ -26,7 +26,7 @@ def words(arguments):
     parser.add_argument("definitions", help="a definitions file")
     parser.add_argument("guarantees", nargs="?", help="a guarantees file")
     parser.add_argument("verdicts", nargs="?", help="what `warren check` printed of them; without it, warren is asked if it is here; - is standard input")
-    parser.add_argument("--certificates", help="a certificates file, whose refusals are told too")
+    parser.add_argument("--certificates", help="a certificates file, whose refusals are explained, too")
     parser.add_argument("--only", type=int, metavar="I", help="of guarantee I alone, counted from 1")
     parser.add_argument("--warren", metavar="PROGRAM", help="the program; without it, that of `make try`, a proved one, or the one on the path")
     parser.add_argument("--junit", metavar="FILE", help="write a report in JUnit's form too, one test for each guarantee, for a pipeline to show")
@@ -66,7 +66,7 @@ def tell_refusal(refused):
         cases.append(Case(refused.name, f"{refused.name}{at}: {it.entry}", ERROR, f"refused {it.number}", f"{it.what} (refused {it.number})"))
         print(f"{cases[-1].name}: {cases[-1].said}")
     count = len(refused.causes)
-    print(f"{refused.name}: {count} cause{'s' * (count != 1)}; warren tells the least: refused {refused.number}")
+    print(f"{refused.name}: {count} cause{'s' * (count != 1)}; the lowest is what warren prints: refused {refused.number}")
     return cases
 
 
@@ -171,8 +171,8 @@ def why(given, cases):
     """Prints what is to be said, adds a case for each guarantee, and returns the status."""
     definitions = read_definitions(given.definitions)
     if given.guarantees is None:
-        print(f"nothing stands against {given.definitions}: warren takes it")
-        cases.append(Case(given.definitions, "warren takes it"))
+        print(f"warren accepts {given.definitions}")
+        cases.append(Case(given.definitions, "warren accepts it"))
         return HOLDS
     guarantees = read_guarantees(given.guarantees, definitions)
     if given.only is not None and not 1 <= given.only <= len(guarantees):
@@ -204,7 +204,7 @@ def run(given, cases):
     except OSError as error:
         wrong = why_of(error)
     tell("why", wrong)
-    cases.append(Case(given.definitions, "this could not be told", ERROR, "failed", wrong))
+    cases.append(Case(given.definitions, "there is no answer", ERROR, "failed", wrong))
     return FAILED
 
 
