@@ -88,7 +88,7 @@ def of_the_pipeline(warren):
     checked = Checked(warren, with_one_more())
     lines = [KEY.sub("`orders.new`", it) for it in checked.lines]
     yield wanted("one binding more: a path breaks a guarantee", (checked.status, lines) == (1, [*passed[:3], failed[1], passed[4]]), vars(checked))
-    yield wanted("and the report has it", (checked.tests, checked.failed) == (6, ["nothing of `shop` comes to `mail`"]), vars(checked))
+    yield wanted("and the report has it", (checked.tests, checked.failed) == (6, ["nothing of `shop` reaches `mail`"]), vars(checked))
     checked = Checked(warren, with_a_queue_that_goes())
     yield wanted("an auto-delete queue: status 1, and all hold", (checked.status, checked.lines, checked.said[-1]) == (1, passed, "written, but 1 change MAY BREAK A `yes`"), vars(checked))
     yield wanted("and the report has it", checked.failed == ['queue "session": auto_delete is now false'], vars(checked))

@@ -64,7 +64,7 @@ class Suggests(unittest.TestCase):
         definitions = topology({"X": "topic Else", "Y": "topic Else", "Else": "fanout"}, {"q": None, "lost": None}, [("X", "#", "q"), ("Y", "a.#", "q"), ("Else", "", "lost")])
         _, found, said = suggested(definitions)
         self.assertEqual(found[0], ("never", "X", "#", "lost"))
-        self.assertIn("  nothing of `Y` comes to `lost`: NO: the empty key goes from `Y` to `Else` to `lost`", said.splitlines())
+        self.assertIn("  nothing of `Y` reaches `lost`: NO: the empty key goes from `Y` to `Else` to `lost`", said.splitlines())
 
     def test_what_both_bindings_let_pass(self):
         definitions = topology(

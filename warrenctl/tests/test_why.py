@@ -92,8 +92,8 @@ class Sentences(unittest.TestCase):
             (reaches("X", "", "q"), "the empty key of `X` reaches `q`"),
             (reaches("X", "a.*", "q", "a.b"), "every `a.*` of `X` but `a.b` reaches `q`"),
             (reaches("X", "#", "q", "a", "b", "c"), "everything of `X` but `a`, `b` and `c` reaches `q`"),
-            (never("X", "#", "q`"), 'nothing of `X` comes to "q`"'),
-            (never("X", "a.#", "q"), "nothing under `a.#` of `X` comes to `q`"),
+            (never("X", "#", "q`"), 'nothing of `X` reaches "q`"'),
+            (never("X", "a.#", "q"), "nothing under `a.#` of `X` reaches `q`"),
         ):
             self.assertEqual(promise(guarantee), said)
 
@@ -130,7 +130,7 @@ class Sentences(unittest.TestCase):
     def test_a_path_of_warren(self):
         definitions = topology({"payments": "direct", "news": "fanout"}, {"billing": ("news",), "mail": None}, [("payments", "paid", "billing"), ("news", "", "mail")])
         with written(definitions, {"guarantees": [never("payments", "#", "mail")]}, '1 no key "paid" path "payments" "billing" "news" "mail"\n') as names:
-            said = "1: nothing of `payments` comes to `mail`: NO: `paid` goes from `payments` to `billing`; rejected there, it goes on to `news` and so to `mail`\n"
+            said = "1: nothing of `payments` reaches `mail`: NO: `paid` goes from `payments` to `billing`; rejected there, it goes on to `news` and so to `mail`\n"
             self.assertEqual(run(*names), (1, said, ""))
 
     def test_a_program_is_asked(self):
@@ -245,9 +245,9 @@ class Junit(unittest.TestCase):
             status, said, counts, cases = self.report(*names)
         self.assertEqual((status, said, counts), (1, "", "4:3:0:0"))
         missed = ("everything of `X` reaches `q`", "NO: the empty key goes nowhere")
-        entered = ("nothing under `c` of `X` comes to `q`", "NO: `c` goes from `X` to `r`; rejected there, it goes on as `b.c` to `X` and so to `q`")
+        entered = ("nothing under `c` of `X` reaches `q`", "NO: `c` goes from `X` to `r`; rejected there, it goes on as `b.c` to `X` and so to `q`")
         undecided = "UNDECIDED: a key of more than 255 bytes, which no client can send, breaks it, and no key of fewer words does; take a shorter pattern"
-        open_one = ("nothing under `d` of `X` comes to `q`", undecided)
+        open_one = ("nothing under `d` of `X` reaches `q`", undecided)
         failed = [(name, [("failure", kind, why, f"{name}: {why}")]) for (name, why), kind in ((missed, "broken"), (entered, "broken"), (open_one, "undecided"))]
         self.assertEqual(cases, [("every `a.#` of `X` reaches `q`", []), *failed])
 
