@@ -258,14 +258,14 @@ class Junit(unittest.TestCase):
             what = "its key has an empty word (refused 9)"
             entry = f'{names[0]}:1: binding "X" to queue "q", key "a..b"'
             self.assertEqual((status, said, counts, cases), (1, "", "1:0:1:0", [(entry, [("error", "refused 9", what, f"{entry}: {what}")])]))
-        self.assertEqual(self.report(os.path.join(SHOP, "definitions.json")), (0, "", "1:0:0:0", [("warren takes it", [])]))
+        self.assertEqual(self.report(os.path.join(SHOP, "definitions.json")), (0, "", "1:0:0:0", [("warren accepts it", [])]))
 
     def test_what_could_not_be_told_is_an_error(self):
         shop = os.path.join(SHOP, "definitions.json")
         status, said, counts, cases = self.report(shop, "/nowhere")
         why = "/nowhere: No such file or directory"
         self.assertEqual((status, said, counts), (3, f"why: {why}\n", "1:0:1:0"))
-        self.assertEqual(cases, [("there is no answer", [("error", "failed", why, f"this could not be told: {why}")])])
+        self.assertEqual(cases, [("there is no answer", [("error", "failed", why, f"there is no answer: {why}")])])
         self.assertEqual(run(shop, "--junit", "/no/where.xml"), (3, "", "why: /no/where.xml: No such file or directory\n"))
 
     def test_names_of_any_text(self):
