@@ -120,7 +120,7 @@ tools:
 	@python3 -m dev.stores | cmp - crates/line_cases/data/stores.lines
 	@python3 -m dev.unit
 
-# makes the shop's pictures anew; this wants Graphviz
+# makes the shop's pictures anew; this needs Graphviz
 pictures: warren
 	@sed 's/"orders\.#"/"orders.*.#"/' $(SHOP)/definitions.json > $(CHANGED)
 	@python3 -m warrenctl draw $(SHOP)/definitions.json > $(SHOP)/topology.dot
@@ -144,7 +144,7 @@ examples: warren
 	@python3 -m warrenctl draw $(CHANGED) $(BROKEN) | cmp - $(SHOP)/broken.dot
 	@python3 -m dev.manual --check --program "$(WARREN)"
 
-# Each part wants a RabbitMQ or other packages of Debian, which `make test-packages` names: one that lacks them says so in one line, and passes.
+# Each part needs a RabbitMQ or other packages of Debian, which `make test-packages` names: one that lacks them says so in one line, and passes.
 DEBIAN = gcc man-db zsh rabbitmq-server haproxy stunnel4 openssl prometheus python3-yaml python3-prometheus-client python3-pika python3-pamqp python3-aio-pika celery ruby-bunny
 DEBIAN += php-amqplib php-cli librabbitmq-client-java default-jdk-headless golang-go golang-github-rabbitmq-amqp091-go-dev
 AROUND = reload deploy metrics parts shovel rabbit agree exports ci takeover unmodified

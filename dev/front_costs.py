@@ -1,6 +1,6 @@
 """Measures what the front costs: python3 -m dev.front_costs WARREN
 
-It serves the shop, and publishes to it directly and through the front, in turn. Of the front it tells the processor time of a message and of a
+It serves the shop, and publishes to it directly and through the front, in turn. Of the front it prints the processor time of a message and of a
 connection, its memory, and how much longer a publish waits for its ack. Standard error says what was measured how.
 """
 

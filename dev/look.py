@@ -9,7 +9,7 @@ import sys
 import tempfile
 
 from dev import SHOP
-from dev.program import given_program, proved, unproved
+from dev.program import check_readable, given_program, proved, unproved
 from warrenctl.cli.run import run
 from warrenctl.cli.words import Words
 from warrenctl.fault import Fault
@@ -32,7 +32,7 @@ def words():
     by.add_argument("--by", metavar="PROGRAM", help="by this program, such as /usr/bin/warren")
     given = parser.parse_args()
     if given.definitions and not given.guarantees:
-        parser.error("definitions want guarantees")
+        parser.error("definitions need guarantees")
     if given.seconds is None and is_unproved(given):
         given.seconds = 600
     return given
@@ -85,7 +85,7 @@ def certified(warren, given, folder):
         sys.stdout.write(checked.stdout.decode("utf-8", "replace"))
         sys.stdout.flush()
     if checked.returncode in NOT_ALL_HOLD:
-        tell(f"look: not all of {given.guarantees} holds, and warren serves only what holds (`python3 -m warrenctl why` tells more)")
+        tell(f"look: not all of {given.guarantees} holds, and warren serves only what holds (`python3 -m warrenctl why` says more)")
     return certificates, checked.returncode
 
 
@@ -116,6 +116,8 @@ def main(given):
     why = why_not(given.listen)
     if why:
         raise Fault(f"{given.listen}: {why}", TAKEN)
+    if given.definitions:
+        check_readable(given.definitions, given.guarantees)
     warren = program_of(given)
     with tempfile.TemporaryDirectory(prefix="warren-") as folder:
         files, status = files_of(warren, given, folder)

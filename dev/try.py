@@ -6,17 +6,18 @@ import subprocess
 import sys
 
 from dev import SHOP
-from dev.program import unproved
+from dev.program import check_readable, unproved
 from warrenctl.cli.run import run
 from warrenctl.cli.words import Words
 from warrenctl.fault import Fault
 
 STATUSES = "Status: that of `warren check`: 0 all hold; 1 some do not; 2 none is broken, some are undecided; 3 a file is refused, or there is no build; 4 a file cannot be read."
+UNREADABLE = 4
 MEANINGS = {
     0: "Nothing was proved. `make run` proves all of it first.",
     1: "A line `no` is a guarantee that does not hold, with a key that breaks it: no broker runs under it (docs/GUARANTEES.md, \"Reading a `no`\").",
     2: "A line `undecided` is a guarantee that may hold or not: no broker runs under it (docs/GUARANTEES.md). `python3 -m warrenctl why` looks for a key that breaks it.",
-    3: "A file is refused: `python3 -m warrenctl why` tells each cause with its entry (docs/FORMATS.md).",
+    3: "A file is refused: `python3 -m warrenctl why` names each cause with its entry (docs/FORMATS.md).",
     4: "A file could not be read.",
 }
 
@@ -27,7 +28,7 @@ def words():
     parser.add_argument("guarantees", nargs="?", help="a guarantees file")
     given = parser.parse_args()
     if given.definitions and not given.guarantees:
-        parser.error("definitions want guarantees")
+        parser.error("definitions need guarantees")
     if not given.definitions:
         given.definitions, given.guarantees = (os.path.join(SHOP, it) for it in ("definitions.json", "guarantees.json"))
     return given
@@ -38,6 +39,7 @@ def tell(line):
 
 
 def main(given):
+    check_readable(given.definitions, given.guarantees, status=UNREADABLE)
     warren = unproved(tell)
     print(f"warren check {os.path.basename(given.definitions)} {os.path.basename(given.guarantees)}", flush=True)
     try:

@@ -1,7 +1,7 @@
 """Runs the tests of warrenctl/tests and dev/tests, four modules at a time: python3 -m dev.unit [MODULE ..], such as test_why or dev.tests.test_map.
 
 A line for each module, and all that one says that fails. The last lines count what was skipped, by the package that is not installed.
-Modules that want a Python package of Debian are run by Debian's Python if this one has it not. Status: 0 all passed; 1 a module failed; 3 there is no such module.
+Modules that need a Python package of Debian are run by Debian's Python if this one lacks it. Status: 0 all passed; 1 a module failed; 3 there is no such module.
 """
 
 import glob

@@ -42,7 +42,7 @@ def from_1(word):
 
 
 def words():
-    epilog = "Status: 0 they agree, or RabbitMQ is not installed, which a line says; 1 they differ; 3 this could not be told."
+    epilog = "Status: 0 they agree, or RabbitMQ is not installed, which a line says; 1 they differ; 3 there is no answer."
     parser = Words("agree", __doc__, epilog, "python3 -m dev.agree")
     parser.add_argument("warren", nargs="?", help="the program; without it, that of `make try`, a proved one, or the one on the path")
     parser.add_argument("--topologies", type=from_1, default=500, metavar="N", help="how many; 500 without it")

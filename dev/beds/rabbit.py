@@ -6,7 +6,7 @@
         serve_clients_at(rabbit.port)
 
 The node is of the user who runs the script, root or another. It has an epmd of its own, ports that were free, and a folder for temporary
-files, which goes with it. It is ended with the block, and by the system if the script is killed. It wants Debian's package
+files, which goes with it. It is ended with the block, and by the system if the script is killed. It needs Debian's package
 `rabbitmq-server` (tried with 3.10.8).
 """
 

@@ -2,7 +2,7 @@
 of crates.txt, group by group, in the order of that file. Each function in the table "## Where a rule is" is there too. Proves nothing.
 
 A path is a part "## The path of .." with a numbered list. An item begins with its call, `crate::module::Type::function`, as many of modules and
-types as tell it apart; what is said of it follows a colon, and may name further calls. A list has at most 12 items below its first.
+types as distinguish it; what is said of it follows a colon, and may name further calls. A list has at most 12 items below its first.
 
 A turn is a part "## A turn of .." whose list is of calls that one function makes, in this order: the sentence before the list names it.
 """

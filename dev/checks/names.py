@@ -2,7 +2,7 @@
 a public type `Names` that file is proofs/Imports.antt. Proves nothing.
 
 python3 -m dev.checks.names write CRATE ..   gathers the names in that file of each crate, and lets its proof files import them from there
-python3 -m dev.checks.names [ROOT]           tells each proof file that imports from elsewhere what that file of its crate has
+python3 -m dev.checks.names [ROOT]           prints each proof file that imports from elsewhere what that file of its crate has
 """
 
 import collections

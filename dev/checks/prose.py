@@ -1,5 +1,5 @@
 """Checks the pages: that no link leads nowhere, how long the README is, that no sentence has a word of the dialect below, and that a crate's CALLING.md
-quotes a proved caller. Checks the doc comments of what is public in each crate for the same words.
+quotes a proved caller. Checks the doc comments of what is public in each crate for the same words, and what warrenctl, dev and the Makefile print.
 
 The words are short and true, and a reader stops at them. Beside each is what to write instead. Quoted code may have them.
 
@@ -9,6 +9,7 @@ A CALLING.md has at most 80 lines. Each of its blocks of code and of definitions
 crates/callers, and one of them at least has a public function.
 """
 
+import ast
 import glob
 import os
 import re
@@ -18,6 +19,8 @@ from dev import ROOT
 
 CALLING = "crates/*/CALLING.md"
 PAGES = ("README.md", "CHANGELOG.md", "CONTRIBUTING.md", "warrenctl/README.md", "dev/README.md", "docs/*.md", "docs/inside/*.md", "examples/*/README.md", "crates/*/README.md", CALLING)
+# what is printed by these, with their help, has none of the words below and none of PRINTED
+PROGRAMS = ("warrenctl/*.py", "warrenctl/[!t]*/*.py", "warrenctl/commands/*/*.py", "dev/*.py", "dev/*/__main__.py")
 SOURCES = ("crates/*/src/*.rt", "crates/*/src/*/*.rt", "crates/*/src/*/*/*.rt")
 # these name pages, too
 BESIDE = ("crates/cases/data/*/*.script",)
@@ -36,7 +39,15 @@ DIALECT = (
     (r"once more", "again, one more time"),
     (r"from (?:then|now|there) on", "since, after that, later"),
 )
+# these have rows and patterns as strings
+NOT_PRINTED = ("dev/stores.py",)
+# words of printed text alone
+PRINTED = (
+    (r"wants?(?! to)|wanted", "needs, requires"),
+    (r"tells?|told", "prints, says, names, explains"),
+)
 ANY = re.compile(rf"\b(?:{'|'.join(words for words, _ in DIALECT)})\b", re.IGNORECASE)
+ANY_PRINTED = re.compile(rf"\b(?:{'|'.join(words for words, _ in (*DIALECT, *PRINTED))})\b", re.IGNORECASE)
 LINK = re.compile(r"\]\(([^)]+)\)")
 # a link by a name, [`name`], leads where a line of the page says
 NAMED_LINK = re.compile(r"\[(`[^`]+`)\](?![(:])")
@@ -93,11 +104,38 @@ def dead_names(root, page, text):
     yield from (f"{page}: there is no {it}" for it in NAMED.findall(text) if not os.path.exists(os.path.join(root, it)))
 
 
-def dialect(page, text):
+def dialect(page, text, more=()):
     for number, line in enumerate(sentences(text), 1):
-        for it in ANY.finditer(line):
-            instead = next(instead for words, instead in DIALECT if re.fullmatch(words, it.group(0), re.IGNORECASE))
+        for it in ANY_PRINTED.finditer(line) if more else ANY.finditer(line):
+            instead = next(instead for words, instead in (*DIALECT, *more) if re.fullmatch(words, it.group(0), re.IGNORECASE))
             yield f"{page}:{number}: \"{it.group(0)}\"; instead: {instead}"
+
+
+def parts_with_text(node):
+    """The parts of a part of a program that may have text for people: no doc string of a function or a class, names of fields, or pattern."""
+    inner = list(ast.iter_child_nodes(node))
+    if isinstance(node, (ast.FunctionDef, ast.ClassDef)) and ast.get_docstring(node) is not None:
+        return [it for it in inner if it is not node.body[0]]
+    called = getattr(node.func, "attr", getattr(node.func, "id", "")) if isinstance(node, ast.Call) else ""
+    return [] if called in ("namedtuple", "compile") else inner
+
+
+def printed(text):
+    """The text of a program with all lines empty but what its strings have, at the lines where they are. A string with a blank in it is for people."""
+    lines = [""] * (text.count("\n") + 1)
+    waiting = [ast.parse(text)]
+    while waiting:
+        node = waiting.pop()
+        if isinstance(node, ast.Constant) and isinstance(node.value, str) and " " in node.value:
+            for place, line in enumerate(node.value.split("\n"), node.lineno - 1):
+                lines[min(place, len(lines) - 1)] += line + " "
+        waiting += parts_with_text(node)
+    return "\n".join(lines)
+
+
+def echoed(text):
+    """The comments of a Makefile, and what it prints."""
+    return "\n".join(line if re.match(r"#|\t@echo", line) else "" for line in text.split("\n"))
 
 
 def inside_public(lines):
@@ -164,10 +202,14 @@ def main(root):
     wrong = [it for page in pages for it in wrong_in(root, page)]
     sources = found(root, SOURCES)
     wrong += [it for source in sources for it in dialect(source, public_docs(text_of(root, source)))]
+    programs = [it for it in found(root, PROGRAMS) if it not in NOT_PRINTED]
+    wrong += [it for name in programs for it in dialect(name, printed(text_of(root, name)), PRINTED)]
+    if os.path.exists(os.path.join(root, "Makefile")):
+        wrong += dialect("Makefile", echoed(text_of(root, "Makefile")), PRINTED)
     wrong += [it for page in found(root, BESIDE) for it in dead_names(root, page, text_of(root, page))]
     for it in wrong:
         print(it)
-    print(f"{len(pages)} pages, {len(sources)} sources, {len(wrong)} faults")
+    print(f"{len(pages)} pages, {len(sources)} sources, {len(programs)} programs, {len(wrong)} faults")
     return 1 if wrong else 0
 
 

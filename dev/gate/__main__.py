@@ -73,7 +73,7 @@ def show(line):
 def refusals():
     """How many lists of refused growths passed and failed, of the programs that `rt ci` left."""
     if not shutil.which("cc"):
-        tell("gate: no growth of memory is refused to the programs: that wants cc, the C compiler, which is not here")
+        tell("gate: no growth of memory is refused to the programs: that needs cc, the C compiler, which is not here")
         return 0, 0
     missing = next((it for it in PROGRAMS if not os.path.exists(it)), None)
     if missing:

@@ -18,7 +18,7 @@ HERE = os.path.dirname(os.path.abspath(__file__))
 def words():
     parser = Words("manual", __doc__, "Status: 0 done; 1 with --check: a file is not up to date; 3 not done, and a line says why.", "python3 -m dev.manual")
     parser.add_argument("--program", metavar="PROGRAM", help="take the help texts from this program first")
-    parser.add_argument("--check", action="store_true", help="write nothing, and tell each file that is not up to date")
+    parser.add_argument("--check", action="store_true", help="write nothing, and print each file that is not up to date")
     return parser.parse_args()
 
 

@@ -1,4 +1,4 @@
-"""What the program says with `--help`, for itself and for each of its commands: what stands in it, read."""
+"""What the program says with `--help`, for itself and for each of its commands: its parts, read."""
 
 import re
 import subprocess

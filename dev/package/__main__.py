@@ -1,7 +1,7 @@
 #!/usr/bin/env python3
 """Makes a Debian package of the program warren, with its manual page, completions, unit and /etc/warren, and with the scripts, pages and examples in
 /usr/share/warren. Prints the SHA-256 of the program and of the package. The program is taken as it is: `make package` gives the proved one.
-This wants dpkg-deb."""
+This needs dpkg-deb."""
 
 import hashlib
 import os

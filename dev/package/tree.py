@@ -1,4 +1,4 @@
-"""What a package has: its files, and what the system is told of it."""
+"""What a package has: its files, and what the system has to know of it."""
 
 import gzip
 import os

@@ -80,7 +80,7 @@ class Gate(unittest.TestCase):
         os.unlink(f"{self.trial.root}/bin/cc")
         status, told, _ = self.run_gate()
         self.assertEqual((status, told[-1]), (0, "12 passed, 0 failed"))
-        self.assertIn("wants cc", told[-2])
+        self.assertIn("needs cc", told[-2])
 
     def test_a_growth_that_makes_a_difference_fails(self):
         self.trial.write("examples/refusals/run", refuses("3 passed, 1 failed", 1))

@@ -49,15 +49,19 @@ class Serves(unittest.TestCase):
     def test_files_of_ones_own_are_checked_first(self):
         with Trial() as trial:
             trial.program('if [ $1 = check ]; then echo "1 yes states 3"; exit 0; fi; ' + SERVES)
+            for it in ("mine.json", "wishes.json"):
+                trial.write(it, "{}")
             status, out, said = trial.run("look", "mine.json", "wishes.json", "--listen", "127.0.0.1:0", "--seconds", "0.5")
             self.assertEqual((status, out.count("\n")), (0, 1))
             made = re.fullmatch(r"serve mine\.json wishes\.json (.+/certificates\.json) --listen 127\.0\.0\.1:0\n", said)
             self.assertFalse(made.group(1).startswith(trial.root), "a checkout may be read-only")
             self.assertFalse(os.path.exists(os.path.dirname(made.group(1))), "nothing is left")
             trial.program('echo "1 no key \\"a\\""; exit 1')
+            for it in ("mine.json", "wishes.json"):
+                trial.write(it, "{}")
             status, out, said = trial.run("look", "mine.json", "wishes.json", "--listen", "127.0.0.1:0")
             self.assertEqual((status, out), (1, '1 no key "a"\n'))
-            self.assertEqual(said, "look: not all of wishes.json holds, and warren serves only what holds (`python3 -m warrenctl why` tells more)\n")
+            self.assertEqual(said, "look: not all of wishes.json holds, and warren serves only what holds (`python3 -m warrenctl why` says more)\n")
 
 
     def test_what_is_told_of_a_check(self):
@@ -65,6 +69,8 @@ class Serves(unittest.TestCase):
         for status, lines in ((1, 1), (2, 1), (3, 0), (4, 0)):
             with Trial() as trial:
                 trial.program(f'echo "1 yes states 3"; exit {status}')
+                for it in ("mine.json", "wishes.json"):
+                    trial.write(it, "{}")
                 found, out, said = trial.run("look", "mine.json", "wishes.json", "--listen", "127.0.0.1:0")
                 self.assertEqual((found, out, said.count("\n")), (status, "1 yes states 3\n", lines))
 
@@ -72,6 +78,8 @@ class Serves(unittest.TestCase):
         """It is that of the crate, made by `rt run`, and serves until it is ended; names of files may have blanks."""
         with Trial() as trial:
             trial.rt("mkdir -p out; echo '#!/bin/sh' > out/warren; echo 'if [ $1 = serve ]; then echo \"warren: listening on 127.0.0.1:1\"; exec sleep 60; fi; echo \"$2\" >&2' >> out/warren; chmod 755 out/warren; touch out/warren.stamp")
+            for it in ("my defs.json", "wishes.json"):
+                trial.write(it, "{}")
             running = trial.start("look", "my defs.json", "wishes.json", "--proved", "--listen", "127.0.0.1:0")
             self.assertEqual(running.stdout.readline(), "warren: listening on 127.0.0.1:1\n")
             running.terminate()

@@ -39,6 +39,24 @@ class Dialect(unittest.TestCase):
         self.assertEqual(told, ['PAGE:5: "stands"; instead: is, lies, waits; or the verb of what it does'])
 
 
+class Printed(unittest.TestCase):
+    def found(self, text):
+        return [(int(it.split(":")[1]), it.split('"')[1]) for it in prose.dialect("PROGRAM", prose.printed(text), prose.PRINTED)]
+
+    def test_what_is_printed(self):
+        self.assertEqual(self.found('"""Help that tells.\n\nIt wants more.\n"""\nprint(f"{x} stands against it")\n'), [(1, "tells"), (3, "wants"), (5, "stands")])
+        self.assertEqual(self.found('parser.add_argument("--x", help="so many of it")\nraise Fault("--a wants --b")\n'), [(1, "so many"), (2, "wants")])
+
+    def test_what_is_not(self):
+        text = 'def told():\n    """Tells what is wanted."""\n    return "told"\n\n\nclass C:\n    """What stands here."""\n\n\nT = namedtuple("T", "told wanted")\nP = re.compile("no more of")\n'
+        self.assertEqual(self.found(text), [])
+        self.assertEqual(self.found('print("what you do not want to promise")\nprint("`wants it` is code")\n'), [])
+
+    def test_a_makefile(self):
+        told = list(prose.dialect("Makefile", prose.echoed('# this wants Graphviz\nit:\n\t@echo "it stands"\n\t@wants more\n'), prose.PRINTED))
+        self.assertEqual([it.split('"')[1] for it in told], ["wants", "stands"])
+
+
 class PublicDocs(unittest.TestCase):
     def kept(self, text):
         """The lines that are kept, by their numbers."""

@@ -74,27 +74,28 @@ class Checked:
             self.failed = self.tests = None
             if os.path.exists(report):
                 cases = list(tree.parse(report).iter("testcase"))
-                self.tests, self.failed = len(cases), [case.get("name") for case in cases if case.find("failure") is not None]
+                self.tests, self.failed = len(cases), [case.get("name") for case in cases if case.find("failure") is not None or case.find("error") is not None]
 
 
 def of_the_pipeline(warren):
     passed, failed = lines_of("passed"), lines_of("failed")
     checked = Checked(warren, exported())
-    yield wanted("the export as it is", (checked.status, checked.lines, checked.failed) == (0, passed, []), vars(checked))
+    yield wanted("the export as it is", (checked.status, checked.lines, checked.tests, checked.failed) == (0, passed, 6, []), vars(checked))
     yield wanted("and what a yes says of that RabbitMQ", checked.said == lines_of("stays"), checked.said)
     checked = Checked(warren, with_a_binding_changed())
     yield wanted("one binding is changed: a key breaks a guarantee", (checked.status, checked.lines) == (1, [failed[0], *passed[1:]]), vars(checked))
-    yield wanted("and the report has it", (checked.tests, checked.failed) == (5, ["every `orders.#` of `shop` reaches `audit`"]), vars(checked))
+    yield wanted("and the report has it", (checked.tests, checked.failed) == (6, ["every `orders.#` of `shop` reaches `audit`"]), vars(checked))
     checked = Checked(warren, with_one_more())
     lines = [KEY.sub("`orders.new`", it) for it in checked.lines]
     yield wanted("one binding more: a path breaks a guarantee", (checked.status, lines) == (1, [*passed[:3], failed[1], passed[4]]), vars(checked))
-    yield wanted("and the report has it", (checked.tests, checked.failed) == (5, ["nothing of `shop` comes to `mail`"]), vars(checked))
+    yield wanted("and the report has it", (checked.tests, checked.failed) == (6, ["nothing of `shop` reaches `mail`"]), vars(checked))
     checked = Checked(warren, with_a_queue_that_goes())
     yield wanted("an auto-delete queue: status 1, and all hold", (checked.status, checked.lines, checked.said[-1]) == (1, passed, "written, but 1 change MAY BREAK A `yes`"), vars(checked))
+    yield wanted("and the report has it", checked.failed == ['queue "session": auto_delete is now false'], vars(checked))
     part = Checked(warren, with_a_queue_that_goes(), "--only", "audit", "billing", "screen", "late", "mail")
     yield wanted("the queues of the guarantees alone: status 0", (part.status, part.lines) == (0, passed), vars(part))
     checked = Checked(warren, {"error": "not_authorised", "reason": "Login failed"})
-    yield wanted("an answer that is no export: status 3", (checked.status, len(checked.said), checked.tests) == (3, 1, None), vars(checked))
+    yield wanted("an answer that is no export: status 3", (checked.status, len(checked.said), checked.failed) == (3, 1, ["a definitions file is made"]), vars(checked))
 
 
 def arrives(rabbit, key, queue):

@@ -34,7 +34,7 @@ REST = 0.2
 
 def tool(name, *words):
     """Runs a command of warrenctl, and returns what it prints."""
-    done = subprocess.run([*warrenctl(name), *words], capture_output=True, text=True)
+    done = subprocess.run([*warrenctl(name), *words], capture_output=True, text=True, env={**os.environ, "WARREN_PASSWORD": "till"})
     if done.returncode:
         raise SystemExit(done.stderr)
     return done.stdout
@@ -98,15 +98,6 @@ def part_of(rabbit, warren, folder):
     return names[1:]
 
 
-def shut_publishers_out(files):
-    """Makes each exchange internal; the server reads the file again, and refuses publishes from then on."""
-    with open(files[0], encoding="utf-8") as file:
-        text = file.read()
-    with open(files[0] + ".new", "w", encoding="utf-8") as file:
-        file.write(text.replace('"internal": false', '"internal": true'))
-    os.replace(files[0] + ".new", files[0])
-
-
 def is_shut(port):
     try:
         publish(port, b"shop", b"no.order", [b"late"])
@@ -136,8 +127,8 @@ def take_over_and_back(rabbit, warren, folder):
         new = [b"new %d" % it for it in range(PUBLISHED)]
         publish(port, b"shop", b"orders.new", new)
         begun = time.monotonic()
-        shut_publishers_out(files)
-        until(lambda: is_shut(port))
+        tool("close", files[0], "--look", f"till@127.0.0.1:{port}")
+        assert is_shut(port)
         for queue in PART:
             shovel(rabbit, f"{queue} back", queue, there_uri, ITSELF)
         took = time.monotonic() - begun

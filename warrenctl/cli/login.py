@@ -16,7 +16,7 @@ def address_of(server):
     if place.count(":") > 1 and not place.startswith("["):
         raise Fault(f"{server}: an IPv6 address has to be in brackets")
     if not user or not host:
-        raise Fault(f"{server}: a user and a host are wanted, as in till@127.0.0.1:5672")
+        raise Fault(f"{server}: a user and a host are required, as in till@127.0.0.1:5672")
     if not (port.isascii() and port.isdigit() and 0 < int(port) < 65536):
         raise Fault(f"{server}: {port} is no port")
     return user, host.strip("[]"), int(port)

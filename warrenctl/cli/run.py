@@ -4,6 +4,7 @@ import os
 import signal
 import sys
 import traceback
+from contextlib import contextmanager
 
 from warrenctl.fault import FAILED, Fault
 
@@ -50,6 +51,25 @@ def heed_signals():
         # a shell without job control has what it starts in the background ignore SIGINT
         if it == signal.SIGINT or signal.getsignal(it) != signal.SIG_IGN:
             signal.signal(it, end)
+
+
+@contextmanager
+def masked(how):
+    before = signal.pthread_sigmask(how, ENDING)
+    try:
+        yield
+    finally:
+        signal.pthread_sigmask(signal.SIG_SETMASK, before)
+
+
+def held_back():
+    """Has signals that end a command wait until the block ends, so that nothing in it is left half done."""
+    return masked(signal.SIG_BLOCK)
+
+
+def let_in():
+    """Inside `held_back`: has signals end what this block does."""
+    return masked(signal.SIG_UNBLOCK)
 
 
 def drop_output():

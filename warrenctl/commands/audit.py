@@ -23,7 +23,7 @@ def words(arguments):
     if (given.key is None) == (given.certificates is None):
         parser.error("it takes a certificates file, or --key")
     if given.key and given.only is None:
-        parser.error("--key wants --only")
+        parser.error("--key needs --only")
     return given
 
 

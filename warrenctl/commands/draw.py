@@ -22,12 +22,12 @@ def words(arguments):
     parser.add_argument("--guarantees", help="the guarantees file that was checked")
     parser.add_argument("--verdicts", help="what `warren check` printed of them; what breaks a guarantee is red")
     parser.add_argument("--only", type=int, metavar="I", help="guarantee I alone, counted from 1")
-    parser.add_argument("--svg", help="the file for the picture; this wants Graphviz's program dot")
+    parser.add_argument("--svg", help="the file for the picture; this needs Graphviz's program dot")
     given = parser.parse_args(arguments)
     if given.verdicts and not given.guarantees:
-        parser.error("--verdicts wants --guarantees")
+        parser.error("--verdicts needs --guarantees")
     if given.only is not None and not given.guarantees:
-        parser.error("--only wants --guarantees")
+        parser.error("--only needs --guarantees")
     return given
 
 
@@ -35,8 +35,9 @@ def words(arguments):
 
 
 def quoted(*lines):
-    """A text of Graphviz, of these lines."""
-    return '"' + "\\n".join(it.replace("\\", "\\\\").replace('"', '\\"').replace("\n", " ") for it in lines) + '"'
+    """A text of Graphviz, of these lines. A control character is shown as Python writes it."""
+    shown = ("".join(it if it.isprintable() else repr(it)[1:-1] for it in line) for line in lines)
+    return '"' + "\\n".join(it.replace("\\", "\\\\").replace('"', '\\"') for it in shown) + '"'
 
 
 def node(kind, name):

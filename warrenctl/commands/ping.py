@@ -31,7 +31,7 @@ def words(arguments):
     parser = Words("ping", __doc__, STATUSES)
     parser.add_server()
     parser.add_argument("queue", metavar="QUEUE", help="a queue of the definitions file that only pings use, such as \"ping\"")
-    parser.add_argument("--seconds", type=number, default=5, help=f"give up after so many, {MOST_SECONDS} at most (%(default)s)")
+    parser.add_argument("--seconds", type=number, default=5, help=f"give up after this many seconds, {MOST_SECONDS} at most (%(default)s)")
     parser.add_argument("--within", type=number, metavar="MS", help="status 1 if it takes more milliseconds")
     given = parser.parse_args(arguments)
     if given.seconds > MOST_SECONDS:

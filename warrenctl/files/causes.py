@@ -1,6 +1,6 @@
-"""The causes for which warren refuses a definitions file, all that stand in it, each with its entry.
+"""The causes for which warren refuses a definitions file: all that are in it, each with its entry.
 
-docs/FORMATS.md has the causes. warren itself tells only the least of them. Nothing here is proved: what warren says of a file decides.
+docs/FORMATS.md has the causes. warren itself prints only the lowest number of them. Nothing here is proved: what warren says of a file decides.
 """
 
 import base64

@@ -1,4 +1,4 @@
-"""The causes for which warren refuses a guarantees file and a certificates file, all that stand in it, each with its entry.
+"""The causes for which warren refuses a guarantees file and a certificates file: all that are in it, each with its entry.
 
 docs/FORMATS.md has the causes. Nothing here is proved: what warren says of a file decides.
 """

@@ -13,7 +13,7 @@ class Refused(Fault):
     def __init__(self, name, causes):
         self.name, self.causes = name, causes
         self.number = min(it.number for it in causes)
-        super().__init__(f"{name}: refused {self.number} (`warrenctl why` tells more)")
+        super().__init__(f"{name}: refused {self.number} (`warrenctl why` says more)")
 
 
 def read_input():

@@ -1,6 +1,6 @@
-"""What stands in a definitions file and a guarantees file, as it is drawn; and which way a message takes that breaks a guarantee.
+"""The entries of a definitions file and a guarantees file, as they are drawn; and which way a message takes that breaks a guarantee.
 
-The way of a message is computed here once more, for the picture alone. What holds is what `warren check` says.
+The way of a message is computed here again, for the picture alone. What holds is what `warren check` says.
 """
 
 import json

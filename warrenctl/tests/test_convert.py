@@ -9,7 +9,9 @@ import json
 import os
 import random
 import re
+import stat
 import subprocess
+import tempfile
 import unittest
 
 from dev import ROOT
@@ -402,7 +404,7 @@ class Only(unittest.TestCase):
         self.assertEqual((queues, exchanges, count), ({"audit"}, {"shop", "records"}, 2))
         self.assertEqual(
             lines,
-            [f'queue "{it}" stays: what is sent in warren to exchange "shop" does not come to it' for it in ("packing", "lost")],
+            [f'queue "{it}" stays: what is sent in warren to exchange "shop" does not reach it' for it in ("packing", "lost")],
         )
         self.assertIn('its alternate exchange "strays" is left out: it stays in RabbitMQ', [it.what for it in changes])
 
@@ -413,10 +415,10 @@ class Only(unittest.TestCase):
     def test_dead_letters_between_the_part_and_the_rest(self):
         queues, exchanges, _, lines, _ = self.part("graves")
         self.assertEqual((queues, exchanges), ({"graves"}, {"dead"}))
-        self.assertEqual(lines, ['queue "graves": dead letters of queue "packing", which stays, do not come to it: a shovel can bring them'])
+        self.assertEqual(lines, ['queue "graves": dead letters of queue "packing", which stays, do not reach it: a shovel can bring them'])
         queues, exchanges, _, lines, changes = self.part("packing", "audit", "lost")
         self.assertEqual((queues, exchanges), ({"packing", "audit", "lost"}, {"shop", "records", "strays"}))
-        self.assertEqual(lines, ['queue "graves" stays: dead letters of queue "packing", which went to it, do not come to it'])
+        self.assertEqual(lines, ['queue "graves" stays: dead letters of queue "packing", which went to it, do not reach it'])
         self.assertIn(('queue "packing"', "what is rejected is gone"), [(it.entry, it.meaning) for it in changes])
         queues, exchanges, _, lines, changes = self.part("packing", "graves", "audit", "lost")
         self.assertEqual((exchanges, lines), ({"shop", "records", "strays", "dead"}, []))
@@ -439,7 +441,7 @@ class Only(unittest.TestCase):
         status, out, said = run("-", "--only", "q4", "q14*", given=json.dumps(value).encode())
         self.assertEqual((status, len(json.loads(out)["queues"])), (0, 112))
         self.assertEqual(causes_of(out.encode()), [])
-        self.assertIn('queue "q0" stays: what is sent in warren to exchange "desk" does not come to it', said)
+        self.assertIn('queue "q0" stays: what is sent in warren to exchange "desk" does not reach it', said)
 
     def test_dead_letters_by_a_policy_and_by_what_warren_has_not(self):
         value = self.value()
@@ -447,7 +449,7 @@ class Only(unittest.TestCase):
         value["exchanges"].append({**value["exchanges"][0], "name": "H", "type": "headers", "arguments": {}})
         value["bindings"] += bound(("H", "", "queue", "graves"))
         value["policies"] = [{"vhost": "/", "name": "p", "pattern": "^pack", "apply-to": "queues", "priority": 0, "definition": {"dead-letter-exchange": "H"}}]
-        self.assertEqual(part_of(value, None, ["graves"]).lines, ['queue "graves": dead letters of queue "packing", which stays, do not come to it: a shovel can bring them'])
+        self.assertEqual(part_of(value, None, ["graves"]).lines, ['queue "graves": dead letters of queue "packing", which stays, do not reach it: a shovel can bring them'])
 
     def test_an_export_that_names_no_virtual_host(self):
         """As GET /api/definitions/VHOST gives it, if there are no policies."""
@@ -482,6 +484,15 @@ class Stays(unittest.TestCase):
         for row in STAYS:
             for it in convert(row.export)[1]:
                 self.assertTrue(it.still and set(it.still) <= set(still.KINDS), it)
+
+    def test_a_file_with_password_hashes_is_its_owners_alone(self):
+        with tempfile.TemporaryDirectory() as folder:
+            name = os.path.join(folder, "definitions.json")
+            self.assertEqual(run("-", name, given=json.dumps(export_of()).encode())[0], 0)
+            self.assertEqual(stat.S_IMODE(os.stat(name).st_mode), 0o600)
+            os.chmod(name, 0o640)
+            self.assertEqual(run("-", name, given=json.dumps(export_of()).encode())[0], 0)
+            self.assertEqual(stat.S_IMODE(os.stat(name).st_mode), 0o640)
 
     def test_strict(self):
         for row in STAYS:
@@ -520,7 +531,7 @@ class Stays(unittest.TestCase):
         self.assertEqual(self.strict(value, "own"), (0, ["  each holds"]))
         self.assertEqual(self.strict(value, "gone")[0], 1)
         value = export_of([], [queue("stays", {"x-dead-letter-exchange": "F"})], [binding("X", "#", "stays")])
-        back = '  queue "stays": it stays, and its dead letters may come to queue "q": `never` may break: in RabbitMQ a message goes a way that the file does not have'
+        back = '  queue "stays": it stays, and its dead letters may reach queue "q": `never` may break: in RabbitMQ a message goes a way that the file does not have'
         self.assertEqual(self.strict(value, "q"), (1, [back, "written, but 1 change MAY BREAK A `yes`"]))
         self.assertEqual(self.strict(value, "q", "stays"), (0, ["  each holds"]))
         value["queues"][1]["arguments"] = {"x-dead-letter-exchange": ""}
@@ -531,6 +542,12 @@ class Stays(unittest.TestCase):
         less = '  exchange "A": it leads to what stays: "stays": `reaches` may break: what it takes goes to the alternate exchange in the file alone'
         self.assertEqual(self.strict(value, "q"), (1, [less, "written, but 1 change MAY BREAK A `yes`"]))
         self.assertEqual(self.strict(export_of(parameters=[parameter("shovel")]), "q")[0], 1)
+
+    def test_a_pattern_that_some_pythons_only_warn_of(self):
+        """Python 3.9 and 3.10 warn of flags inside a pattern, and later ones refuse it."""
+        policies = [{"vhost": "/", "name": "p", "pattern": "it(?i)", "apply-to": "queues", "priority": 0, "definition": {"max-length": 7}}]
+        _, changes = convert(export_of(queues=[queue("it")], policies=policies))
+        self.assertIn("left out: its pattern or its settings cannot be read", [it.what for it in changes])
 
     def test_a_policy_that_is_not_of_a_type_hides_none(self):
         """RabbitMQ 3.10.8 was asked: a classic queue has no delivery limit, so a policy with one is not of it, and another is."""

@@ -6,18 +6,21 @@ What is looked for is that no message is lost, wherever either of them is broken
 import json
 import os
 import resource
+import signal
 import stat
 import subprocess
 import tempfile
+import time
 import unittest
 from unittest import mock
 
 from dev.beds.commands import warrenctl
 from warrenctl.amqp.client import Delivery, Depth, Message
+from warrenctl.cli.run import end, held_back
 from warrenctl.commands.drain.draining import BATCH, drain
 from warrenctl.commands.fill.filling import WINDOW, WINDOW_BYTES, Filling
 from warrenctl.fault import Fault
-from warrenctl.files.message_file import line_of_message, look_through, message_of, new_file
+from warrenctl.files.message_file import first_line, line_of_message, look_through, message_of, new_file
 from warrenctl.tests.fake import Broker, Queue
 
 LOGIN = {**os.environ, "WARREN_PASSWORD": "till"}
@@ -135,6 +138,27 @@ class Together(unittest.TestCase):
                     self.assertEqual(left, [body for _, _, _, body in sent[-len(left) :]])
                     os.unlink(rest)
         self.assertEqual(self.kept(), sent)
+
+    def test_a_fill_that_a_signal_ends_loses_nothing(self):
+        """What the broker took and what is in FILE.left are all; at most a window of them and one are in both."""
+        sent = messages(5_000)
+        with open(self.file, "wb") as file:
+            file.write(first_line("audit") + b"".join(line_of_message(Message(*it)) for it in sent))
+        bodies, rest = {it[3] for it in sent}, self.file + ".left"
+        for number in (signal.SIGINT, signal.SIGTERM, signal.SIGHUP):
+            with self.subTest(number), Broker({"audit": Queue()}) as server:
+                command = [*warrenctl("fill"), f"till@127.0.0.1:{server.port}", self.file]
+                running = subprocess.Popen(command, stderr=subprocess.PIPE, text=True, env=LOGIN, stdin=subprocess.DEVNULL)
+                while len(server.queues["audit"].ready) < WINDOW + 50:
+                    time.sleep(0.01)
+                running.send_signal(number)
+                said = running.communicate(timeout=120)[1]
+                there, left = {it[3] for it in server.queues["audit"].ready}, self.kept(rest)
+                self.assertEqual((running.returncode, said.count("\n")), (1, 1), said)
+                self.assertRegex(said, "^fill: broken off; ")
+                self.assertEqual(there | {it[3] for it in left}, bodies)
+                self.assertLessEqual(len(there) + len(left) - len(sent), WINDOW + 1)
+                os.unlink(rest)
 
     def test_a_full_queue(self):
         sent = messages(12)
@@ -286,6 +310,23 @@ class Windows(unittest.TestCase):
         client, filling = self.filling(lines, [True, False, True])
         self.assertEqual((filling.taken, filling.why), (2, "broken off"))
         self.assertEqual(list(filling.left()), [lines[1]] + lines[3:])
+
+    def test_a_signal_while_a_line_is_read_loses_none(self):
+        """It ends the next wait for the broker, and not the reading."""
+        lines = [line_of_message(Message(*it)) for it in messages(20)]
+
+        def read():
+            for number, line in enumerate(lines):
+                if number == 10:
+                    os.kill(os.getpid(), signal.SIGTERM)
+                yield line
+
+        before = signal.signal(signal.SIGTERM, end)
+        self.addCleanup(signal.signal, signal.SIGTERM, before)
+        with held_back():
+            _, filling = self.filling(read(), [])
+        self.assertEqual((filling.taken, filling.why), (0, "broken off"))
+        self.assertEqual(list(filling.left()), lines)
 
 
 if __name__ == "__main__":

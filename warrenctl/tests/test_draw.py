@@ -123,6 +123,20 @@ class Pictures(unittest.TestCase):
         self.assertIn('label="a\\"b\\\\c\\nfanout"', out)
 
 
+    def test_a_control_character_is_shown(self):
+        """Two names that differ by it alone stay two."""
+        names = ["a\x07b", "a\x00b", "a\nb"]
+        definitions = {"exchanges": [{"name": it, "type": "fanout"} for it in names], "queues": [], "bindings": []}
+        with tempfile.NamedTemporaryFile("w", suffix=".json") as file:
+            json.dump(definitions, file)
+            file.flush()
+            status, out, _ = run(file.name)
+        self.assertEqual(status, 0)
+        self.assertTrue(out.replace("\n", "").isprintable())
+        self.assertEqual(len({line.partition("[")[0] for line in out.splitlines() if "fanout" in line}), 3)
+        self.assertIn('label="a\\\\x07b\\nfanout"', out)
+
+
 class Bad(unittest.TestCase):
     def test_nothing_is_drawn_of(self):
         for given in ("", "[]", "{", "null", '{"exchanges":1}', '{"exchanges":[1],"queues":[],"bindings":[]}', '{"exchanges":[{"name":1,"type":""}],"queues":[],"bindings":[]}', "[" * 100_000):

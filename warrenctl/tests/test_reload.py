@@ -5,6 +5,7 @@ The program is a script that answers as `warren check` and `warren verify` do, a
 
 import json
 import os
+import stat
 import subprocess
 import tempfile
 import threading
@@ -102,6 +103,33 @@ class Reloads(unittest.TestCase):
     def asked(self):
         with open(self.program + ".asked", encoding="utf-8") as file:
             return file.read().splitlines()
+
+    def test_the_broker_can_read_what_is_made(self):
+        """Under umask 077, and as root of a broker that runs as another user: certificates are as readable as those in force, else as the definitions."""
+        for like, mode in (("definitions.json", 0o644), ("certificates.json", 0o640)):
+            name = os.path.join(self.old, like)
+            with open(name, "a", encoding="utf-8"):
+                pass
+            os.chmod(name, mode)
+            if os.geteuid() == 0:
+                os.chown(name, 12, 34)
+            wanted, new = os.stat(name), self.folder(f"new of {like}", definitions(["shop"], []))
+            words = [*warrenctl("reload"), self.link, new, "--warren", self.program]
+            done = subprocess.run(words, capture_output=True, text=True, preexec_fn=lambda: os.umask(0o077))
+            self.assertEqual(done.returncode, 0, done.stderr)
+            made = os.stat(os.path.join(new, "certificates.json"))
+            self.assertEqual((made.st_uid, made.st_gid, stat.S_IMODE(made.st_mode)), (wanted.st_uid, wanted.st_gid, mode))
+            swap(self.link, self.old)
+
+    def test_certificates_that_are_there_keep_owner_and_mode(self):
+        new = self.folder("new", definitions(["shop"], []))
+        name = os.path.join(new, "certificates.json")
+        with open(name, "w", encoding="utf-8") as file:
+            file.write("old")
+        os.chmod(name, 0o604)
+        self.assertEqual(self.run_tool(new)[0], 0)
+        with open(name, encoding="utf-8") as file:
+            self.assertEqual((file.read(), stat.S_IMODE(os.stat(name).st_mode)), ("[]", 0o604))
 
     def test_a_name_that_came_and_one_that_went(self):
         rows = [(["shop", "news"], ["audit"], 'the exchange "news"'), (["shop"], ["audit", "mail"], 'the queue "mail"')]
@@ -208,7 +236,7 @@ class Reloads(unittest.TestCase):
 
         self.assertEqual(refused(self.old), "current leads to old already; copy the folder, and change the copy")
         self.assertEqual(refused(self.top + "/nowhere"), "nowhere is no folder")
-        self.assertEqual(refused(new, "--look", "127.0.0.1"), "127.0.0.1: a user and a host are wanted, as in till@127.0.0.1:5672")
+        self.assertEqual(refused(new, "--look", "127.0.0.1"), "127.0.0.1: a user and a host are required, as in till@127.0.0.1:5672")
         self.assertIn("--seconds", refused(new, "--seconds", "nan"))
         os.rename(self.program, self.program + ".away")
         self.assertEqual(refused(new), "program: No such file or directory")

@@ -82,6 +82,17 @@ class Files(unittest.TestCase):
         self.assertEqual(value, self.before)
         self.assertTrue(os.path.islink(link))
 
+    def test_users_are_listed_and_removed(self):
+        run("robot", self.file)
+        self.assertEqual(run("--list", self.file), (0, "till\nrobot\n", ""))
+        self.assertEqual(run("robot", self.file, "--remove"), (0, "", f'user: "robot" is removed from {self.file}\n'))
+        self.assertEqual(self.value(), self.before)
+        self.assertEqual(stat.S_IMODE(os.stat(self.file).st_mode), 0o640)
+        self.assertIn('has no user "robot"', self.refused("robot", self.file, "--remove"))
+        for words in (("--list",), ("a", "--list", self.file), ("a", "--remove"), ("--remove",), ("--list", "/nowhere/file")):
+            self.refused(*words)
+        self.assertEqual(self.value(), self.before)
+
     def test_a_terminal_is_asked_twice(self):
         for again, wanted in ((b"secret\n", b"is added"), (b"Secret\n", b"these are two passwords")):
             child, terminal = pty.fork()

@@ -15,7 +15,7 @@ import xml.etree.ElementTree as tree
 from dev import SHOP
 from dev.beds.commands import warrenctl
 from dev.beds.rows import guarantee_of, rows
-from warrenctl.commands.why.sentences import promise
+from warrenctl.routing.sentences import promise
 from warrenctl.files.places import lines_of
 from warrenctl.files.reading import Refused, read_guarantees
 from warrenctl.routing.checker import Topology, refutes
@@ -92,8 +92,8 @@ class Sentences(unittest.TestCase):
             (reaches("X", "", "q"), "the empty key of `X` reaches `q`"),
             (reaches("X", "a.*", "q", "a.b"), "every `a.*` of `X` but `a.b` reaches `q`"),
             (reaches("X", "#", "q", "a", "b", "c"), "everything of `X` but `a`, `b` and `c` reaches `q`"),
-            (never("X", "#", "q`"), 'nothing of `X` comes to "q`"'),
-            (never("X", "a.#", "q"), "nothing under `a.#` of `X` comes to `q`"),
+            (never("X", "#", "q`"), 'nothing of `X` reaches "q`"'),
+            (never("X", "a.#", "q"), "nothing under `a.#` of `X` reaches `q`"),
         ):
             self.assertEqual(promise(guarantee), said)
 
@@ -130,7 +130,7 @@ class Sentences(unittest.TestCase):
     def test_a_path_of_warren(self):
         definitions = topology({"payments": "direct", "news": "fanout"}, {"billing": ("news",), "mail": None}, [("payments", "paid", "billing"), ("news", "", "mail")])
         with written(definitions, {"guarantees": [never("payments", "#", "mail")]}, '1 no key "paid" path "payments" "billing" "news" "mail"\n') as names:
-            said = "1: nothing of `payments` comes to `mail`: NO: `paid` goes from `payments` to `billing`; rejected there, it goes on to `news` and so to `mail`\n"
+            said = "1: nothing of `payments` reaches `mail`: NO: `paid` goes from `payments` to `billing`; rejected there, it goes on to `news` and so to `mail`\n"
             self.assertEqual(run(*names), (1, said, ""))
 
     def test_a_program_is_asked(self):
@@ -177,7 +177,7 @@ class Refusals(unittest.TestCase):
             f'{names[0]}:{first}: exchange "payments": argument "x-message-ttl" (refused 7)',
         }
         self.assertEqual(set(out.splitlines()[:-1]), wanted)
-        self.assertEqual(out.splitlines()[-1], f"{names[0]}: 3 causes; warren tells the least: refused 7")
+        self.assertEqual(out.splitlines()[-1], f"{names[0]}: 3 causes; the lowest is what warren prints: refused 7")
 
     def test_policies_and_topic_permissions(self):
         definitions = {**topology({}, {}, []), "policies": [{"name": "p"}], "topic_permissions": [{"user": "till"}]}
@@ -220,7 +220,7 @@ class Refusals(unittest.TestCase):
 
     def test_what_is_taken(self):
         name = os.path.join(SHOP, "definitions.json")
-        self.assertEqual(run(name), (0, f"nothing stands against {name}: warren takes it\n", ""))
+        self.assertEqual(run(name), (0, f"warren accepts {name}\n", ""))
 
 
 class Junit(unittest.TestCase):
@@ -245,9 +245,9 @@ class Junit(unittest.TestCase):
             status, said, counts, cases = self.report(*names)
         self.assertEqual((status, said, counts), (1, "", "4:3:0:0"))
         missed = ("everything of `X` reaches `q`", "NO: the empty key goes nowhere")
-        entered = ("nothing under `c` of `X` comes to `q`", "NO: `c` goes from `X` to `r`; rejected there, it goes on as `b.c` to `X` and so to `q`")
+        entered = ("nothing under `c` of `X` reaches `q`", "NO: `c` goes from `X` to `r`; rejected there, it goes on as `b.c` to `X` and so to `q`")
         undecided = "UNDECIDED: a key of more than 255 bytes, which no client can send, breaks it, and no key of fewer words does; take a shorter pattern"
-        open_one = ("nothing under `d` of `X` comes to `q`", undecided)
+        open_one = ("nothing under `d` of `X` reaches `q`", undecided)
         failed = [(name, [("failure", kind, why, f"{name}: {why}")]) for (name, why), kind in ((missed, "broken"), (entered, "broken"), (open_one, "undecided"))]
         self.assertEqual(cases, [("every `a.#` of `X` reaches `q`", []), *failed])
 
@@ -258,15 +258,15 @@ class Junit(unittest.TestCase):
             what = "its key has an empty word (refused 9)"
             entry = f'{names[0]}:1: binding "X" to queue "q", key "a..b"'
             self.assertEqual((status, said, counts, cases), (1, "", "1:0:1:0", [(entry, [("error", "refused 9", what, f"{entry}: {what}")])]))
-        self.assertEqual(self.report(os.path.join(SHOP, "definitions.json")), (0, "", "1:0:0:0", [("warren takes it", [])]))
+        self.assertEqual(self.report(os.path.join(SHOP, "definitions.json")), (0, "", "1:0:0:0", [("warren accepts it", [])]))
 
     def test_what_could_not_be_told_is_an_error(self):
         shop = os.path.join(SHOP, "definitions.json")
         status, said, counts, cases = self.report(shop, "/nowhere")
         why = "/nowhere: No such file or directory"
         self.assertEqual((status, said, counts), (3, f"why: {why}\n", "1:0:1:0"))
-        self.assertEqual(cases, [("this could not be told", [("error", "failed", why, f"this could not be told: {why}")])])
-        self.assertEqual(run(shop, "--junit", "/no/where.xml"), (3, f"nothing stands against {shop}: warren takes it\n", "why: /no/where.xml: No such file or directory\n"))
+        self.assertEqual(cases, [("there is no answer", [("error", "failed", why, f"there is no answer: {why}")])])
+        self.assertEqual(run(shop, "--junit", "/no/where.xml"), (3, "", "why: /no/where.xml: No such file or directory\n"))
 
     def test_names_of_any_text(self):
         name = "<&\"'>\x01\ufffe\n\ud7ff\U0001f600]]>"

@@ -1,8 +1,10 @@
-"""Makes a definitions file that warren takes out of an export of RabbitMQ, and tells what it changed or left out."""
+"""Makes a definitions file that warren takes out of an export of RabbitMQ, and prints what it changed or left out."""
 
 import json
 import sys
 
+from warrenctl.cli.junit import ERROR, FAILURE, Case, report
+from warrenctl.cli.run import why_of
 from warrenctl.cli.words import Words
 from warrenctl.commands.convert.convert import SOURCE, NoFile, convert, no_export
 from warrenctl.commands.convert.part import part_of
@@ -23,15 +25,18 @@ def words(arguments):
     parser = Words("convert", __doc__, STATUSES)
     parser.add_argument("export", help="the export of RabbitMQ (GET /api/definitions); - is standard input")
     parser.add_argument("file", nargs="?", help="the file to be written; without it, standard output")
-    parser.add_argument("--check", action="store_true", help="write nothing, and tell all causes for which warren refuses the export as it is")
+    parser.add_argument("--check", action="store_true", help="write nothing, and print all causes for which warren refuses the export as it is")
     parser.add_argument("--vhost", help="the virtual host to take; without it \"/\", or the only one")
     parser.add_argument("--only", action="append", default=[], metavar="NAME", nargs="+", help="take these queues, and those behind these exchanges, and nothing else; * is any characters")
-    parser.add_argument("--all", action="store_true", help="tell each change by its entry, those too after which all is as before")
-    parser.add_argument("--strict", action="store_true", help="for a RabbitMQ that stays: tell what becomes of a `yes` of warren check, and end with 1 if a change may break one")
+    parser.add_argument("--all", action="store_true", help="print each change by its entry, also those after which all is as before")
+    parser.add_argument("--strict", action="store_true", help="for a RabbitMQ that stays: print what becomes of a `yes` of warren check, and end with 1 if a change may break one")
+    parser.add_argument("--junit", metavar="FILE", help="with --strict: write a report in JUnit's form too, with a failure for each change that may break a `yes`")
     given = parser.parse_args(arguments)
     given.only = [name for names in given.only for name in names]
     if given.check and (given.only or given.all or given.strict):
         parser.error("--check is of the export as it is, without --only, --all and --strict")
+    if given.junit and not given.strict:
+        parser.error("--junit needs --strict")
     return given
 
 
@@ -68,9 +73,9 @@ def check(data):
     for it in sorted(causes, key=lambda it: it.number):
         print(f"refused {it.number}: {it.entry}: {it.what}")
     if not causes:
-        print("nothing stands against it: warren takes it as it is")
+        print("warren accepts it as it is")
         return TAKEN
-    print(f"{len(causes)} causes; warren tells the least: refused {min(it.number for it in causes)}")
+    print(f"{len(causes)} causes; the lowest is what warren prints: refused {min(it.number for it in causes)}")
     return REFUSED
 
 
@@ -131,21 +136,26 @@ def tell_staying(changes, every):
 def tell_written(made, changes, every):
     counts = ", ".join(f"{name} {len(made[name])}" for name in ("exchanges", "queues", "bindings", "users"))
     graver = sum(1 for it in changes if it.meaning)
-    tell(f"written: {counts}; changes {len(changes)}{'' if every else ' (--all tells each)'}, of these {graver} change the meaning. Messages are in memory alone, durable or not.")
+    tell(f"written: {counts}; changes {len(changes)}{'' if every else ' (--all prints each)'}, of these {graver} change the meaning. Messages are in memory alone, durable or not.")
     grew = list(dict.fromkeys(it.grew for it in changes if it.grew is not None))
     if grew:
         tell(f"RIGHTS GREW of user{'s' * (len(grew) > 1)} {', '.join(map(quoted, grew))}")
 
 
-def tell_breaking(changes):
-    """Tells how many changes may break a `yes`, and returns the status."""
-    count = sum(may_break(it.still) for it in changes)
+def tell_breaking(changes, cases, export):
+    """Tells how many changes may break a `yes`, adds a case for each, and returns the status."""
+    breaking = [it for it in changes if may_break(it.still)]
+    cases += [Case(export, f"{it.entry}: {it.what}", FAILURE, "may break", told(it.still)) for it in breaking]
+    cases += [] if breaking else [Case(export, "no change may break a `yes` for a RabbitMQ that stays")]
+    count = len(breaking)
     if count:
         tell(f"written, but {count} change{'s' * (count > 1)} MAY BREAK A `yes`")
     return BREAKS if count else TAKEN
 
 
-def make(data, given):
+def make(data, given, cases):
+    if not data.strip():
+        raise NoFile("it is empty, as `curl -f` leaves a file if the download was refused")
     value = read_json(mended_bytes(data, tell))
     part = part_of(value, given.vhost, given.only) if given.only else None
     made, changes = convert(part.export, given.vhost, part.stays) if part else convert(value, given.vhost)
@@ -165,16 +175,29 @@ def make(data, given):
     else:
         write(given.file, text)
     if given.strict:
-        return tell_breaking(changes)
+        return tell_breaking(changes, cases, given.export)
     tell_written(made, changes, given.all)
     return TAKEN
 
 
-def main(given):
+def work(given, cases):
     try:
         data = read(given.export)
-        return check(data) if given.check else make(data, given)
+        return check(data) if given.check else make(data, given, cases)
     except NotJson as error:
         raise Fault(f"{given.export} is not JSON (refused 1): {error}") from None
     except NoFile as error:
         raise Fault(f"{given.export}: {error}") from None
+
+
+def main(given):
+    cases = []
+    if given.junit is None:
+        return work(given, cases)
+    try:
+        return work(given, cases)
+    except (Fault, OSError) as error:
+        cases.append(Case(given.export, "a definitions file is made", ERROR, "failed", why_of(error) if isinstance(error, OSError) else str(error)))
+        raise
+    finally:
+        write(given.junit, report(given.export, cases or [Case(given.export, "a definitions file is made", ERROR, "failed", "it was broken off")]))

@@ -294,6 +294,13 @@ class Conversion:
             self.tell(7, called, "auto_delete is now false", goes, meaning, kind="auto-delete", of=of)
         return False
 
+    def _durable(self, called, it, word):
+        """Returns whether an entry is durable. What is not goes with a restart of RabbitMQ, and its bindings with it."""
+        durable = self._truth(called, it, "durable")
+        if not durable:
+            self.tell(0, called, "is not durable: a restart of RabbitMQ removes it", self.goes([(word, it["name"])]))
+        return durable
+
     def _other_members(self, called, it, members):
         for name in it:
             if name not in members and not (name == "type" and members is QUEUE):
@@ -420,7 +427,7 @@ class Conversion:
             "name": it["name"],
             "vhost": "/",
             "type": kind,
-            "durable": self._truth(called, it, "durable"),
+            "durable": self._durable(called, it, "exchange"),
             "auto_delete": self._stays(called, it, "exchange", "it is no longer deleted with its last binding"),
             "internal": self._internal(called, it),
             "arguments": kept,
@@ -455,7 +462,7 @@ class Conversion:
         return {
             "name": it["name"],
             "vhost": "/",
-            "durable": self._truth(called, it, "durable"),
+            "durable": self._durable(called, it, "queue"),
             "auto_delete": self._stays(called, it, "queue", "it is no longer deleted with its last consumer, and keeps its messages"),
             "arguments": self._queue_arguments(called, arguments, [("queue", it["name"])]),
         }

@@ -1,6 +1,6 @@
 """A part of an export: some queues, with every exchange by which something reaches them. The rest stays in RabbitMQ.
 
-An exchange that is named stands for the queues to which it leads. Dead letters are followed from queues of the part alone: a queue that
+An exchange that is named means the queues to which it leads. Dead letters are followed from queues of the part alone: a queue that
 stays sends its own to RabbitMQ's exchanges.
 """
 
@@ -110,11 +110,11 @@ def lines_between(ways, queues, exchanges):
                 died[name].append(queue)
     for name in ways.queues:
         if sent[name]:
-            yield f"queue {quoted(name)} stays: what is sent in warren to {named(sent[name], 'exchange')} does not come to it"
+            yield f"queue {quoted(name)} stays: what is sent in warren to {named(sent[name], 'exchange')} does not reach it"
         if died[name] and name not in queues:
-            yield f"queue {quoted(name)} stays: dead letters of {named(died[name])}, which went to it, do not come to it"
+            yield f"queue {quoted(name)} stays: dead letters of {named(died[name])}, which went to it, do not reach it"
         if died[name] and name in queues:
-            yield f"queue {quoted(name)}: dead letters of {named(died[name])}, which stay{'s' * (len(died[name]) == 1)}, do not come to it: a shovel can bring them"
+            yield f"queue {quoted(name)}: dead letters of {named(died[name])}, which stay{'s' * (len(died[name]) == 1)}, do not reach it: a shovel can bring them"
 
 
 def changes_between(ways, made, queues, exchanges):
@@ -124,7 +124,7 @@ def changes_between(ways, made, queues, exchanges):
         to = queues if ways.deaths.get(queue) == ("", None) else ways.dead_letters(queue) & queues
         back = to if queue not in queues else ()
         if back:
-            yield Change(0, f"queue {quoted(queue)}", f"it stays, and its dead letters may come to {named(sorted(back))}", (still.WAY,))
+            yield Change(0, f"queue {quoted(queue)}", f"it stays, and its dead letters may reach {named(sorted(back))}", (still.WAY,))
     alternates = {it["name"] for it in made["exchanges"] if it["arguments"].get("alternate-exchange") in exchanges}
     for exchange in sorted(exchanges & alternates):
         stay = [name for kind, name in ways.onward[exchange] if name not in (queues if kind == "queue" else exchanges)]

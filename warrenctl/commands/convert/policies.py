@@ -52,7 +52,7 @@ def policy_of(entry, called):
         pattern = compiled(entry["pattern"])
         # rabbitmqctl writes the settings of an operator policy as pairs
         settings = dict(entry["definition"])
-    except (KeyError, TypeError, ValueError, AttributeError, FutureWarning, re.error, RecursionError):
+    except (KeyError, TypeError, ValueError, AttributeError, Warning, re.error, RecursionError):
         return None
     if not all(isinstance(name, str) for name in settings):
         return None

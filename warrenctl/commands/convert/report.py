@@ -1,4 +1,4 @@
-"""What is told of a conversion: a table of the queues, then what loses or misroutes messages, then what else is no longer as it was."""
+"""What is printed of a conversion: a table of the queues, then what loses or misroutes messages, then what else is no longer as it was."""
 
 from collections import defaultdict
 

@@ -1,5 +1,5 @@
 """Shows how many messages are ready in each queue of a definitions file, and how many consumers it has. It asks by passive declares over
-one connection, each second. Messages that were given out and wait for their acknowledgement are not counted: no declare tells them."""
+one connection, each second. Messages that were given out and wait for their acknowledgement are not counted: no declare returns them."""
 
 import sys
 import time

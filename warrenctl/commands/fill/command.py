@@ -5,7 +5,7 @@ import os
 
 from warrenctl.amqp.client import quoted
 from warrenctl.cli.login import log_in
-from warrenctl.cli.run import DONE, NOT_WHOLE, tell
+from warrenctl.cli.run import DONE, NOT_WHOLE, held_back, tell
 from warrenctl.cli.words import Words
 from warrenctl.commands.fill.filling import Filling
 from warrenctl.fault import Fault
@@ -34,10 +34,11 @@ def main(given):
             client.queue(queue)
         client.select()
         filling = Filling(client, lines_in(given.file), () if given.as_sent else ("", queue))
-        filling.all()
-        where = "as they were sent" if given.as_sent else f"to {quoted(queue)}"
-        told = f"{filling.taken} of {count} messages were published {where}"
-        return outcome(filling, told, queue, rest, is_cut)
+        with held_back():
+            filling.all()
+            where = "as they were sent" if given.as_sent else f"to {quoted(queue)}"
+            told = f"{filling.taken} of {count} messages were published {where}"
+            return outcome(filling, told, queue, rest, is_cut)
 
 
 def outcome(filling, told, queue, rest, is_cut):
@@ -46,9 +47,9 @@ def outcome(filling, told, queue, rest, is_cut):
     if filling.why is None:
         tell("fill", told + cut)
         return NOT_WHOLE if is_cut else DONE
-    if not filling.taken:
-        raise Fault(f"{filling.why}; none was confirmed")
     unsure = f", of which {len(filling.waiting)} may have come in" if filling.waiting else ""
+    if not filling.taken:
+        raise Fault(f"{filling.why}; none was confirmed{unsure}")
     with new_file(rest, queue) as kept:
         for line in filling.left():
             kept.write_line(line)

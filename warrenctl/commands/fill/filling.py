@@ -1,5 +1,6 @@
 """The messages of a file go back to a broker, under confirms."""
 
+from warrenctl.cli.run import let_in
 from warrenctl.fault import Fault
 from warrenctl.files.message_file import message_of
 
@@ -17,12 +18,17 @@ class Filling:
         self.refused, self.waiting = {}, {}
 
     def all(self):
-        """Publishes until one is not taken or something is wrong, which `why` then says, and waits for the confirms of what was sent."""
+        """Publishes until one is not taken or something is wrong, which `why` then says, and waits for the confirms of what was sent.
+
+        Where the caller holds signals back, they end only what waits for the broker: each line is then counted, kept, or still to be read.
+        """
         try:
             for line in self.lines:
                 self.waiting[self.client.published + 1] = line
                 self.bytes += len(line)
-                self.client.publish(message_of(line), *self.place)
+                message = message_of(line)
+                with let_in():
+                    self.client.publish(message, *self.place)
                 self._settle_until(WINDOW, WINDOW_BYTES)
                 if self.refused:
                     break
@@ -34,7 +40,9 @@ class Filling:
 
     def _settle_until(self, most, most_bytes):
         while len(self.waiting) > most or self.bytes > most_bytes:
-            for number, is_taken in self.client.settled():
+            with let_in():
+                settled = self.client.settled()
+            for number, is_taken in settled:
                 line = self.waiting.pop(number)
                 self.bytes -= len(line)
                 self.taken += is_taken

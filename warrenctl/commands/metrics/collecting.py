@@ -1,4 +1,4 @@
-"""What Prometheus is told at a scrape: depths of queues, connections, refused reloads. The process's own figures are `ProcessCollector`'s."""
+"""What Prometheus gets at a scrape: depths of queues, connections, refused reloads. The process's own figures are `ProcessCollector`'s."""
 
 import time
 

@@ -1,6 +1,6 @@
 """Serves metrics of a broker for Prometheus, over HTTP: ready messages and consumers of each queue of a definitions file, connections, memory,
 processor time and descriptors of the process, and how many reloads were refused. Queues are asked by passive declares, at each scrape. The process
-is the one that listens at the broker's port, if it is on this machine and this user may see it. This wants prometheus_client."""
+is the one that listens at the broker's port, if it is on this machine and this user may see it. This needs prometheus_client."""
 
 import os
 import signal
@@ -29,7 +29,7 @@ def words(arguments):
     parser.add_argument("--hand-on", action="store_true", help="print each line of --errors on standard error, for the journal")
     given = parser.parse_args(arguments)
     if given.hand_on and given.errors is None:
-        parser.error("--hand-on wants --errors")
+        parser.error("--hand-on needs --errors")
     return given
 
 

@@ -3,24 +3,13 @@ a link to a folder. This checks the definitions and the guarantees of the folder
 to NEW at once, and looks by a passive declare whether the broker has it."""
 
 import os
-import time
 
+from warrenctl.amqp.probes import look, probe_of, seconds
 from warrenctl.cli.login import log_in
 from warrenctl.cli.run import DONE, NOT_WHOLE, tell
 from warrenctl.cli.words import STATUSES, Words
 from warrenctl.commands.reload.folders import certify, check_folders, mark, path_in, swap
-from warrenctl.commands.reload.probes import probe_of
 from warrenctl.fault import Fault
-
-# seconds between two questions
-PAUSE = 0.2
-
-
-def seconds(text):
-    number = float(text)
-    if not 0 <= number <= 86400:
-        raise ValueError
-    return number
 
 
 def words(arguments):
@@ -34,16 +23,6 @@ def words(arguments):
     parser.add_argument("--seconds", type=seconds, default=60, help="how long to look (60)")
     parser.add_argument("--warren", metavar="PROGRAM", default="warren", help="the program (warren)")
     return parser.parse_args(arguments)
-
-
-def look(client, probe, limit):
-    """How many seconds it took until what is asked for was so; none if it never was."""
-    began = time.monotonic()
-    while not probe.holds(client):
-        if time.monotonic() - began > limit:
-            return None
-        time.sleep(PAUSE)
-    return time.monotonic() - began
 
 
 def swap_and_look(given, client, probe, old):
@@ -69,7 +48,7 @@ def main(given):
     old = os.path.realpath(given.folder)
     if given.mark:
         mark(given.new)
-    certify(given.warren, given.new)
+    certify(given.warren, given.new, old)
     if given.server is None:
         swap(given.folder, given.new)
         tell("reload", f"{given.folder} leads to {given.new}; whether it is in force was not asked")

@@ -5,9 +5,11 @@ import os
 import re
 import subprocess
 import sys
+import tempfile
 
 from warrenctl.fault import Fault
 from warrenctl.files.definitions_file import read, replace
+from warrenctl.files.writing import write
 
 NAMES = ("definitions.json", "guarantees.json", "certificates.json")
 MARK = re.compile(r"reload\.[0-9a-f]{12}")
@@ -62,11 +64,16 @@ def asked(program, *words):
         raise Fault(f"nothing was changed: {words[0]} ended with {done.returncode}: {meaning}")
 
 
-def certify(program, folder):
-    """Writes the certificates of a folder and has them verified."""
-    files = [path_in(folder, it) for it in range(3)]
-    asked(program, "check", *files[:2], "--out", files[2])
-    asked(program, "verify", *files)
+def certify(program, folder, old):
+    """Writes the certificates of a folder, once they are verified. A new file has the owner and the mode of that in the folder `old`."""
+    definitions, guarantees, certificates = (path_in(folder, it) for it in range(3))
+    with tempfile.TemporaryDirectory() as place:
+        made = path_in(place, 2)
+        asked(program, "check", definitions, guarantees, "--out", made)
+        asked(program, "verify", definitions, guarantees, made)
+        with open(made, "rb") as file:
+            data = file.read()
+    write(certificates, data, next(it for it in (path_in(old, 2), path_in(old, 0)) if os.path.exists(it)))
 
 
 def swap(link, new):

@@ -17,7 +17,7 @@ STATUSES = "Status: 0 the parts were written; 1 there is one part alone, and not
 MOST_TIES = 5
 DEFAULT_EXCHANGE = (
     "A client that needs two parts opens a connection to each. A publish to the default exchange goes to the port of its queue:\n"
-    "at another port it is routed nowhere, so it is acked and gone, or returned if it is `mandatory`."
+    "at another port it is routed nowhere: it is acked and gone, or returned if it is `mandatory`."
 )
 
 

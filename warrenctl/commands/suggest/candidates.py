@@ -1,6 +1,6 @@
-"""Guarantees that may hold of a topology today: of each binding, of each dead-letter way, and of each queue that an exchange leads past."""
+"""Guarantees that may hold of a topology today: of each alternate exchange that it gets no message, of each binding, and of each dead-letter way."""
 
-from collections import Counter, defaultdict
+from collections import defaultdict
 from itertools import chain, zip_longest
 
 from warrenctl.commands.suggest.patterns import meets
@@ -94,16 +94,19 @@ def of_dead_letters(topology, definitions):
                     yield guarantee("reaches", dead, pattern, goal, f"dead letters of {quoted(queue)}")
 
 
-def of_no_way(topology, public):
-    """For each queue to which some exchange leads one exchange that does not, each exchange in turn. A queue to which none leads has none."""
+def of_alternates(topology, names):
+    """For each queue behind the alternate of an exchange: no message of the exchange goes there, so each key that is sent matches a binding."""
+    for name in names:
+        other = topology.alternate(name)
+        for queue in may_come_to(topology, other) if other is not None else ():
+            yield guarantee("never", name, "#", queue, f"alternate exchange of {quoted(name)}")
+
+
+def reaching(topology):
+    """Returns for each queue the exchanges, those that clients may publish to, whose messages can reach it; dead letters included."""
+    public = [name for name, it in topology.exchanges.items() if not it["internal"]]
     comes = {name: {it[1] for it in topology.visited(name, lambda pattern: UNKNOWN) if it[0] == "queue"} for name in public}
-    counts = Counter()
-    for queue in topology.queues:
-        past = [name for name in public if queue not in comes[name]]
-        if past and len(past) < len(public):
-            name = min(past, key=lambda it: counts[it])
-            counts[name] += 1
-            yield guarantee("never", name, "#", queue, f"no way leads from {quoted(name)} to {quoted(queue)}")
+    return {queue: [name for name in public if queue in comes[name]] for queue in topology.queues}
 
 
 def in_turns(iterators):
@@ -113,7 +116,7 @@ def in_turns(iterators):
 
 
 def candidates(topology, definitions):
-    """Yields each once, exchanges in turn; those to which clients publish come first, and `never` last."""
+    """Yields each once, exchanges in turn: first those of alternates, then those to which clients publish, then internal ones."""
     bindings, letters = Bindings(topology, definitions), defaultdict(list)
     for it in of_dead_letters(topology, definitions):
         letters[it["exchange"]].append(it)
@@ -121,7 +124,7 @@ def candidates(topology, definitions):
     internal = [name for name, it in topology.exchanges.items() if it["internal"]]
     seen = set()
     turns = (in_turns([chain(bindings.reaches(name), letters[name]) for name in names]) for names in (["", *public], internal))
-    for it in chain(*turns, of_no_way(topology, public)):
+    for it in chain(of_alternates(topology, public), *turns):
         key = tuple(it[name] for name in ("mode", "exchange", "pattern", "queue"))
         if key not in seen:
             seen.add(key)

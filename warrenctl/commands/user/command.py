@@ -1,5 +1,5 @@
 """Makes a user with a password: prints the two entries of a definitions file, or puts them into one. The password is asked for, twice and
-without echo; if standard input is no terminal, it is its first line."""
+without echo; if standard input is no terminal, it is its first line. Lists the users of a file, or removes one."""
 
 import getpass
 import json
@@ -9,7 +9,7 @@ import sys
 
 from warrenctl.cli.run import DONE, tell
 from warrenctl.cli.words import Words
-from warrenctl.commands.user.entries import entries, hash_of, with_user
+from warrenctl.commands.user.entries import entries, hash_of, with_user, without_user
 from warrenctl.fault import Fault
 from warrenctl.files.definitions_file import read, replace, text_of
 
@@ -18,10 +18,19 @@ MOST_NAME, MOST_PASSWORD = 255, 1024
 
 def words(arguments):
     parser = Words("user", __doc__, "Status: 0 done; 3 not done, and a line says why.")
-    parser.add_argument("name", help="the user's name")
+    parser.add_argument("name", nargs="?", help="the user's name")
     into = "the definitions file to put the user into, or the new password of one who is there; without it, the entries are printed"
     parser.add_argument("file", nargs="?", help=into)
-    return parser.parse_args(arguments)
+    parser.add_argument("--remove", action="store_true", help="remove the user from the file")
+    parser.add_argument("--list", metavar="FILE", help="print the users of this definitions file, and do nothing else")
+    given = parser.parse_args(arguments)
+    if given.list is not None and (given.name is not None or given.remove):
+        parser.error("--list takes no name")
+    if given.list is None and given.name is None:
+        parser.error("a name is required, or --list")
+    if given.remove and given.file is None:
+        parser.error("--remove needs a file")
+    return given
 
 
 def checked(what, data, most):
@@ -44,7 +53,27 @@ def asked_password(name):
     return os.fsencode(password)
 
 
+def list_users(file):
+    for it in read(file, "users")["users"]:
+        name = it.get("name")
+        print(name if isinstance(name, str) and name.isprintable() else json.dumps(name))
+    return DONE
+
+
+def remove(name, file):
+    definitions = read(file, "users", "permissions")
+    if not without_user(definitions, name):
+        raise Fault(f"{file} has no user {json.dumps(name, ensure_ascii=False)}")
+    replace(file, definitions)
+    tell("user", f"{json.dumps(name, ensure_ascii=False)} is removed from {file}")
+    return DONE
+
+
 def main(given):
+    if given.list is not None:
+        return list_users(given.list)
+    if given.remove:
+        return remove(given.name, given.file)
     checked("name", os.fsencode(given.name), MOST_NAME)
     definitions = read(given.file, "users", "permissions") if given.file else None
     password = checked("password", asked_password(given.name), MOST_PASSWORD)

@@ -27,3 +27,11 @@ def with_user(definitions, made):
     if not any(it.get("user") == user["name"] for it in definitions["permissions"]):
         definitions["permissions"].append(permission)
     return "has a new password" if there else "is added"
+
+
+def without_user(definitions, name):
+    """Takes a user and the permissions out of the definitions. Returns whether there was one."""
+    before = len(definitions["users"])
+    definitions["users"] = [it for it in definitions["users"] if it.get("name") != name]
+    definitions["permissions"] = [it for it in definitions["permissions"] if it.get("user") != name]
+    return len(definitions["users"]) < before

@@ -1,22 +1,24 @@
 """Says why warren refuses a file, and what its verdicts mean; for what it leaves undecided, looks for a key that breaks it."""
 
-import subprocess
+import os
+import sys
 
+from warrenctl.cli.junit import ERROR, FAILURE, PASSED, Case, cases_in, report
 from warrenctl.cli.run import tell, why_of
 from warrenctl.cli.words import Words
-from warrenctl.commands.why.junit import ERROR, FAILURE, PASSED, Case, report
-from warrenctl.commands.why.sentences import broken, fault, promise, told, way
+from warrenctl.fault import FAILED, Fault
 from warrenctl.files.causes import EMPTY_ARRAYS, ENTRIES, name_of, quoted, read_json
 from warrenctl.files.places import lines_of
 from warrenctl.files.reading import Refused, read_certificates, read_definitions, read_guarantees, read_input
 from warrenctl.files.writing import write
 from warrenctl.program import program_here
+from warrenctl.routing.asking import BROKEN, HOLDS, UNDECIDED, checked, ran
 from warrenctl.routing.checker import Topology, refutes
 from warrenctl.routing.search import MOST_STATES, search
+from warrenctl.routing.sentences import broken, fault, promise, told, way
 from warrenctl.routing.topology import BadFile, read_verdicts
 
-HOLDS, BROKEN, UNDECIDED, FAILED = range(4)
-STATUSES = "Status: 0 all hold; 1 a file is refused, or a guarantee is broken; 2 some are undecided, and no key was found; 3 this could not be told."
+STATUSES = "Status: 0 all hold; 1 a file is refused, or a guarantee is broken; 2 some are undecided, and no key was found; 3 there is no answer."
 
 
 def words(arguments):
@@ -24,10 +26,11 @@ def words(arguments):
     parser.add_argument("definitions", help="a definitions file")
     parser.add_argument("guarantees", nargs="?", help="a guarantees file")
     parser.add_argument("verdicts", nargs="?", help="what `warren check` printed of them; without it, warren is asked if it is here; - is standard input")
-    parser.add_argument("--certificates", help="a certificates file, whose refusals are told too")
+    parser.add_argument("--certificates", help="a certificates file, whose refusals are explained, too")
     parser.add_argument("--only", type=int, metavar="I", help="of guarantee I alone, counted from 1")
     parser.add_argument("--warren", metavar="PROGRAM", help="the program; without it, that of `make try`, a proved one, or the one on the path")
     parser.add_argument("--junit", metavar="FILE", help="write a report in JUnit's form too, one test for each guarantee, for a pipeline to show")
+    parser.add_argument("--with", dest="before", metavar="FILE", help="put the tests of this report, such as that of `convert --strict`, into the report, too")
     parser.add_argument("--alone", action="store_true", help="ask no program")
     parser.add_argument("--states", type=int, default=MOST_STATES, help=f"how far a search goes; without it, {MOST_STATES} states")
     return parser.parse_args(arguments)
@@ -63,7 +66,7 @@ def tell_refusal(refused):
         cases.append(Case(refused.name, f"{refused.name}{at}: {it.entry}", ERROR, f"refused {it.number}", f"{it.what} (refused {it.number})"))
         print(f"{cases[-1].name}: {cases[-1].said}")
     count = len(refused.causes)
-    print(f"{refused.name}: {count} cause{'s' * (count != 1)}; warren tells the least: refused {refused.number}")
+    print(f"{refused.name}: {count} cause{'s' * (count != 1)}; the lowest is what warren prints: refused {refused.number}")
     return cases
 
 
@@ -76,22 +79,11 @@ class Warren:
     def __init__(self, program, definitions):
         self.program, self.definitions = program, definitions
 
-    def run(self, *words):
-        try:
-            return subprocess.run([self.program, *words], capture_output=True, text=True)
-        except OSError as error:
-            raise BadFile(f"{self.program}: {error.strerror}") from None
-
-    def check(self, guarantees):
-        done = self.run("check", self.definitions, guarantees)
-        if done.returncode < 0:
-            raise BadFile(f"{self.program} was ended by signal {-done.returncode}")
-        if done.returncode > UNDECIDED:
-            raise BadFile(f"{self.program} refuses what this script does not: {done.stderr.strip()}")
-        return done.stdout.splitlines()
+    def check(self, guarantees, count):
+        return checked(self.program, self.definitions, guarantees, count)
 
     def queues(self, exchange, key):
-        return self.run("route", "--", self.definitions, exchange, key).stdout.splitlines()
+        return ran(self.program, "route", "--", self.definitions, exchange, key).stdout.splitlines()
 
     def agrees(self, topology, guarantee, key, path):
         """Whether `warren route` leads the key as this script does: past the queue, or along the path, from each exchange where it has a key."""
@@ -161,12 +153,14 @@ def answered(given, definitions, guarantees):
     """Each guarantee that is asked for: its number, its sentence, its status, and what is said of it."""
     program = None if given.alone else given.warren or program_here()
     warren = Warren(program, given.definitions) if program else None
-    lines = lines_in(given.verdicts) if given.verdicts else warren.check(given.guarantees) if warren else []
-    verdicts = read_verdicts(lines, len(guarantees))
+    if given.verdicts:
+        verdicts = read_verdicts(lines_in(given.verdicts), len(guarantees))
+    else:
+        verdicts = warren.check(given.guarantees, len(guarantees)) if warren else {}
     asked = range(1, len(guarantees) + 1) if given.only is None else [given.only]
     lacks = next((it for it in asked if it not in verdicts), None)
-    if lacks is not None and (given.verdicts or warren):
-        raise BadFile(f"{given.verdicts or warren.program} says nothing of guarantee {lacks}")
+    if lacks is not None and given.verdicts:
+        raise BadFile(f"{given.verdicts} says nothing of guarantee {lacks}")
     answers = Answers(Topology(definitions), warren, given.states)
     for number in asked:
         it = guarantees[number - 1]
@@ -177,8 +171,8 @@ def why(given, cases):
     """Prints what is to be said, adds a case for each guarantee, and returns the status."""
     definitions = read_definitions(given.definitions)
     if given.guarantees is None:
-        print(f"nothing stands against {given.definitions}: warren takes it")
-        cases.append(Case(given.definitions, "warren takes it"))
+        print(f"warren accepts {given.definitions}")
+        cases.append(Case(given.definitions, "warren accepts it"))
         return HOLDS
     guarantees = read_guarantees(given.guarantees, definitions)
     if given.only is not None and not 1 <= given.only <= len(guarantees):
@@ -197,22 +191,32 @@ def why(given, cases):
 def run(given, cases):
     """Does what is asked, and returns the status. What is wrong is a case, too."""
     try:
-        return why(given, cases)
+        if given.before is not None:
+            cases += cases_in(given.before)
+        status = why(given, cases)
+        sys.stdout.flush()
+        return status
     except Refused as refused:
         cases += tell_refusal(refused)
         return BROKEN
-    except BadFile as error:
+    except Fault as error:
         wrong = str(error)
     except OSError as error:
         wrong = why_of(error)
     tell("why", wrong)
-    cases.append(Case(given.definitions, "this could not be told", ERROR, "failed", wrong))
+    cases.append(Case(given.definitions, "there is no answer", ERROR, "failed", wrong))
     return FAILED
+
+
+def put_report(given, cases):
+    write(given.junit, report(given.guarantees or given.definitions, cases), given.definitions if os.path.exists(given.definitions) else None)
 
 
 def main(given):
     cases = []
+    if given.junit is not None:
+        put_report(given, [Case(given.definitions, "this came to an end", ERROR, "failed", "it was broken off")])
     status = run(given, cases)
     if given.junit is not None:
-        write(given.junit, report(given.guarantees or given.definitions, cases), given.definitions)
+        put_report(given, cases)
     return status

@@ -1,9 +1,22 @@
 """What a broker can be asked, that has one answer before a reload and another behind it: a name that came, or one that went."""
 
+import time
 from collections import namedtuple
 
 from warrenctl.amqp.client import Refused, quoted
 from warrenctl.files.definitions_file import read
+
+
+# seconds between two questions
+PAUSE = 0.2
+
+
+def seconds(text):
+    """The word of a command line that says how long to look."""
+    number = float(text)
+    if not 0 <= number <= 86400:
+        raise ValueError
+    return number
 
 
 class Probe(namedtuple("Probe", "kind name is_new")):
@@ -31,3 +44,13 @@ def probe_of(old, new):
     before, after = names_in(old), names_in(new)
     came, went = sorted(after - before), sorted(before - after)
     return Probe(*came[0], True) if came else Probe(*went[0], False) if went else None
+
+
+def look(client, probe, limit):
+    """Returns how many seconds it took until what is asked for was so, or `None` if it wasn't within `limit` seconds."""
+    began = time.monotonic()
+    while not probe.holds(client):
+        if time.monotonic() - began > limit:
+            return None
+        time.sleep(PAUSE)
+    return time.monotonic() - began

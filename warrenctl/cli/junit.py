@@ -5,6 +5,8 @@ import re
 import xml.etree.ElementTree as tree
 from collections import namedtuple
 
+from warrenctl.fault import Fault
+
 # what a test ends in; a guarantee that is not shown fails as one that is broken does
 PASSED, FAILURE, ERROR = None, "failure", "error"
 
@@ -37,3 +39,18 @@ def report(name, cases):
             told.text = plain(f"{it.name}: {it.said}")
     tree.indent(suites)
     return tree.tostring(suites, encoding="utf-8", xml_declaration=True) + b"\n"
+
+
+def cases_in(name):
+    """The cases of a report that was written before."""
+    try:
+        found = tree.parse(name).iter("testcase")
+        return [_case_of(it) for it in found]
+    except (tree.ParseError, KeyError):
+        raise Fault(f"{name} is no report") from None
+
+
+def _case_of(element):
+    told = next((it for it in element if it.tag in (FAILURE, ERROR)), None)
+    wrong = () if told is None else (told.tag, told.attrib["type"], told.attrib["message"])
+    return Case(element.attrib["classname"], element.attrib["name"], *wrong)

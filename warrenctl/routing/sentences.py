@@ -27,7 +27,7 @@ def promise(guarantee):
         what = "everything" if pattern == "#" else f"every {told(pattern)}" if set(pattern.split(".")) & {"*", "#"} else told(pattern) if pattern else "the empty key"
         return f"{what} of {exchange}{but} reaches {queue}"
     under = "" if pattern == "#" else f" under {told(pattern)}" if pattern else " under the empty key"
-    return f"nothing{under} of {exchange}{but} comes to {queue}"
+    return f"nothing{under} of {exchange}{but} reaches {queue}"
 
 
 def key_told(key):
@@ -49,7 +49,7 @@ def way(topology, key, path):
 
 
 def broken_never(key, places):
-    """How a message comes to where none may come."""
+    """How a message reaches a queue that none may reach."""
     said, died = f"{key_told(key)} goes from {of(places[0][1])}", False
     for before, (_, name, now) in zip(places, places[1:]):
         if before[0] == "queue":
@@ -62,7 +62,7 @@ def broken_never(key, places):
 
 
 def broken_reaches(topology, guarantee, key):
-    """Where a message goes that does not come to its queue."""
+    """Where a message goes that does not reach its queue."""
     queues = [name for name in topology.queues if ("queue", name) in topology.routed(guarantee["exchange"], by_key(key))]
     return f"{key_told(key)} goes " + (f"to {listed(map(told, queues))} alone" if queues else "nowhere")
 
@@ -75,7 +75,7 @@ def fault(said):
         "1": "the state of no words is not listed",
         "2": f"from state {state} the word {letter} leads to a state that is not listed",
         "3": f"at state {state} the guarantee covers the key, and the queue is not sure to be reached",
-        "4": f"at state {state} the guarantee covers the key, and a message may come to the queue",
+        "4": f"at state {state} the guarantee covers the key, and a message may reach the queue",
         "5": "it has not the form that the guarantee needs, or there is none",
     }.get(words[1], said)
 

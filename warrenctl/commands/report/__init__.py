@@ -1,0 +1,3 @@
+from warrenctl.commands.report.command import main, words
+
+__all__ = ["main", "words"]
