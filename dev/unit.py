@@ -21,7 +21,7 @@ AT_ONCE = 4
 FAILED = 1
 DEBIANS = "/usr/bin/python3"
 # what a module wants of Debian's packages
-WANTS = {"warrenctl.tests.test_front": "pamqp", "warrenctl.tests.test_metrics": "prometheus_client"}
+WANTS = {"warrenctl.tests.test_front": "pamqp"}
 RAN = re.compile(r"^Ran (\d+) tests? in .*$", re.MULTILINE)
 SKIPPED = re.compile(r" \.\.\. skipped (['\"])(.*)\1$", re.MULTILINE)
 

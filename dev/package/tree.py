@@ -116,7 +116,7 @@ def control(tree, program, version, architecture, maintainer):
         "Maintainer": maintainer,
         "Depends": f"{libraries_of(program)}, passwd",
         "Recommends": "python3 (>= 3.9)",
-        "Suggests": "python3-prometheus-client, haproxy, stunnel4",
+        "Suggests": "haproxy, stunnel4",
         "Section": "net",
         "Priority": "optional",
         "Description": ABOUT,
