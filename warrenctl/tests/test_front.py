@@ -1,4 +1,4 @@
-"""The tests of front, which want pamqp (the Debian package python3-pamqp) and no network but loopback: python3 -m dev.unit test_front
+"""The tests of front, which want no network but loopback: python3 -m dev.unit test_front
 
 Frames were written by hand from the standard. The servers are those of fake.py, which read and write frames by themselves.
 """
@@ -22,15 +22,11 @@ from dev import SHOP
 from dev.beds.commands import warrenctl
 from warrenctl.amqp.client import Client, Message, Refused
 from warrenctl.commands.front.definitions import DefinitionsFile
+from warrenctl.commands.front.translator import Translator
 from warrenctl.tests import fake
 from warrenctl.tests.fake import OPEN, OPEN_OK, PROTOCOL, START, TUNE, TUNE_OK, Broker, Queue, Scripted
 
 DEFINITIONS = os.path.join(SHOP, "definitions.json")
-
-try:
-    from warrenctl.commands.front.translator import Translator
-except ImportError:
-    raise unittest.SkipTest("python3-pamqp") from None
 
 # the front starts meanwhile, on a machine that may have other work
 fake.SECONDS = 60
@@ -141,7 +137,7 @@ class Declares(Bytes):
         # without an answer, and one that is passive by itself
         self.to_server(queue_declare(1, "audit", 16), queue_declare(1, "audit", 17))
         self.to_server(queue_declare(1, "audit", 1), queue_declare(1, "audit", 1))
-        # names that pamqp would not write
+        # a name with a blank, and a letter of two bytes
         self.to_server(queue_declare(1, "ä b", 2), queue_declare(1, "ä b", 1))
         # one that the server is to name
         self.to_server(queue_declare(1, "", 4), queue_declare(1, "", 4))

@@ -8,10 +8,12 @@ from collections import Counter
 from datetime import datetime, timezone
 
 from warrenctl.cli.words import Words
+from warrenctl.commands.front.definitions import DefinitionsFile
+from warrenctl.commands.front.sessions import Session
 from warrenctl.fault import Fault
 
 DONE, NOT_LISTENING = 0, 4
-STATUSES = "Status: 0 it was ended by TERM or Ctrl-C; 3 a file or a word is refused, or pamqp is missing; 4 it cannot listen."
+STATUSES = "Status: 0 it was ended by TERM or Ctrl-C; 3 a file or a word is refused; 4 it cannot listen."
 HEARTBEAT = 60
 MOST = 64
 TLS_SECONDS = 10
@@ -99,13 +101,13 @@ def fault_of(context):
     return " ".join(f"{what}: {error}".split()) if error else what
 
 
-async def serve(house, given, tls, session):
+async def serve(house, given, tls):
     loop, ended = asyncio.get_running_loop(), asyncio.Event()
     loop.set_exception_handler(lambda _, context: house.fault(fault_of(context)))
     for it in (signal.SIGINT, signal.SIGTERM):
         loop.add_signal_handler(it, ended.set)
     handshake = {"ssl": tls, "ssl_handshake_timeout": TLS_SECONDS} if tls else {}
-    server = await loop.create_server(lambda: session(house).client, *given.listen, **handshake)
+    server = await loop.create_server(lambda: Session(house).client, *given.listen, **handshake)
     host, port = server.sockets[0].getsockname()[:2]
     say(f"front: listening on {host}:{port}{' with TLS' if tls else ''}, before {given.to[0]}:{given.to[1]}")
     await ended.wait()
@@ -114,11 +116,6 @@ async def serve(house, given, tls, session):
 
 def main(given):
     try:
-        from warrenctl.commands.front.definitions import DefinitionsFile
-        from warrenctl.commands.front.sessions import Session
-    except ImportError as error:
-        raise Fault(f"{error.name} is missing: apt-get install python3-pamqp, and run it by /usr/bin/python3") from None
-    try:
         tls = tls_of(given)
         house = House(DefinitionsFile(given.definitions, lambda line: house.note(line)), given)
     except ssl.SSLError as error:
@@ -126,7 +123,7 @@ def main(given):
     except OSError as error:
         raise Fault(f"{error.filename or given.certificate}: {error.strerror}") from None
     try:
-        asyncio.run(serve(house, given, tls, Session))
+        asyncio.run(serve(house, given, tls))
         return DONE
     except OSError as error:
         raise Fault(f"{given.listen[0]}:{given.listen[1]}: {error.strerror or error}", NOT_LISTENING) from None

@@ -13,10 +13,6 @@ from warrenctl.commands.front.frames import NoFrame, Reader, method_of
 PLAIN, AMQPLAIN = "PLAIN", "AMQPLAIN"
 
 
-def bytes_of(value):
-    return value.encode("utf-8", "surrogateescape") if isinstance(value, str) else bytes(value)
-
-
 def amqplain(response):
     """The user and the password of an AMQPLAIN response, a table without its length: of each field name, `S`, and a text; or nothing."""
     fields, at = {}, 0
@@ -121,7 +117,7 @@ class Translator:
         method = method_of(it)
         if method is None:
             return None
-        response = bytes_of(method.response)
+        response = method.response
         if method.mechanism == AMQPLAIN and amqplain(response):
             user, password = amqplain(response)
             self._to_server.append(frames.start_ok(it, PLAIN, b"\0" + user + b"\0" + password))
@@ -153,14 +149,14 @@ class Translator:
         method = method_of(it)
         if method is not None:
             what = "closed" if self.logged_in else f"login of {self.user!r}: refused"
-            self._note(f"{what} by the server, {method.reply_code} {method.reply_text}")
+            self._note(f"{what} by the server, {method.code} {method.text}")
 
     def _exchange_declare(self, it):
         method = method_of(it)
         if method is None:
             return None
         self._note_difference("exchange", method.exchange, {} if method.passive else self._file.exchange_differs(method))
-        return self._ask(it.channel, frames.passive_exchange(it.channel, method.exchange, method.exchange_type, method.nowait), None, method.nowait)
+        return self._ask(it.channel, frames.passive_exchange(it.channel, method.exchange, method.kind, method.no_wait), None, method.no_wait)
 
     def _queue_declare(self, it):
         method = method_of(it)
@@ -169,20 +165,20 @@ class Translator:
             return None
         self._declared[it.channel] = method.queue
         self._note_difference("queue", method.queue, {} if method.passive else self._file.queue_differs(method))
-        return self._ask(it.channel, frames.passive_queue(it.channel, method.queue, method.nowait), None, method.nowait)
+        return self._ask(it.channel, frames.passive_queue(it.channel, method.queue, method.no_wait), None, method.no_wait)
 
     def _queue_bind(self, it):
         method = method_of(it)
         queue = (method.queue or self._declared.get(it.channel, "")) if method else ""
-        if not queue or not self._file.has_binding(method.exchange, "queue", queue, method.routing_key):
+        if not queue or not self._file.has_binding(method.exchange, "queue", queue, method.key):
             return None
-        return self._ask(it.channel, frames.passive_queue(it.channel, queue, method.nowait), frames.QUEUE_BIND_OK, method.nowait)
+        return self._ask(it.channel, frames.passive_queue(it.channel, queue, method.no_wait), frames.QUEUE_BIND_OK, method.no_wait)
 
     def _exchange_bind(self, it):
         method = method_of(it)
-        if method is None or not self._file.has_binding(method.source, "exchange", method.destination, method.routing_key):
+        if method is None or not self._file.has_binding(method.source, "exchange", method.destination, method.key):
             return None
-        return self._ask(it.channel, frames.passive_exchange(it.channel, method.destination, no_wait=method.nowait), frames.EXCHANGE_BIND_OK, method.nowait)
+        return self._ask(it.channel, frames.passive_exchange(it.channel, method.destination, no_wait=method.no_wait), frames.EXCHANGE_BIND_OK, method.no_wait)
 
     def _ask(self, channel, declare, answer, no_wait):
         """Sends a passive declare, whose answer becomes that of a bind, if one is given."""
