@@ -5,7 +5,7 @@ import threading
 from collections import deque
 from http.server import BaseHTTPRequestHandler, ThreadingHTTPServer
 
-from warrenctl.fault import Fault
+from warrenctl.fault import FAILED, Fault
 from warrenctl.prometheus.text import CONTENT_TYPE, page_of
 
 # seconds that a client may be silent
@@ -80,12 +80,9 @@ def end(connection):
         pass
 
 
-def server_at(listen, collect):
-    """Returns a server at IP:PORT. Fails with one line if it can't listen there."""
-    host, _, port = listen.rpartition(":")
-    if not host or not (port.isascii() and port.isdigit() and int(port) < 65536):
-        raise Fault(f"{listen}: it is no IP:PORT")
+def server_at(address, collect, status=FAILED):
+    """Returns a server at this address and port. Fails with one line, and with this status, if it can't listen there."""
     try:
-        return Server(host.strip("[]"), int(port), collect)
+        return Server(*address, collect)
     except OSError as error:
-        raise Fault(f"{listen}: {error.strerror or error}") from None
+        raise Fault(f"{address[0]}:{address[1]}: {error.strerror or error}", status) from None

@@ -8,6 +8,7 @@ the bind's. All else goes on byte for byte.
 from collections import defaultdict, deque
 
 from warrenctl.commands.front import frames
+from warrenctl.commands.front.counting import Watch
 from warrenctl.commands.front.frames import NoFrame, Reader, method_of
 
 PLAIN, AMQPLAIN = "PLAIN", "AMQPLAIN"
@@ -28,9 +29,10 @@ def amqplain(response):
 
 
 class Translator:
-    """The state of one connection. `file` has the topology, `heartbeat` is proposed in seconds, and `note` takes a line for the log."""
+    """The state of one connection. `file` has the topology, `heartbeat` is proposed in seconds, and `note` takes a line for the log. `counts`, if they
+    are given, count what passes."""
 
-    def __init__(self, file, heartbeat, note):
+    def __init__(self, file, heartbeat, note, counts=None):
         self._file, self._proposed, self._note = file, heartbeat, note
         self._opening = b""  # what came of the protocol header
         self._raw = False  # whether bytes came that are no frames, which are handed on as they are
@@ -59,7 +61,9 @@ class Translator:
             frames.CHANNEL_CLOSE: self._forget,
             frames.CHANNEL_CLOSE_OK: self._forget,
         }
-        self._client, self._server = Reader(self._client_rules), Reader(self._server_rules)
+        self._watch = Watch(counts, self._declared) if counts else None
+        self._client_watched, self._server_watched = (self._watch.of_client, self._watch.of_server) if counts else ({}, {})
+        self._client, self._server = Reader({*self._client_rules, *self._client_watched}), Reader({*self._server_rules, *self._server_watched})
 
     # ---- bytes
 
@@ -67,7 +71,7 @@ class Translator:
         """Takes bytes of the client; returns what the client and what the server is to be sent."""
         if not self._raw and len(self._opening) < frames.PROTOCOL_HEADER_SIZE:
             data = self._open(data)
-        return self._pass(data, self._client, self._client_rules, self._to_server)
+        return self._pass(data, self._client, self._client_rules, self._client_watched, self._to_server)
 
     def _open(self, data):
         """Takes the protocol header, of which no part is handed on; the bytes that are still to be handed on."""
@@ -85,17 +89,20 @@ class Translator:
         # what answers another protocol than 0-9-1 is its header, and no frame
         if not self.logged_in and data.startswith(b"AMQP"):
             self._raw = True
-        return self._pass(data, self._server, self._server_rules, self._to_client)
+        return self._pass(data, self._server, self._server_rules, self._server_watched, self._to_client)
 
-    def _pass(self, data, reader, rules, onward):
+    def _pass(self, data, reader, rules, watched, onward):
         if self._raw:
             onward.append(data)
         else:
             try:
                 for between, it in reader.parts(data):
                     onward.append(between)
-                    if it is not None and it.kind == frames.METHOD and rules[it.index](it) is None:
-                        onward.append(it.data)
+                    if it is not None and it.kind == frames.METHOD:
+                        if watched:
+                            self._watch.see(watched, it)
+                        if it.index not in rules or rules[it.index](it) is None:
+                            onward.append(it.data)
             except NoFrame as error:
                 self._raw = True
                 onward.append(error.rest)

@@ -9,7 +9,7 @@ import threading
 
 from warrenctl.cli.login import address_of, password_for
 from warrenctl.cli.run import tell
-from warrenctl.cli.words import Words
+from warrenctl.cli.words import Words, address
 from warrenctl.commands.metrics.collecting import Collector
 from warrenctl.commands.metrics.errors import Errors, followed, open_log
 from warrenctl.prometheus.server import server_at
@@ -21,7 +21,7 @@ def words(arguments):
     parser = Words("metrics", __doc__, STATUSES)
     parser.add_server()
     parser.add_argument("definitions", metavar="DEFS", help="the definitions file that is in force; it is read again at each scrape")
-    parser.add_argument("--listen", default="127.0.0.1:9419", metavar="IP:PORT", help="where Prometheus asks (%(default)s)")
+    parser.add_argument("--listen", type=address, default="127.0.0.1:9419", metavar="IP:PORT", help="where Prometheus asks (%(default)s)")
     parser.add_argument("--errors", metavar="FILE", help="the broker's standard error: a file that is followed from its end, or - for standard input")
     parser.add_argument("--hand-on", action="store_true", help="print each line of --errors on standard error, for the journal")
     given = parser.parse_args(arguments)
