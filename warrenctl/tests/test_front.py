@@ -27,7 +27,7 @@ from warrenctl.commands.front.counting import COUNTS, Counts
 from warrenctl.commands.front.definitions import DefinitionsFile
 from warrenctl.commands.front.translator import Translator
 from warrenctl.tests import fake
-from warrenctl.tests.fake import OPEN, OPEN_OK, PROTOCOL, START, TUNE, TUNE_OK, Broker, Queue, Scripted
+from warrenctl.tests.fake import OPEN, OPEN_OK, PROTOCOL, START, TUNE, TUNE_OK, Broker, Queue, UntilTheEnd
 
 DEFINITIONS = os.path.join(SHOP, "definitions.json")
 
@@ -364,15 +364,6 @@ class File(unittest.TestCase):
             self.assertEqual([it.split(": ", 1)[1] for it in said], ["refused 1; what was read before holds", "No such file or directory; what was read before holds"])
 
 
-class UntilTheEnd(Scripted):
-    """Plays its script, and then hears nothing more but the end of the connection."""
-
-    def answer(self, connection, incoming):
-        super().answer(connection, incoming)
-        came = incoming.read()
-        assert came == b"", f"{came.hex()} came behind the script"
-
-
 class Front(unittest.TestCase):
     """The front as a process before a server of fake.py."""
 
@@ -539,6 +530,9 @@ class Tls(Front):
             running = self.front(broker.port, "--certificate", self.certificate, "--key", self.key)
             # start with both mechanisms, 9 bytes more than without
             self.assertEqual(self.begun(), bytes.fromhex("01 0000 00000025"))
+            ping = [*warrenctl("ping"), "--hello", f"127.0.0.1:{self.port}"]
+            self.assertEqual(subprocess.run([*ping, "--tls"], capture_output=True).returncode, 0)
+            self.assertEqual(subprocess.run(ping, capture_output=True).returncode, 3)
             running.kill()
 
     def test_a_certificate_that_is_renewed(self):
