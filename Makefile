@@ -160,8 +160,10 @@ warrenctl:
 
 MADE = dev/manual/made
 # what is installed, each with its place below PREFIX
-INSTALLED = $(MADE)/warren.1:share/man/man1/warren.1 $(MADE)/warren.bash:share/bash-completion/completions/warren $(MADE)/_warren:share/zsh/site-functions/_warren
-PROGRAMS = bin/warren bin/warrenctl
+BOTH = warren warrenctl
+INSTALLED = $(foreach it,$(BOTH),$(MADE)/$(it).1:share/man/man1/$(it).1 $(MADE)/$(it).bash:share/bash-completion/completions/$(it))
+INSTALLED += $(foreach it,$(BOTH),$(MADE)/_$(it):share/zsh/site-functions/_$(it))
+PROGRAMS = $(BOTH:%=bin/%)
 
 install: warren warrenctl
 	@install -D "$(WARREN)" "$(DESTDIR)$(PREFIX)/bin/warren"
