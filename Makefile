@@ -1,7 +1,7 @@
 # `make` alone lists the targets.
 SHELL := bash
 .SHELLFLAGS := -o pipefail -c
-.PHONY: help try look run verdicts serve clients load refusals cases examples statuses pictures around test-packages tools warrenctl install uninstall package manual warren test
+.PHONY: help try look run verdicts serve clients load refusals cases examples statuses pictures around test-packages tools warrenctl install uninstall package release manual warren test
 
 # where `make install` puts the programs; DESTDIR comes before it
 PREFIX ?= /usr/local
@@ -27,6 +27,7 @@ help:
 	@echo "  make manual    makes the manual pages and the completions anew, of the programs' help"
 	@echo "  make install   puts the proved program and warrenctl below $(PREFIX), with manual pages and completions; make uninstall removes them"
 	@echo "  make package   makes a Debian package of the proved program, and prints its SHA-256"
+	@echo "  make release   makes a folder in out/release: the package, a tar.gz, warrenctl, an image, and their sums, signed if KEY=.. is given"
 	@echo "  make test      proves every crate, tries the must-fail edits, runs the tests and the program    one to two hours"
 	@echo "without rt, with Python 3 alone:"
 	@echo "  make warrenctl makes one file of warrenctl, out/warrenctl"
@@ -34,7 +35,7 @@ help:
 	@echo "  make test-packages names the packages of Debian that clients, around and the tests use"
 
 # one's own files: make try DEFS=definitions.json GUARANTEES=guarantees.json, and another address: LISTEN=127.0.0.1:5673. Names may have blanks.
-export DEFS GUARANTEES LISTEN
+export DEFS GUARANTEES LISTEN KEY
 OWN_FILES = $${DEFS:+"$$DEFS"} $${GUARANTEES:+"$$GUARANTEES"}
 OWN_ADDRESS = $${LISTEN:+--listen "$$LISTEN"}
 
@@ -175,6 +176,10 @@ uninstall:
 
 package: warren
 	@python3 -m dev.package "$(WARREN)" $(OUT)
+
+# docs/inside/RELEASING.md has what comes before and behind it; KEY signs the sums
+release: warren
+	@python3 -m dev.release "$(WARREN)" out/release $${KEY:+--key "$$KEY"}
 
 manual: warren
 	@python3 -m dev.manual --program "$(WARREN)"
