@@ -1,7 +1,7 @@
 # `make` alone lists the targets.
 SHELL := bash
 .SHELLFLAGS := -o pipefail -c
-.PHONY: help try look run verdicts serve clients load refusals cases examples growth beside statuses pictures around test-packages tools warrenctl install uninstall package manual warren test
+.PHONY: help try look run verdicts serve clients load refusals cases examples growth beside statuses around test-packages tools warrenctl install uninstall package release manual warren test
 
 # where `make install` puts the programs; DESTDIR comes before it
 PREFIX ?= /usr/local
@@ -25,10 +25,10 @@ help:
 	@echo "  make around    tries warren with a RabbitMQ of its own and with other programs of Debian     10 minutes"
 	@echo "                 some of it: make around ONLY='ci takeover', of $(AROUND);"
 	@echo "                 by an installed program, which is taken as it is: make around WARREN=/usr/bin/warren"
-	@echo "  make pictures  draws the shop anew, whole and broken, with Graphviz"
-	@echo "  make manual    makes the manual pages and the completions anew, of the programs' help"
+	@echo "  make manual    makes the manual pages, the completions and the shop's pictures anew"
 	@echo "  make install   puts the proved program and warrenctl below $(PREFIX), with manual pages and completions; make uninstall removes them"
 	@echo "  make package   makes a Debian package of the proved program, and prints its SHA-256"
+	@echo "  make release   makes a folder in out/release: the package, a tar.gz, warrenctl, an image, and their sums, signed if KEY=.. is given"
 	@echo "  make test      proves every crate, tries the must-fail edits, runs the tests and the program    one to two hours"
 	@echo "without rt, with Python 3 alone:"
 	@echo "  make warrenctl makes one file of warrenctl, out/warrenctl"
@@ -36,7 +36,7 @@ help:
 	@echo "  make test-packages names the packages of Debian that clients, around and the tests use"
 
 # one's own files: make try DEFS=definitions.json GUARANTEES=guarantees.json, and another address: LISTEN=127.0.0.1:5673. Names may have blanks.
-export DEFS GUARANTEES LISTEN
+export DEFS GUARANTEES LISTEN KEY
 OWN_FILES = $${DEFS:+"$$DEFS"} $${GUARANTEES:+"$$GUARANTEES"}
 OWN_ADDRESS = $${LISTEN:+--listen "$$LISTEN"}
 
@@ -120,15 +120,6 @@ tools:
 	@python3 -m dev.stores | cmp - crates/line_cases/data/stores.lines
 	@python3 -m dev.unit
 
-# makes the shop's pictures anew; this needs Graphviz
-pictures: warren
-	@sed 's/"orders\.#"/"orders.*.#"/' $(SHOP)/definitions.json > $(CHANGED)
-	@python3 -m warrenctl draw $(SHOP)/definitions.json > $(SHOP)/topology.dot
-	@python3 -m warrenctl draw $(SHOP)/definitions.json --svg $(SHOP)/topology.svg
-	@"$(WARREN)" check $(CHANGED) $(SHOP)/guarantees.json > $(OUT)/verdicts; [ $$? -eq 1 ]
-	@python3 -m warrenctl draw $(CHANGED) $(BROKEN) > $(SHOP)/broken.dot
-	@python3 -m warrenctl draw $(CHANGED) $(BROKEN) --svg $(SHOP)/broken.svg
-
 examples: warren
 	@"$(WARREN)" replay examples/first_publish/script | diff examples/first_publish/output -
 	@"$(WARREN)" replay $(SHOP)/script --definitions $(SHOP)/definitions.json | diff $(SHOP)/output -
@@ -145,9 +136,9 @@ examples: warren
 	@python3 -m dev.manual --check --program "$(WARREN)"
 
 # Each part needs a RabbitMQ or other packages of Debian, which `make test-packages` names: one that lacks them says so in one line, and passes.
-DEBIAN = gcc man-db zsh rabbitmq-server haproxy stunnel4 openssl prometheus python3-yaml python3-prometheus-client python3-pika python3-pamqp python3-aio-pika celery ruby-bunny
+DEBIAN = gcc man-db zsh rabbitmq-server haproxy stunnel4 openssl prometheus python3-yaml python3-pika python3-aio-pika celery ruby-bunny
 DEBIAN += php-amqplib php-cli librabbitmq-client-java default-jdk-headless golang-go golang-github-rabbitmq-amqp091-go-dev
-AROUND = reload deploy metrics parts shovel rabbit agree exports ci takeover unmodified
+AROUND = clean reload deploy metrics parts shovel rabbit agree exports ci takeover unmodified
 ONLY = $(AROUND)
 
 test-packages:
@@ -162,8 +153,10 @@ warrenctl:
 
 MADE = dev/manual/made
 # what is installed, each with its place below PREFIX
-INSTALLED = $(MADE)/warren.1:share/man/man1/warren.1 $(MADE)/warren.bash:share/bash-completion/completions/warren $(MADE)/_warren:share/zsh/site-functions/_warren
-PROGRAMS = bin/warren bin/warrenctl
+BOTH = warren warrenctl
+INSTALLED = $(foreach it,$(BOTH),$(MADE)/$(it).1:share/man/man1/$(it).1 $(MADE)/$(it).bash:share/bash-completion/completions/$(it))
+INSTALLED += $(foreach it,$(BOTH),$(MADE)/_$(it):share/zsh/site-functions/_$(it))
+PROGRAMS = $(BOTH:%=bin/%)
 
 install: warren warrenctl
 	@install -D "$(WARREN)" "$(DESTDIR)$(PREFIX)/bin/warren"
@@ -184,8 +177,24 @@ beside: warren
 package: warren
 	@python3 -m dev.package "$(WARREN)" $(OUT)
 
+# docs/inside/RELEASING.md has what comes before and behind it; KEY signs the sums
+release: warren
+	@python3 -m dev.release "$(WARREN)" out/release $${KEY:+--key "$$KEY"}
+
 manual: warren
 	@python3 -m dev.manual --program "$(WARREN)"
+	@if command -v dot > /dev/null; then $(MAKE) -s $(SHOP)/topology.svg; else echo "the shop's pictures stay: Graphviz is not here"; fi
+
+# the shop, whole and broken, drawn by Graphviz
+$(SHOP)/topology.svg: FORCE
+	@sed 's/"orders\.#"/"orders.*.#"/' $(SHOP)/definitions.json > $(CHANGED)
+	@python3 -m warrenctl draw $(SHOP)/definitions.json > $(SHOP)/topology.dot
+	@python3 -m warrenctl draw $(SHOP)/definitions.json --svg $(SHOP)/topology.svg
+	@"$(WARREN)" check $(CHANGED) $(SHOP)/guarantees.json > $(OUT)/verdicts; [ $$? -eq 1 ]
+	@python3 -m warrenctl draw $(CHANGED) $(BROKEN) > $(SHOP)/broken.dot
+	@python3 -m warrenctl draw $(CHANGED) $(BROKEN) --svg $(SHOP)/broken.svg
+
+FORCE:
 
 # each exit status, as the system has it: 0 to 4 (docs/OPERATIONS.md, "Statuses and messages")
 statuses: warren

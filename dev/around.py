@@ -15,6 +15,7 @@ FAILED = 1
 # each part: what runs it, before the program; those of the third list take no program
 SCRIPTS = {"deploy": "examples/deploy/run"}
 MODULES = {
+    "clean": ["dev.clean"],
     "reload": ["examples.reload.run"],
     "metrics": ["examples.metrics.run"],
     "parts": ["warrenctl.tests.with_warren.split", "examples.parts.run"],

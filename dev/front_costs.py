@@ -18,7 +18,7 @@ from dev.beds.commands import warrenctl
 from dev.beds.example import run_example
 
 FILES = [os.path.join(SHOP, f"{it}.json") for it in ("definitions", "guarantees", "certificates")]
-PYTHON = "/usr/bin/python3" if os.path.exists("/usr/bin/python3") else sys.executable
+
 ROUNDS, MESSAGES, WINDOW, ALONE, IDLE = 3, 10_000, 100, 100, 100
 
 
@@ -153,7 +153,7 @@ def measure(direct, port, pid):
 def main(warren):
     server, direct = started([warren, "serve", *FILES, "--listen", "127.0.0.1:0"])
     try:
-        front, port = started([*warrenctl("front", PYTHON), FILES[0], "--listen", "127.0.0.1:0", "--to", f"127.0.0.1:{direct}", "--most", "1000"])
+        front, port = started([*warrenctl("front"), FILES[0], "--listen", "127.0.0.1:0", "--to", f"127.0.0.1:{direct}", "--most", "1000"])
         try:
             print(f"{ROUNDS} rounds of {MESSAGES} messages, {WINDOW} waiting", file=sys.stderr)
             measure(direct, port, front.pid)

@@ -1,11 +1,10 @@
 """Runs the tests of warrenctl/tests and dev/tests, four modules at a time: python3 -m dev.unit [MODULE ..], such as test_why or dev.tests.test_map.
 
 A line for each module, and all that one says that fails. The last lines count what was skipped, by the package that is not installed.
-Modules that need a Python package of Debian are run by Debian's Python if this one lacks it. Status: 0 all passed; 1 a module failed; 3 there is no such module.
+Status: 0 all passed; 1 a module failed; 3 there is no such module.
 """
 
 import glob
-import importlib.util
 import os
 import re
 import subprocess
@@ -19,9 +18,6 @@ from warrenctl.fault import Fault
 
 AT_ONCE = 4
 FAILED = 1
-DEBIANS = "/usr/bin/python3"
-# what a module wants of Debian's packages
-WANTS = {"warrenctl.tests.test_front": "pamqp", "warrenctl.tests.test_metrics": "prometheus_client"}
 RAN = re.compile(r"^Ran (\d+) tests? in .*$", re.MULTILINE)
 SKIPPED = re.compile(r" \.\.\. skipped (['\"])(.*)\1$", re.MULTILINE)
 
@@ -41,19 +37,10 @@ def chosen(words):
     return found if words else modules()
 
 
-def python_for(module):
-    """The Python that has what a module wants: this one, unless Debian's has it and this one has not."""
-    package = WANTS.get(module)
-    if package is None or importlib.util.find_spec(package) or not os.path.exists(DEBIANS):
-        return sys.executable
-    has = subprocess.run([DEBIANS, "-c", f"import {package}"], capture_output=True).returncode == 0
-    return DEBIANS if has else sys.executable
-
-
 def ran(module):
     """The status of a module's tests, and what they said."""
     folder, _, name = module.replace(".", "/").rpartition("/")
-    command = [python_for(module), "-m", "unittest", "discover", "--verbose", "-t", ".", "-s", folder, "-p", f"{name}.py"]
+    command = [sys.executable, "-m", "unittest", "discover", "--verbose", "-t", ".", "-s", folder, "-p", f"{name}.py"]
     done = subprocess.run(command, cwd=ROOT, capture_output=True, text=True, errors="replace", stdin=subprocess.DEVNULL)
     return done.returncode, done.stdout + done.stderr
 

@@ -8,12 +8,13 @@ from warrenctl.cli.run import DONE, run
 from warrenctl.commands import COMMANDS
 from warrenctl.fault import Fault
 
+ABOUT = "What an operator needs beside the broker warren"
 WIDEST = max(map(len, COMMANDS))
 
 
 def help_text():
     listed = "\n".join(f"  {name.ljust(WIDEST)}  {about}" for name, about in COMMANDS.items())
-    return f"usage: warrenctl COMMAND [WORD ..]\n\nWhat an operator needs beside the broker warren.\n\n{listed}\n\n`warrenctl COMMAND --help` says what a command takes.\n"
+    return f"usage: warrenctl COMMAND [WORD ..]\n\n{ABOUT}.\n\n{listed}\n\n`warrenctl COMMAND --help` says what a command takes.\n"
 
 
 def work(words):

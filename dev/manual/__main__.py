@@ -1,6 +1,6 @@
 #!/usr/bin/env python3
-"""Makes the manual page of warren and its completions for bash and zsh, of what the program says with --help. Those texts are kept beside this
-script, in `help`, and what is made of them in `made`."""
+"""Makes the manual pages of warren and of warrenctl and their completions for bash and zsh, of what the programs say with --help. The texts of warren
+are kept beside this script, in `help`, and what is made in `made`."""
 
 import os
 import subprocess
@@ -8,6 +8,7 @@ import sys
 
 from dev.manual.help_texts import NotRead, taken_from
 from dev.manual.pages import made_of
+from dev.manual.programs import warren, warrenctl
 from warrenctl.cli.run import DONE, NOT_WHOLE, run, tell
 from warrenctl.cli.words import Words
 from warrenctl.fault import Fault
@@ -45,7 +46,7 @@ def write(folder, texts):
 def work(given):
     try:
         kept = taken_from(given.program) if given.program else files_in("help")
-        made = made_of(kept)
+        made = {**made_of(warren(kept)), **made_of(warrenctl())}
     except NotRead as error:
         raise Fault(str(error)) from None
     except subprocess.TimeoutExpired:

@@ -4,8 +4,8 @@ import re
 import subprocess
 from collections import namedtuple
 
-# about: its first line; usage: the line behind "Usage:"; commands and arguments: (name, what it is); options: Option
-Help = namedtuple("Help", "about usage commands arguments options")
+# about: its first line; usage: the line behind "Usage:"; commands and arguments: (name, what it is); options: Option; ends: what comes last
+Help = namedtuple("Help", "about usage commands arguments options ends", defaults=("",))
 Option = namedtuple("Option", "short long value what")
 ITEM = re.compile(r"^ {2,6}(\S.*?)(?: {2,}(.*))?$")
 OPTION = re.compile(r"^(?:(-\w), )?(--[\w-]+)(?: <(.+)>)?$")

@@ -1,22 +1,11 @@
-"""The manual page and the completions of bash and zsh, made of the help texts."""
+"""The manual page of a program and its completions for bash and zsh, made of what its help says."""
 
-from dev.manual.help_texts import read_help
+from collections import namedtuple
 
-STATUSES = [
-    (0, "done; every guarantee holds, every certificate is accepted"),
-    (1, "check: some guarantee does not hold; verify: some certificate has a fault"),
-    (2, "check: no guarantee is broken, but some are undecided"),
-    (3, "a file, a certificate of replay or serve, or the command line was refused; --help and --version, too"),
-    (4, "memory, input or output failed"),
-]
-NOTES = "What serve keeps is in memory alone: at a stop all messages are lost, acked or not. Standard error has to be read."
-FILES = ("DEFS", "GUARANTEES", "CERTS", "SCRIPT", "FILE")
+# version: as --version prints it; help: that of the program itself; commands: each name with its Help; statuses: pairs, none if each command has its own
+Program = namedtuple("Program", "name version help commands statuses notes")
+FILES = ("DEFS", "DEFINITIONS", "GUARANTEES", "CERTS", "CERTIFICATES", "SCRIPT", "FILE", "SVG", "VERDICTS", "EXPORT", "FOLDER", "NEW", "PROGRAM")
 MADE_BY = "made by `python3 -m dev.manual` of the program's help"
-
-
-def commands_of(texts):
-    """Each command with its help, in the order of the program's."""
-    return [(name, read_help(texts[name])) for name, _ in read_help(texts["warren"]).commands if name != "help"]
 
 
 # ---- the manual page
@@ -46,27 +35,37 @@ def words_of_usage(usage):
     return [f"\\fI{roff(it.strip('<>'))}\\fR" if it.startswith("<") else roff(it) if it.startswith("[") else bold(it) for it in usage.split()]
 
 
-def manual(texts):
-    whole = read_help(texts["warren"])
-    about = whole.about[0].lower() + whole.about[1:]
-    lines = [f'.\\" {MADE_BY}', f'.TH WARREN 1 "" "{texts["version"].strip()}"']
-    lines += [".SH NAME", f"warren \\- {roff(about)}", ".SH SYNOPSIS"]
-    for _, it in commands_of(texts):
+def sentence(text):
+    return text[:1].upper() + text[1:] + ("" if text.endswith(".") else ".")
+
+
+def of_command(name, it):
+    yield from (f".SS {name}", roff(sentence(it.about)))
+    for argument, what in it.arguments:
+        yield from term(f"\\fI{roff(argument)}\\fR", sentence(what))
+    for option in it.options:
+        yield from term(named(option), sentence(option.what))
+    if it.ends:
+        yield from (".PP", roff(sentence(it.ends)))
+
+
+def manual(program):
+    name, about = program.name, program.help.about
+    lines = [f'.\\" {MADE_BY}', f'.TH {name.upper()} 1 "" "{program.version}"']
+    lines += [".SH NAME", f"{name} \\- {roff(about[0].lower() + about[1:])}", ".SH SYNOPSIS"]
+    for _, it in program.commands:
         lines += [" ".join(words_of_usage(it.usage)), ".br"]
     lines[-1:] = [".SH COMMANDS"]
-    for name, it in commands_of(texts):
-        lines += [f".SS {name}", roff(it.about + ".")]
-        for argument, what in it.arguments:
-            lines += term(f"\\fI{roff(argument)}\\fR", what + ".")
-        for option in it.options:
-            lines += term(named(option), option.what + ".")
+    for it in program.commands:
+        lines += of_command(*it)
     lines += [".SH OPTIONS"]
-    for option in whole.options:
-        lines += term(named(option), option.what + ".")
-    lines += [".SH EXIT STATUS"]
-    for status, meaning in STATUSES:
-        lines += term(bold(str(status)), meaning + ".")
-    return "\n".join(lines + [".SH NOTES", roff(NOTES)]) + "\n"
+    for option in program.help.options:
+        lines += term(named(option), sentence(option.what))
+    if program.statuses:
+        lines += [".SH EXIT STATUS"]
+        for status, meaning in program.statuses:
+            lines += term(bold(str(status)), meaning + ".")
+    return "\n".join(lines + [".SH NOTES", roff(program.notes)]) + "\n"
 
 
 # ---- bash
@@ -82,7 +81,7 @@ def bash_of(it):
 
 
 BASH_BEGINS = """
-_warren() {
+_@program() {
     local word=${COMP_WORDS[COMP_CWORD]} before=${COMP_WORDS[COMP_CWORD - 1]} command=${COMP_WORDS[1]}
     local options= files= values= places= place=0 it
     if ((COMP_CWORD == 1)); then
@@ -110,20 +109,19 @@ BASH_ENDS = """        help) ((COMP_CWORD == 2)) && mapfile -t COMPREPLY < <(com
         mapfile -t COMPREPLY < <(compgen -f -- "$word")
     fi
 }
-complete -o filenames -F _warren warren
+complete -o filenames -F _@program @program
 """
 
 
-def bash(texts):
-    whole = read_help(texts["warren"])
-    names = " ".join(name for name, _ in whole.commands)
-    top = " ".join(name for option in whole.options for name in (option.short, option.long) if name)
+def bash(program):
+    names = " ".join(name for name, _ in program.help.commands)
+    top = " ".join(name for option in program.help.options for name in (option.short, option.long) if name)
     rows = ""
-    for name, it in commands_of(texts):
+    for name, it in program.commands:
         options, files, values, places = bash_of(it)
         rows += f"        {name}) options='{options}' files='{files}' values='{values}' places='{places}' ;;\n"
-    text = BASH_BEGINS + rows + BASH_ENDS
-    return f"# completions of warren for bash, {MADE_BY}\n" + text.replace("@commands", names).replace("@options", top)
+    text = (BASH_BEGINS + rows + BASH_ENDS).replace("@commands", names).replace("@options", top).replace("@program", program.name)
+    return f"# completions of {program.name} for bash, {MADE_BY}\n" + text
 
 
 # ---- zsh
@@ -148,7 +146,7 @@ def zsh_options(it):
 
 
 ZSH_BEGINS = """
-_warren() {
+_@program() {
     local curcontext=$curcontext state line
     local -a commands
     commands=(
@@ -167,7 +165,7 @@ ZSH_ENDS = """                help) _describe command commands ;;
     esac
 }
 
-_warren "$@"
+_@program "$@"
 """
 
 
@@ -178,14 +176,14 @@ def zsh_row(name, it):
     return f"                {name})\n                    _arguments {joined}\n                    ;;\n"
 
 
-def zsh(texts):
-    whole = read_help(texts["warren"])
-    commands = "\n".join(f"        {quoted(name + ':' + described(what))}" for name, what in whole.commands)
-    begins = ZSH_BEGINS.replace("@commands", commands).replace("@options", " ".join(zsh_options(whole)))
-    rows = "".join(zsh_row(*it) for it in commands_of(texts))
-    return f"#compdef warren\n# completions of warren for zsh, {MADE_BY}\n" + begins + rows + ZSH_ENDS
+def zsh(program):
+    commands = "\n".join(f"        {quoted(name + ':' + described(what))}" for name, what in program.help.commands)
+    begins = ZSH_BEGINS.replace("@commands", commands).replace("@options", " ".join(zsh_options(program.help)))
+    rows = "".join(zsh_row(*it) for it in program.commands)
+    text = (begins + rows + ZSH_ENDS).replace("@program", program.name)
+    return f"#compdef {program.name}\n# completions of {program.name} for zsh, {MADE_BY}\n" + text
 
 
-def made_of(texts):
+def made_of(program):
     """The files by their names."""
-    return {"warren.1": manual(texts), "warren.bash": bash(texts), "_warren": zsh(texts)}
+    return {f"{program.name}.1": manual(program), f"{program.name}.bash": bash(program), f"_{program.name}": zsh(program)}

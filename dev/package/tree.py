@@ -3,6 +3,8 @@
 import gzip
 import os
 import re
+import subprocess
+import tempfile
 
 from dev import archive
 from warrenctl.fault import Fault
@@ -25,6 +27,16 @@ ABOUT = """message broker for AMQP 0-9-1 whose routing is certified
  It keeps messages in memory alone. An installation starts and restarts nothing,
  for a stop loses all messages."""
 SCRIPTS = ("postinst", "prerm", "postrm")
+DEFAULTS = "etc/default/warren"
+CONFIGURATION = (*(f"{FIRST}/{it}" for it in FILES), DEFAULTS)
+UNITS = [f"examples/deploy/{it}" for it in ("warren.service", "warren@.service", "warren-front.service", "warren-ping.service", "warren-ping.timer")]
+UNITS.append("examples/metrics/warren-metrics.service")
+# where the pages and completions of a program go in a package
+MADE = {"{}.bash": "bash-completion/completions/{}", "_{}": "zsh/vendor-completions/_{}"}
+# a link of a page to another file
+LINK = re.compile(r"\[([^][]*)\]\(([^)#\s]+)(#[^)\s]*)?\)")
+LICENCE = "LICENCE"
+NO_LICENCE = "No licence has been chosen yet. Until then nobody but the authors may copy, change or pass on this work."
 
 
 def released_in(changelog):
@@ -50,6 +62,18 @@ def package_version(program, changelog, commit):
     return f"{released}+{f'git{commit}' if commit else 'unreleased'}" if is_ahead else released
 
 
+def maintainer_in(top):
+    """Returns who answers for a package and takes reports of holes: the first line of the file MAINTAINER, as `Name <address>`."""
+    try:
+        with open(os.path.join(top, "MAINTAINER"), encoding="utf-8") as file:
+            line = file.readline().strip()
+    except FileNotFoundError:
+        line = ""
+    if not re.fullmatch(r"[^<>]+ <[^<>@\s]+@[^<>@\s]+>", line):
+        raise Fault("the first line of the file MAINTAINER has to say who answers for the package and takes reports of holes, as Name <address@host>")
+    return line
+
+
 def put(tree, name, data, mode=0o644):
     path = os.path.join(tree, name)
     os.makedirs(os.path.dirname(path), mode=0o755, exist_ok=True)
@@ -63,9 +87,52 @@ def contents(name):
         return file.read()
 
 
+def stripped(program):
+    """The bytes of a program without its symbols; as it is if it is a script. Fails with one line without binutils."""
+    data = contents(program)
+    if not data.startswith(b"\x7fELF"):
+        return data
+    with tempfile.TemporaryDirectory() as folder:
+        made = os.path.join(folder, "stripped")
+        try:
+            done = subprocess.run(["strip", "--strip-unneeded", "-o", made, program], capture_output=True, text=True)
+        except FileNotFoundError:
+            raise Fault("strip is not here: apt-get install binutils") from None
+        if done.returncode:
+            raise Fault(f"strip: {' '.join(done.stderr.split())}")
+        return contents(made)
+
+
 def unit_of(data):
     """The unit of the repository for a program of a package, without the remarks at its top."""
-    return data[data.index(b"[Unit]") :].replace(b"/usr/local/bin/", b"/usr/bin/")
+    return data[re.search(rb"^\[Unit\]$", data, re.MULTILINE).start() :].replace(b"/usr/local/bin/", b"/usr/bin/")
+
+
+def with_live_links(text, page, there):
+    """A page whose links lead to files that are there: of any other its words alone are left."""
+
+    def kept(found):
+        words, target, _ = found.groups()
+        path = os.path.normpath(os.path.join(os.path.dirname(page), target))
+        return found.group(0) if "://" in target or path in there else words
+
+    return LINK.sub(kept, text)
+
+
+def folders_of(names):
+    """These paths, and each folder on the way to one."""
+    found = set(names)
+    for it in names:
+        while it := os.path.dirname(it):
+            found.add(it)
+    return found
+
+
+def copyright_of(top):
+    """Who has written this, and under which licence it may be passed on."""
+    path = os.path.join(top, LICENCE)
+    terms = contents(path).decode() if os.path.exists(path) else NO_LICENCE + "\n"
+    return f"warren\nCopyright: the authors of warren\n\n{terms}".encode()
 
 
 def shared_files(top):
@@ -81,29 +148,47 @@ def shared_files(top):
 
 def share(tree, top):
     """Puts the pages, scripts and examples into the tree, with the same paths among each other as in the repository."""
-    for name in shared_files(top):
+    names = list(shared_files(top))
+    there = folders_of(names)
+    for name in names:
         source = os.path.join(top, name)
-        put(tree, f"{SHARE}/{name}", contents(source), 0o755 if os.access(source, os.X_OK) else 0o644)
+        data = contents(source)
+        if name.endswith(".md"):
+            data = with_live_links(data.decode(), name, there).encode()
+        put(tree, f"{SHARE}/{name}", data, 0o755 if os.access(source, os.X_OK) else 0o644)
+    put(tree, f"{SHARE}/copyright", copyright_of(top))
+    put(tree, f"{SHARE}/changelog.gz", gzip.compress(contents(os.path.join(top, "CHANGELOG.md")), mtime=0))
     os.makedirs(os.path.join(tree, "usr/share/doc"), mode=0o755, exist_ok=True)
     os.symlink("../warren", os.path.join(tree, "usr/share/doc/warren"))
 
 
-def lay_out(tree, program, made, unit):
-    put(tree, "usr/bin/warren", contents(program), 0o755)
+def lay_out(tree, program, top):
+    """Puts the programs, what is made of their help, the units and the configuration into the tree."""
+    put(tree, "usr/bin/warren", stripped(program), 0o755)
     archive.make(os.path.join(tree, "usr/bin/warrenctl"), PYTHON)
-    put(tree, "usr/share/man/man1/warren.1.gz", gzip.compress(contents(os.path.join(made, "warren.1")), mtime=0))
-    put(tree, "usr/share/bash-completion/completions/warren", contents(os.path.join(made, "warren.bash")))
-    put(tree, "usr/share/zsh/vendor-completions/_warren", contents(os.path.join(made, "_warren")))
-    put(tree, "lib/systemd/system/warren.service", unit_of(contents(unit)))
+    made = os.path.join(top, "dev/manual/made")
+    for it in ("warren", "warrenctl"):
+        put(tree, f"usr/share/man/man1/{it}.1.gz", gzip.compress(contents(os.path.join(made, f"{it}.1")), mtime=0))
+        for source, target in MADE.items():
+            put(tree, f"usr/share/{target.format(it)}", contents(os.path.join(made, source.format(it))))
+    for it in UNITS:
+        put(tree, f"lib/systemd/system/{os.path.basename(it)}", unit_of(contents(os.path.join(top, it))))
     for name, text in FILES.items():
         put(tree, f"{FIRST}/{name}", text.encode(), 0o640)
+    put(tree, DEFAULTS, contents(os.path.join(HERE, "files/default")))
 
 
 def libraries_of(program):
-    """The C library of the newest version that the program asks for."""
-    versions = {tuple(map(int, it.split(b"."))) for it in re.findall(rb"\bGLIBC_([0-9]+(?:\.[0-9]+)+)", contents(program))}
+    """The C library of the newest version that the program asks for, and the compiler's if it asks for that."""
+    data = contents(program)
+    versions = {tuple(map(int, it.split(b"."))) for it in re.findall(rb"\bGLIBC_([0-9]+(?:\.[0-9]+)+)", data)}
     newest = ".".join(map(str, max(versions))) if versions else None
-    return f"libc6 (>= {newest}), libgcc-s1" if newest else "libc6"
+    return (f"libc6 (>= {newest})" if newest else "libc6") + (", libgcc-s1" if b"libgcc_s.so.1" in data else "")
+
+
+def size_of(tree):
+    """How many kilobytes the files of a tree take, as dpkg counts them."""
+    return sum((os.lstat(os.path.join(at, it)).st_size + 1023) // 1024 for at, _, names in os.walk(tree) for it in names)
 
 
 def control(tree, program, version, architecture, maintainer):
@@ -116,12 +201,13 @@ def control(tree, program, version, architecture, maintainer):
         "Maintainer": maintainer,
         "Depends": f"{libraries_of(program)}, passwd",
         "Recommends": "python3 (>= 3.9)",
-        "Suggests": "python3-prometheus-client, haproxy, stunnel4",
+        "Suggests": "prometheus, haproxy, stunnel4",
+        "Installed-Size": str(size_of(tree)),
         "Section": "net",
         "Priority": "optional",
         "Description": ABOUT,
     }
     put(tree, "DEBIAN/control", "".join(f"{name}: {it}\n" for name, it in fields.items()).encode())
-    put(tree, "DEBIAN/conffiles", "".join(f"/{FIRST}/{it}\n" for it in FILES).encode())
+    put(tree, "DEBIAN/conffiles", "".join(f"/{it}\n" for it in CONFIGURATION).encode())
     for name in SCRIPTS:
         put(tree, f"DEBIAN/{name}", contents(os.path.join(HERE, "files", name)), 0o755)

@@ -10,6 +10,8 @@ import unittest
 from dev import ROOT
 from dev.manual.help_texts import NotRead, Option, read_help
 from dev.manual.pages import made_of
+from dev.manual.programs import warren, warrenctl
+from warrenctl.commands import COMMANDS
 
 MADE = os.path.join(ROOT, "dev/manual/made")
 ONE = """Tells it
@@ -90,22 +92,39 @@ class Reading(unittest.TestCase):
                 read_help(text)
 
     def test_marks_are_escaped(self):
-        made = made_of({"version": "warren 1\n", "warren": WHOLE, "tell": ONE})
+        made = made_of(warren({"version": "warren 1\n", "warren": WHOLE, "tell": ONE}))
         self.assertIn("\\fBwarren\\fR \\fBtell\\fR [OPTIONS] \\fB\\-\\-to\\fR \\fIIP:PORT\\fR \\fIDEFS\\fR \\fIKEY\\fR", made["warren.1"])
         self.assertIn("A key: 'its' [own] \\e name.", made["warren.1"])
         self.assertIn("'2:A key\\: '\\''its'\\'' \\[own\\] \\\\ name: '", made["_warren"])
 
 
+class Commands(unittest.TestCase):
+    def test_each_says_what_it_takes(self):
+        """What it is for, each argument and option, and its statuses."""
+        for name, it in warrenctl().commands:
+            self.assertTrue(it.about.endswith(".") and it.usage.startswith(f"warrenctl {name} "), name)
+            self.assertTrue(all(what for _, what in it.arguments) and all(option.what for option in it.options), name)
+            self.assertIn("Status: ", it.ends, name)
+
+
 @unittest.skipUnless(shutil.which("man"), "man-db")
 class Manual(unittest.TestCase):
-    def test_it_is_read_without_a_warning(self):
+    def page(self, name):
         setting = {**os.environ, "LC_ALL": "C.UTF-8", "MANWIDTH": "80"}
-        command = ["man", "--warnings", "-E", "UTF-8", "-l", os.path.join(MADE, "warren.1")]
+        command = ["man", "--warnings", "-E", "UTF-8", "-l", os.path.join(MADE, name)]
         done = subprocess.run(command, capture_output=True, text=True, env=setting, timeout=120)
         self.assertEqual((done.returncode, done.stderr), (0, ""))
-        lines = [line.strip() for line in done.stdout.splitlines()]
+        return [line.strip() for line in done.stdout.splitlines()]
+
+    def test_it_is_read_without_a_warning(self):
+        lines = self.page("warren.1")
         self.assertIn("warren serve [OPTIONS] --listen IP:PORT DEFS GUARANTEES CERTS", lines)
         self.assertIn("--reload N", lines)
+
+    def test_that_of_warrenctl(self):
+        lines = self.page("warrenctl.1")
+        self.assertIn("warrenctl front [OPTIONS] --listen IP:PORT --to IP:PORT DEFINITIONS", lines)
+        self.assertFalse([it for it in COMMANDS if it not in lines])
 
 
 class Bash(unittest.TestCase):
@@ -117,10 +136,10 @@ class Bash(unittest.TestCase):
             with open(os.path.join(self.folder, name), "w", encoding="utf-8"):
                 pass
 
-    def completed(self, *words):
+    def completed(self, *words, program="warren"):
         """What is offered for the last of these words."""
-        script = 'source "$1"; shift; COMP_WORDS=("$@"); COMP_CWORD=$(($# - 1)); _warren; printf "%s\\n" "${COMPREPLY[@]}"'
-        command = ["bash", "-c", script, "bash", os.path.join(MADE, "warren.bash"), "warren", *words]
+        script = 'source "$1"; shift; COMP_WORDS=("$@"); COMP_CWORD=$(($# - 1)); "_$1"; printf "%s\\n" "${COMPREPLY[@]}"'
+        command = ["bash", "-c", script, "bash", os.path.join(MADE, f"{program}.bash"), program, *words]
         done = subprocess.run(command, capture_output=True, text=True, cwd=self.folder, timeout=120)
         self.assertEqual((done.returncode, done.stderr), (0, ""))
         return done.stdout.split()
@@ -144,11 +163,23 @@ class Bash(unittest.TestCase):
                 self.assertEqual(sorted(self.completed(*words)), sorted(wanted))
 
 
+    def test_warrenctl(self):
+        files = ["a.json", "b.json"]
+        rows = [(["d"], ["draw", "depths", "drain"]), (["help", "pi"], ["ping"]), (["--v"], ["--version"])]
+        rows += [(["depths", ""], []), (["depths", "till@127.0.0.1", ""], files), (["depths", "--o"], ["--once"]), (["depths", "--password-file", "a"], ["a.json"])]
+        rows += [(["ping", "--hello", ""], []), (["front", "a"], ["a.json"]), (["front", "--listen", ""], []), (["front", "--certificate", "b"], ["b.json"])]
+        rows += [(["convert", "a.json", ""], files), (["why", "--junit", "a"], ["a.json"])]
+        for words, wanted in rows:
+            with self.subTest(words=words):
+                self.assertEqual(sorted(self.completed(*words, program="warrenctl")), sorted(wanted))
+
+
 @unittest.skipUnless(shutil.which("zsh"), "zsh")
 class Zsh(unittest.TestCase):
     def test_it_is_a_script(self):
-        done = subprocess.run(["zsh", "-n", os.path.join(MADE, "_warren")], capture_output=True, text=True, timeout=120)
-        self.assertEqual((done.returncode, done.stderr), (0, ""))
+        for name in ("_warren", "_warrenctl"):
+            done = subprocess.run(["zsh", "-n", os.path.join(MADE, name)], capture_output=True, text=True, timeout=120)
+            self.assertEqual((done.returncode, done.stderr), (0, ""))
 
 
 if __name__ == "__main__":

@@ -2,8 +2,8 @@
 
     python3 -m examples.metrics.run WARREN
 
-WARREN is the program of that crate. It wants prometheus_client, prometheus and promtool: apt-get install --no-install-recommends python3-prometheus-client prometheus.
-The status is not 0 if something differs. Without one of them it ends with one line and status 0."""
+WARREN is the program of that crate. The last part needs prometheus and promtool: apt-get install --no-install-recommends prometheus.
+The status is not 0 if something differs. Without them a line says that this part is skipped."""
 
 import json
 import os
@@ -23,17 +23,9 @@ HERE = os.path.dirname(os.path.realpath(__file__))
 sys.dont_write_bytecode = True
 
 
-# Debian's Python has Debian's prometheus_client
-PYTHON = "/usr/bin/python3"
-
-
 def missing():
     """Returns what is not on this machine, or `None`."""
-    for it in ("prometheus", "promtool"):
-        if shutil.which(it) is None:
-            return it
-    has = subprocess.run([PYTHON, "-c", "import prometheus_client"], capture_output=True) if os.path.exists(PYTHON) else None
-    return None if has is not None and has.returncode == 0 else "python3-prometheus-client"
+    return next((it for it in ("prometheus", "promtool") if shutil.which(it) is None), None)
 
 
 def fetched(address):
@@ -54,7 +46,7 @@ class Watched(Served):
         shop_in(folder)
         self.log = os.path.join(folder, "log")
         super().__init__(warren, folder, "--reload", "2", errors=subprocess.PIPE)
-        words = [*warrenctl("metrics", PYTHON), f"till@127.0.0.1:{self.port}", self.files[0], "--listen", "127.0.0.1:0", "--errors", "-", "--hand-on"]
+        words = [*warrenctl("metrics"), f"till@127.0.0.1:{self.port}", self.files[0], "--listen", "127.0.0.1:0", "--errors", "-", "--hand-on"]
         with open(self.log, "wb") as log:
             self.exporter = subprocess.Popen(words, stdin=self.process.stderr, stdout=subprocess.PIPE, stderr=log, text=True, env={**os.environ, "WARREN_PASSWORD": "till"})
         self.process.stderr.close()
@@ -99,10 +91,10 @@ def of_rules():
 
 
 def expressions():
-    """Returns what the dashboard asks, for all queues."""
+    """Returns what the dashboard asks, for all brokers and queues."""
     with open(os.path.join(HERE, "dashboard.json"), encoding="utf-8") as file:
         panels = json.load(file)["panels"]
-    return [it["expr"].replace("$queue", ".*") for panel in panels for it in panel["targets"]]
+    return [it["expr"].replace("$queue", ".*").replace("$instance", ".*") for panel in panels for it in panel["targets"]]
 
 
 class Prometheus:
@@ -143,9 +135,9 @@ def of_prometheus(broker, folder):
             # this broker has no limit of address space; nothing else may be without an answer
             if "virtual_memory_max" not in it:
                 yield wanted(f"the dashboard's {it}", until(lambda: prometheus.ask(it)))
-        yield wanted("an alert is on its way for audit, which has no consumer", until(lambda: "QueueWithoutConsumers" in prometheus.alerts()))
+        yield wanted("an alert is on its way for audit, which has no consumer", until(lambda: "WarrenQueueWithoutConsumers" in prometheus.alerts()))
         broker.end()
-        yield wanted("a broker that is gone", until(lambda: "BrokerDown" in prometheus.alerts()))
+        yield wanted("a broker that is gone", until(lambda: "WarrenBrokerDown" in prometheus.alerts()))
     finally:
         prometheus.end()
 
@@ -153,15 +145,15 @@ def of_prometheus(broker, folder):
 def outcomes(broker, folder):
     yield from of_the_exporter(broker)
     yield from of_reloads(broker)
+    lacks = missing()
+    if lacks:
+        print(f"examples/metrics: rules and dashboard are skipped, {lacks} is not here: apt-get install --no-install-recommends prometheus")
+        return
     yield from of_rules()
     yield from of_prometheus(broker, folder)
 
 
 def main(warren):
-    lacks = missing()
-    if lacks:
-        print(f"examples/metrics: skipped, {lacks} is not here: apt-get install --no-install-recommends python3-prometheus-client prometheus")
-        return 0
     with tempfile.TemporaryDirectory() as folder:
         with Watched(warren, folder) as broker:
             return 0 if all(list(outcomes(broker, folder))) else 1

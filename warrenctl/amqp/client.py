@@ -10,6 +10,11 @@ from collections import namedtuple
 from contextlib import suppress
 
 from warrenctl.amqp import wire
+from warrenctl.amqp.methods import (
+    ACK, CHANNEL_CLOSE, CHANNEL_CLOSE_OK, CHANNEL_OPEN, CHANNEL_OPEN_OK, CONNECTION_CLOSE, CONNECTION_CLOSE_OK, CONSUME, CONSUME_OK, DELIVER,
+    EXCHANGE_DECLARE, EXCHANGE_DECLARE_OK, FLOW, FLOW_OK, GET, GET_EMPTY, GET_OK, NACK, OPEN, OPEN_OK, PUBLISH, QOS, QOS_OK, QUEUE_DECLARE,
+    QUEUE_DECLARE_OK, REJECT, RETURN, SELECT, SELECT_OK, START, START_OK, TUNE, TUNE_OK,
+)  # fmt: skip
 from warrenctl.amqp.wire import Arguments, NotRead, data_of, long_text, method, short_text
 from warrenctl.fault import Fault
 
@@ -17,16 +22,6 @@ from warrenctl.fault import Fault
 PATIENCE = 30
 
 CHANNEL = 1
-# class and method numbers (AMQP 0-9-1, and RabbitMQ's confirms and basic.nack)
-START, START_OK, TUNE, TUNE_OK, OPEN, OPEN_OK = (10, 10), (10, 11), (10, 30), (10, 31), (10, 40), (10, 41)
-CONNECTION_CLOSE, CONNECTION_CLOSE_OK = (10, 50), (10, 51)
-CHANNEL_OPEN, CHANNEL_OPEN_OK, FLOW, FLOW_OK = (20, 10), (20, 11), (20, 20), (20, 21)
-CHANNEL_CLOSE, CHANNEL_CLOSE_OK = (20, 40), (20, 41)
-EXCHANGE_DECLARE, EXCHANGE_DECLARE_OK, QUEUE_DECLARE, QUEUE_DECLARE_OK = (40, 10), (40, 11), (50, 10), (50, 11)
-QOS, QOS_OK, CONSUME, CONSUME_OK = (60, 10), (60, 11), (60, 20), (60, 21)
-PUBLISH, RETURN, DELIVER, GET, GET_OK, GET_EMPTY = (60, 40), (60, 50), (60, 60), (60, 70), (60, 71), (60, 72)
-ACK, REJECT, NACK = (60, 80), (60, 90), (60, 120)
-SELECT, SELECT_OK = (85, 10), (85, 11)
 WITH_CONTENT = (RETURN, DELIVER, GET_OK)
 PASSIVE = b"\x01"
 MANDATORY = b"\x01"

@@ -7,6 +7,8 @@ from warrenctl.fault import Fault
 METHOD, HEADER, BODY, HEARTBEAT = 1, 2, 3, 8
 PROTOCOL_HEADER = b"AMQP\0\0\x09\x01"
 FRAME_END = 0xCE
+# the types of a field that are numbers, and truth values, each with its form (https://www.rabbitmq.com/amqp-0-9-1-errata.html, section 3)
+NUMBERS = {b"t": ">?", b"b": ">b", b"B": ">B", b"s": ">h", b"u": ">H", b"I": ">i", b"i": ">I", b"l": ">q", b"T": ">Q", b"f": ">f", b"d": ">d"}
 
 
 class NotRead(Fault):
@@ -81,3 +83,32 @@ class Arguments:
 
     def long_text(self):
         return self.bytes(self.number(4))
+
+    def table(self):
+        """A field table, by its fields' names."""
+        fields, found = Arguments(self.long_text(), self.what), {}
+        while fields.data:
+            name = fields.short_text().decode(errors="surrogateescape")
+            found[name] = fields.value()
+        return found
+
+    def value(self):
+        """A field's value with its type before it, as RabbitMQ writes and reads them. What JSON has not is its bytes."""
+        kind = self.bytes(1)
+        if kind in NUMBERS:
+            form = NUMBERS[kind]
+            return struct.unpack(form, self.bytes(struct.calcsize(form)))[0]
+        if kind == b"S":
+            return self.long_text().decode(errors="surrogateescape")
+        if kind == b"F":
+            return self.table()
+        if kind == b"A":
+            items, found = Arguments(self.long_text(), self.what), []
+            while items.data:
+                found.append(items.value())
+            return found
+        if kind == b"V":
+            return None
+        if kind in (b"x", b"D"):
+            return self.long_text() if kind == b"x" else self.bytes(5)
+        raise NotRead(f"{self.what}: a field of a type that is not known")

@@ -9,6 +9,21 @@ PASSWORD_FILE = "the password is its first line; without it, that of WARREN_PASS
 STATUSES = "Status: 0 done; 1 done, but not wholly, and a line says why; 3 not done, and a line says why."
 
 
+def whole_number(text, least, most):
+    """The number that a word of a command line states."""
+    if not (text.isascii() and text.isdigit()) or not least <= int(text[:9]) <= most:
+        raise argparse.ArgumentTypeError(f"{text} is no whole number from {least} to {most}")
+    return int(text)
+
+
+def address(text):
+    """The address and the port that IP:PORT states."""
+    host, _, port = text.rpartition(":")
+    if not host or not (port.isascii() and port.isdigit() and int(port[:9]) < 65536):
+        raise argparse.ArgumentTypeError(f"{text} is no IP:PORT")
+    return host.strip("[]"), int(port)
+
+
 class Words(argparse.ArgumentParser):
     """The command line of a command of warrenctl; of another program, if `prog` names it."""
 

@@ -1,14 +1,19 @@
 """Sends a message to a queue and takes it back: one login, one confirmed publish to the queue by its name, gets until the message came, and one
-acknowledgement. The queue is one of the definitions file that nothing else uses. Prints how many milliseconds that took."""
+acknowledgement. The queue is one of the definitions file that nothing else uses. With --hello it sends the eight bytes that begin AMQP, without a login
+and without a queue, and reads the broker's first frame. Prints how many milliseconds that took."""
 
 import os
 import signal
+import socket
+import ssl
 import time
 
 from warrenctl.amqp.client import Client, Message, quoted
+from warrenctl.amqp.methods import START
+from warrenctl.amqp.wire import PROTOCOL_HEADER, method
 from warrenctl.cli.login import address_of, password_for
 from warrenctl.cli.run import DONE, NOT_WHOLE, tell
-from warrenctl.cli.words import Words
+from warrenctl.cli.words import PORT, Words
 from warrenctl.fault import Fault
 
 STATUSES = "Status: 0 it came back; 1 it came back later than --within says; 3 it did not, and a line says why."
@@ -18,6 +23,10 @@ MARK = b"ping "
 STALE = 120
 MOST_SECONDS = 60
 REST = 0.05
+# with which nobody logs in
+NOBODY = "nobody"
+# how connection.start begins: its size may be any
+START_FRAME = method(0, START)[:-1]
 
 
 def number(text):
@@ -29,13 +38,20 @@ def number(text):
 
 def words(arguments):
     parser = Words("ping", __doc__, STATUSES)
-    parser.add_server()
-    parser.add_argument("queue", metavar="QUEUE", help="a queue of the definitions file that only pings use, such as \"ping\"")
+    parser.add_argument("server", metavar="USER@HOST[:PORT]", help=f"who logs in where; the port is {PORT} unless it is given. With --hello without USER@")
+    parser.add_argument("queue", metavar="QUEUE", nargs="?", help="a queue of the definitions file that only pings use, such as \"ping\"")
+    parser.add_password()
+    parser.add_argument("--hello", action="store_true", help="log in nowhere: read the first frame alone")
+    parser.add_argument("--tls", action="store_true", help="with --hello: over TLS, whosever the certificate is")
     parser.add_argument("--seconds", type=number, default=5, help=f"give up after this many seconds, {MOST_SECONDS} at most (%(default)s)")
     parser.add_argument("--within", type=number, metavar="MS", help="status 1 if it takes more milliseconds")
     given = parser.parse_args(arguments)
     if given.seconds > MOST_SECONDS:
         parser.error(f"--seconds: {MOST_SECONDS} at most")
+    if given.hello and (given.queue is not None or given.password_file or "@" in given.server):
+        parser.error("--hello takes HOST[:PORT] alone")
+    if not given.hello and (given.queue is None or given.tls):
+        parser.error("--tls needs --hello" if given.tls else "a queue is missing")
     return given
 
 
@@ -69,6 +85,32 @@ def ping(given):
         while not take(client, given.queue, body):
             time.sleep(REST)
     return (time.monotonic() - started) * 1000
+
+
+def hello(given):
+    """Returns how many milliseconds it took until the broker's first frame was read: connection.start."""
+    _, host, port = address_of(f"{NOBODY}@{given.server}")
+    where = f"{host}:{port}"
+    give_up_after(given.seconds, f"{where}: no hello within {given.seconds:g} seconds")
+    started = time.monotonic()
+    try:
+        with connected(host, port, given.tls) as connection:
+            connection.sendall(PROTOCOL_HEADER)
+            first = connection.makefile("rb").read(len(START_FRAME))
+    except OSError as error:
+        raise Fault(f"{where}: {error.strerror or error}") from None
+    if first[:1] != START_FRAME[:1] or first[7:] != START_FRAME[7:]:
+        raise Fault(f"{where}: {'the connection was ended' if not first else 'what came is no hello of AMQP 0-9-1'}")
+    return (time.monotonic() - started) * 1000
+
+
+def connected(host, port, tls):
+    connection = socket.create_connection((host, port))
+    if not tls:
+        return connection
+    context = ssl.SSLContext(ssl.PROTOCOL_TLS_CLIENT)
+    context.check_hostname, context.verify_mode = False, ssl.CERT_NONE
+    return context.wrap_socket(connection)
 
 
 def give_up_after(seconds, why):
@@ -120,7 +162,7 @@ def next_of(client, queue):
 
 
 def main(given):
-    took = ping(given)
+    took = hello(given) if given.hello else ping(given)
     print(f"{took:.1f} ms")
     if given.within is not None and took > given.within:
         tell("ping", f"{took:.1f} ms are more than {given.within:g}")

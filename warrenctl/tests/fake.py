@@ -98,6 +98,15 @@ class Scripted(Server):
         assert kind or self.played == len(self.script), f"the script ended at step {self.played}"
 
 
+class UntilTheEnd(Scripted):
+    """Plays its script, and then hears nothing more but the end of the connection."""
+
+    def answer(self, connection, incoming):
+        super().answer(connection, incoming)
+        came = incoming.read()
+        assert came == b"", f"{came.hex()} came behind the script"
+
+
 def logged_in(start_ok_size):
     """The script of an opening whose start-ok has so many bytes."""
     return (PROTOCOL, ("sends", START), start_ok_size, ("sends", TUNE), TUNE_OK, OPEN, ("sends", OPEN_OK), CHANNEL, ("sends", CHANNEL_OK))

@@ -8,6 +8,7 @@ import socket
 import unittest
 
 from warrenctl.amqp.client import Client, Depth, Fault, Message, Refused
+from warrenctl.amqp.wire import Arguments
 from warrenctl.cli.login import address_of
 from warrenctl.tests.fake import CHANNEL, CHANNEL_OK, CLOSE, CLOSE_OK, OPEN, OPEN_OK, PROTOCOL, RESETS, START, TUNE, TUNE_OK, Scripted, logged_in
 
@@ -246,6 +247,26 @@ class Addresses(unittest.TestCase):
         for wrong in ("", "127.0.0.1", "till@", "@host", "till@host:", "till@host:0", "till@host:65536", "till@host:five", "till@::1", "till@host:²"):
             with self.assertRaises(Fault, msg=wrong):
                 address_of(wrong)
+
+
+class Tables(unittest.TestCase):
+    """Field tables as RabbitMQ writes them, by hand."""
+
+    def test_each_type(self):
+        rows = (
+            (b"t\1", True), (b"b\xff", -1), (b"B\xff", 255), (b"s\xff\xfe", -2), (b"u\xff\xfe", 65_534), (b"I\xff\xff\xff\xff", -1),
+            (b"i\xff\xff\xff\xff", 4_294_967_295), (b"l" + b"\xff" * 8, -1), (b"T" + bytes(7) + b"\5", 5), (b"f\x3f\x80\0\0", 1.0),
+            (b"d\x40" + bytes(7), 2.0), (b"S\0\0\0\2hi", "hi"), (b"S\0\0\0\1\xff", "\udcff"), (b"V", None), (b"x\0\0\0\2hi", b"hi"),
+            (b"D\2\0\0\0\7", b"\2\0\0\0\7"), (b"A\0\0\0\3Vt\0", [None, False]), (b"F\0\0\0\4\1nt\1", {"n": True}),
+        )  # fmt: skip
+        for data, value in rows:
+            fields = b"\1a" + data
+            found = Arguments(len(fields).to_bytes(4, "big") + fields + b"more", "a table")
+            self.assertEqual((found.table(), found.data), ({"a": value}, b"more"), data)
+
+    def test_what_is_none(self):
+        for data in (b"", b"\0\0\0\1", b"\0\0\0\2\1a", b"\0\0\0\3\1a?", b"\0\0\0\4\1aI\0", b"\0\0\0\7\1aS\0\0\0\2"):
+            self.assertRaises(Fault, Arguments(data, "a table").table)
 
 
 if __name__ == "__main__":

@@ -1,4 +1,4 @@
-"""The tests of front, which want pamqp (the Debian package python3-pamqp) and no network but loopback: python3 -m dev.unit test_front
+"""The tests of front, which want no network but loopback: python3 -m dev.unit test_front
 
 Frames were written by hand from the standard. The servers are those of fake.py, which read and write frames by themselves.
 """
@@ -8,6 +8,7 @@ import json
 import os
 import random
 import re
+import resource
 import shutil
 import signal
 import socket
@@ -17,20 +18,18 @@ import subprocess
 import tempfile
 import time
 import unittest
+from urllib.request import urlopen
 
 from dev import SHOP
 from dev.beds.commands import warrenctl
 from warrenctl.amqp.client import Client, Message, Refused
+from warrenctl.commands.front.counting import COUNTS, Counts
 from warrenctl.commands.front.definitions import DefinitionsFile
+from warrenctl.commands.front.translator import Translator
 from warrenctl.tests import fake
-from warrenctl.tests.fake import OPEN, OPEN_OK, PROTOCOL, START, TUNE, TUNE_OK, Broker, Queue, Scripted
+from warrenctl.tests.fake import OPEN, OPEN_OK, PROTOCOL, START, TUNE, TUNE_OK, Broker, Queue, UntilTheEnd
 
 DEFINITIONS = os.path.join(SHOP, "definitions.json")
-
-try:
-    from warrenctl.commands.front.translator import Translator
-except ImportError:
-    raise unittest.SkipTest("python3-pamqp") from None
 
 # the front starts meanwhile, on a machine that may have other work
 fake.SECONDS = 60
@@ -141,7 +140,7 @@ class Declares(Bytes):
         # without an answer, and one that is passive by itself
         self.to_server(queue_declare(1, "audit", 16), queue_declare(1, "audit", 17))
         self.to_server(queue_declare(1, "audit", 1), queue_declare(1, "audit", 1))
-        # names that pamqp would not write
+        # a name with a blank, and a letter of two bytes
         self.to_server(queue_declare(1, "ä b", 2), queue_declare(1, "ä b", 1))
         # one that the server is to name
         self.to_server(queue_declare(1, "", 4), queue_declare(1, "", 4))
@@ -204,6 +203,86 @@ class Declares(Bytes):
                 "exchange 'payments' is declared otherwise than the file has it, which holds: type 'topic', not 'direct'",
             ],
         )
+
+
+class Counted(Bytes):
+    """What passes is counted, and goes on as without."""
+
+    def setUp(self):
+        super().setUp()
+        file = DefinitionsFile(DEFINITIONS, self.said.append)
+        self.counts = Counts(file)
+        self.front = Translator(file, 60, self.said.append, self.counts)
+        self.front.from_client(PROTOCOL)
+
+    def counted(self):
+        return {f"{name} {' '.join(labels)}".strip(): it for name in COUNTS for labels, it in self.counts._counts[name].items() if it}
+
+    def client(self, *data):
+        for it in data:
+            self.to_server(it, it)
+
+    def server(self, *data):
+        for it in data:
+            self.to_client(it, it)
+
+    def publish(self, channel, exchange):
+        return method(channel, 60, 40, bytes(2) + short(exchange) + short("a") + b"\0") + frame(channel, bytes(14), 2)
+
+    def number(self, channel, method_id, number, *bits):
+        return method(channel, 60, method_id, struct.pack(">Q", number) + bytes(bits))
+
+    def deliver(self, channel, tag, number):
+        return method(channel, 60, 60, short(tag) + struct.pack(">Q", number) + b"\0" + short("shop") + short("a")) + frame(channel, bytes(14), 2)
+
+    def consume(self, channel, queue, tag, bits=0):
+        return method(channel, 60, 20, bytes(2) + short(queue) + short(tag) + bytes([bits]) + bytes(4))
+
+    def test_publishes(self):
+        """Those of a channel without confirms are settled by nobody. A name that the file has not is not kept."""
+        self.client(self.publish(2, "news"), method(1, 85, 10, b"\0"), *[self.publish(1, it) for it in ("shop", "news", "shop", "shop", "", "made.up")])
+        self.server(self.number(1, 80, 2, 1), self.number(1, 120, 4, 0), self.number(1, 80, 4, 0), self.number(1, 80, 6, 1))
+        self.server(method(1, 60, 50, struct.pack(">H", 312) + short("no-route") + short("shop") + short("a")))
+        published = {"published shop": 3, "published news": 2, "published": 1, "published (unknown)": 1}
+        confirmed = {"confirmed shop": 2, "confirmed news": 1, "confirmed": 1, "confirmed (unknown)": 1}
+        self.assertEqual(self.counted(), {**published, **confirmed, "nacked shop": 1, "returned shop": 1})
+
+    def test_deliveries(self):
+        self.client(self.consume(1, "audit", "a"), self.consume(1, "packing", "b", 2), self.consume(1, "mail", "c", 8))
+        self.server(*[method(1, 60, 21, short(it)) for it in "ab"], *[self.deliver(1, it, number) for number, it in enumerate("abcaaad", 1)])
+        self.client(self.number(1, 80, 3, 1), self.number(1, 120, 4, 2), self.number(1, 90, 5, 1), self.number(1, 80, 5, 0))
+        # what is requeued, and what a channel held that is closed, is nobody's
+        self.client(method(1, 60, 110, b"\1"), self.number(1, 80, 0, 1))
+        wanted = {"delivered audit": 4, "delivered packing": 1, "delivered mail": 1, "delivered (unknown)": 1, "acked audit": 1, "acked mail": 1, "rejected audit": 2}
+        self.assertEqual(self.counted(), wanted)
+        self.client(method(1, 60, 30, short("a") + b"\0"))
+        self.server(method(1, 60, 31, short("a")), self.deliver(1, "a", 8))
+        self.assertEqual(self.counted(), {**wanted, "delivered (unknown)": 2})
+
+    def test_gets(self):
+        def get(queue, no_ack):
+            return method(1, 60, 70, bytes(2) + short(queue) + bytes([no_ack]))
+
+        def got(number):
+            return method(1, 60, 71, struct.pack(">Q", number) + b"\0" + short("shop") + short("a") + bytes(4)) + frame(1, bytes(14), 2)
+
+        self.front.from_client(queue_declare(1, "packing", 2))
+        self.client(get("audit", 0), get("mail", 0), get("", 0), get("audit", 1))
+        self.server(got(1), method(1, 60, 72, b"\0"), got(2), got(3))
+        self.client(self.number(1, 80, 0, 1))
+        self.assertEqual(self.counted(), {"delivered audit": 2, "delivered packing": 1, "acked audit": 1, "acked packing": 1})
+
+    def test_logins_and_refusals(self):
+        close = method(0, 10, 50, struct.pack(">H", 403) + short("access-refused") + bytes(4))
+        gone = method(1, 20, 40, struct.pack(">H", 404) + short("not-found") + bytes(4))
+        self.server(close)
+        self.server(OPEN_OK, gone, gone, close)
+        self.assertEqual(self.counted(), {"logins": 1, "refused login 403": 1, "refused channel 404": 2, "refused connection 403": 1})
+
+    def test_what_cannot_be_read_is_not_counted(self):
+        self.client(method(1, 60, 40, b"\0\0\xff"), method(1, 60, 40, bytes(2) + b"\1\xff" * 2 + b"\0"), method(1, 60, 80), method(1, 60, 20, bytes(2)))
+        self.server(method(1, 60, 60), method(1, 60, 71, bytes(9)), method(0, 10, 50, b"\1"))
+        self.assertEqual(self.counted(), {"delivered (unknown)": 1})
 
 
 class Passing(Bytes):
@@ -285,23 +364,18 @@ class File(unittest.TestCase):
             self.assertEqual([it.split(": ", 1)[1] for it in said], ["refused 1; what was read before holds", "No such file or directory; what was read before holds"])
 
 
-class UntilTheEnd(Scripted):
-    """Plays its script, and then hears nothing more but the end of the connection."""
-
-    def answer(self, connection, incoming):
-        super().answer(connection, incoming)
-        came = incoming.read()
-        assert came == b"", f"{came.hex()} came behind the script"
-
-
-class Serving(unittest.TestCase):
+class Front(unittest.TestCase):
     """The front as a process before a server of fake.py."""
 
-    def front(self, server, *words):
+    maxDiff = None
+
+    def front(self, server, *words, limit=None):
         command = [*warrenctl("front"), DEFINITIONS, "--listen", "127.0.0.1:0", "--to", f"127.0.0.1:{server}", *words]
-        running = subprocess.Popen(command, stdout=subprocess.PIPE, stderr=subprocess.PIPE, text=True)
+        running = subprocess.Popen(command, stdout=subprocess.PIPE, stderr=subprocess.PIPE, text=True, preexec_fn=limit)
         self.addCleanup(running.communicate)
         self.addCleanup(running.kill)
+        if "--metrics" in words:
+            self.metrics = re.match(r"front: metrics at (\S+)\n", running.stdout.readline()).group(1)
         self.port = int(re.match(r"front: listening on 127\.0\.0\.1:(\d+)", running.stdout.readline()).group(1))
         return running
 
@@ -313,6 +387,14 @@ class Serving(unittest.TestCase):
         self.assertEqual((running.returncode, out, said), (0, "", ""))
         return [it.rstrip("\n").split(" ", 2)[2] for it in lines]
 
+    def read(self, client):
+        try:
+            return client.recv(1)
+        except ConnectionResetError:
+            return b""
+
+
+class Serving(Front):
     def test_a_client_publishes_and_takes(self):
         with Broker({"audit": Queue()}, {"shop": {"orders.new": ["audit"]}}) as broker:
             running = self.front(broker.port)
@@ -381,12 +463,6 @@ class Serving(unittest.TestCase):
         self.assertEqual(closed, ["closed: 2 connections of this address are open\n", "end\n"])
         self.assertEqual(sorted(lines), ["end", "end", "login of 'till': in"])
 
-    def read(self, client):
-        try:
-            return client.recv(1)
-        except ConnectionResetError:
-            return b""
-
     def test_no_server(self):
         with socket.create_server(("127.0.0.1", 0)) as taken:
             port = taken.getsockname()[1]
@@ -396,21 +472,92 @@ class Serving(unittest.TestCase):
             self.assertEqual(self.read(client), b"")
         self.assertIn(f"closed: no way to 127.0.0.1:{port}: ", self.ended(running, 2)[0])
 
-    @unittest.skipUnless(shutil.which("openssl"), "openssl")
-    def test_over_tls(self):
-        with tempfile.TemporaryDirectory() as folder, Broker({"audit": Queue([("", "audit", bytes(2), b"x")])}) as broker:
-            key, certificate = os.path.join(folder, "key.pem"), os.path.join(folder, "certificate.pem")
-            made = ["openssl", "req", "-x509", "-newkey", "rsa:2048", "-nodes", "-days", "1", "-subj", "/CN=localhost", "-keyout", key, "-out", certificate]
-            subprocess.run(made, check=True, capture_output=True)
-            running = self.front(broker.port, "--certificate", certificate, "--key", key)
-            context = ssl.create_default_context(cafile=certificate)
-            context.check_hostname = False
-            with socket.create_connection(("127.0.0.1", self.port), 60) as raw, context.wrap_socket(raw) as client:
+    def test_many_clients(self):
+        """The soft limit of descriptors is raised: each client takes two."""
+        count, (_, hard) = 60, resource.getrlimit(resource.RLIMIT_NOFILE)
+        with Broker({}) as broker, contextlib.ExitStack() as clients:
+            running = self.front(broker.port, "--most", str(count), limit=lambda: resource.setrlimit(resource.RLIMIT_NOFILE, (40, hard)))
+            for _ in range(count):
+                client = clients.enter_context(socket.create_connection(("127.0.0.1", self.port), 60))
                 client.sendall(PROTOCOL)
-                # start with both mechanisms, 9 bytes more than without
-                self.assertEqual(client.makefile("rb").read(len(START) + 9)[:7], bytes.fromhex("01 0000 00000025"))
+                self.assertTrue(self.read(client))
             running.kill()
 
+    def test_metrics(self):
+        with Broker({"audit": Queue()}, {"shop": {"orders.new": ["audit"]}}) as broker:
+            running = self.front(broker.port, "--metrics", "127.0.0.1:0")
+            with Client("127.0.0.1", self.port, "till", "secret") as client:
+                client.select()
+                for key in (b"orders.new", b"orders.new", b"none"):
+                    client.publish(Message(b"shop", key, bytes(2), b"x"))
+                while client.unsettled:
+                    client.settled()
+                client.ack(next(client.gets("audit", 1)).tag)
+                self.assertRaises(Refused, client.queue, "none")
+                with urlopen(f"http://{self.metrics}/metrics", timeout=60) as answer:
+                    lines = answer.read().decode().splitlines()
+            running.kill()
+        wanted = ["connections 1", 'published_total{exchange="shop"} 3', 'confirmed_total{exchange="shop"} 3', 'returned_total{exchange="shop"} 1']
+        wanted += ['delivered_total{queue="audit"} 1', 'acked_total{queue="audit"} 1', "logins_total 1", 'refused_total{what="channel",code="404"} 1']
+        self.assertEqual([it for it in lines if not it.startswith("#")], [f"warren_front_{it}" for it in wanted])
+
+
+class Tls(Front):
+    def setUp(self):
+        if not shutil.which("openssl"):
+            self.skipTest("openssl")
+        folder = tempfile.TemporaryDirectory()
+        self.addCleanup(folder.cleanup)
+        self.key, self.certificate = (os.path.join(folder.name, it) for it in ("key.pem", "certificate.pem"))
+        self.make()
+
+    def make(self, *other):
+        """Makes a certificate and its key, in the place of the ones before unless others are given."""
+        key, certificate = other or (self.key, self.certificate)
+        made = ["openssl", "req", "-x509", "-newkey", "rsa:2048", "-nodes", "-days", "1", "-subj", "/CN=localhost", "-keyout", key, "-out", certificate]
+        subprocess.run(made, check=True, capture_output=True)
+
+    def begun(self, certificate=None):
+        """What the front sends first, to a client that trusts this certificate alone."""
+        context = ssl.create_default_context(cafile=certificate or self.certificate)
+        context.check_hostname = False
+        with socket.create_connection(("127.0.0.1", self.port), 60) as raw, context.wrap_socket(raw) as client:
+            client.sendall(PROTOCOL)
+            return client.makefile("rb").read(7)
+
+    def test_over_tls(self):
+        with Broker({}) as broker:
+            running = self.front(broker.port, "--certificate", self.certificate, "--key", self.key)
+            # start with both mechanisms, 9 bytes more than without
+            self.assertEqual(self.begun(), bytes.fromhex("01 0000 00000025"))
+            ping = [*warrenctl("ping"), "--hello", f"127.0.0.1:{self.port}"]
+            self.assertEqual(subprocess.run([*ping, "--tls"], capture_output=True).returncode, 0)
+            self.assertEqual(subprocess.run(ping, capture_output=True).returncode, 3)
+            running.kill()
+
+    def test_a_certificate_that_is_renewed(self):
+        """It is served without a restart. A key that is another's, and files that are gone, change nothing."""
+        with Broker({}) as broker:
+            running = self.front(broker.port, "--certificate", self.certificate, "--key", self.key)
+            first = self.certificate + ".first"
+            shutil.copy(self.certificate, first)
+            self.begun()
+            self.make()
+            self.begun()
+            self.assertRaises(ssl.SSLError, self.begun, first)
+            kept = self.certificate + ".kept"
+            shutil.copy(self.certificate, kept)
+            self.make(self.key + ".other", self.certificate)
+            for _ in range(2):
+                self.begun(kept)
+            os.unlink(self.certificate)
+            self.begun(kept)
+            running.kill()
+            told = [it.split(self.certificate + ": ")[1] for it in running.stdout.read().splitlines() if self.certificate in it]
+        self.assertEqual(told, ["read again"] + [f"{it}; what was read before holds" for it in ("KEY_VALUES_MISMATCH", "No such file or directory")])
+
+
+class Words(unittest.TestCase):
     def test_words(self):
         for words, status, told in (
             ([DEFINITIONS], 3, "the following arguments are required"),
@@ -421,6 +568,8 @@ class Serving(unittest.TestCase):
             ([__file__, "--listen", "127.0.0.1:0", "--to", "127.0.0.1:1"], 3, "refused 1"),
             ([DEFINITIONS, "--listen", "127.0.0.1:0", "--to", "127.0.0.1:1", "--certificate", "/nowhere"], 3, "/nowhere: No such file"),
             ([DEFINITIONS, "--listen", "127.0.0.1:0", "--to", "127.0.0.1:1", "--certificate", DEFINITIONS], 3, "no certificate with its key"),
+            ([DEFINITIONS, "--listen", "127.0.0.1:0", "--to", "127.0.0.1:1", "--key", DEFINITIONS], 3, "--key needs --certificate"),
+            ([DEFINITIONS, "--listen", "127.0.0.1:0", "--to", "127.0.0.1:1", "--metrics", "192.0.2.1:1"], 4, "192.0.2.1:1: "),
             ([DEFINITIONS, "--listen", "192.0.2.1:1", "--to", "127.0.0.1:1"], 4, "192.0.2.1:1: "),
         ):
             done = subprocess.run([*warrenctl("front"), *words], capture_output=True, text=True)

@@ -1,7 +1,4 @@
-"""The tests of metrics: python3 -m dev.unit test_metrics
-
-They want Python 3, and prometheus_client for those that ask for a page: without it these are skipped.
-"""
+"""The tests of metrics: python3 -m dev.unit test_metrics"""
 
 import json
 import os
@@ -9,7 +6,6 @@ import re
 import signal
 import socket
 import subprocess
-import sys
 import tempfile
 import threading
 import time
@@ -18,23 +14,13 @@ from urllib.request import urlopen
 
 from dev.beds.commands import warrenctl
 from warrenctl.commands.metrics.errors import Errors, cause_of, followed, open_log
-from warrenctl.commands.metrics.process import address_space_limit, connections_at, listener_at
+from warrenctl.commands.metrics.process import connections_at, figures_of, limit_of, listener_at
+from warrenctl.prometheus.server import MOST
 from warrenctl.tests.fake import PROTOCOL, Broker, Queue
 
 MESSAGE = (b"shop", b"orders.new", b"\0\0", b"two loaves")
 LOGIN = {**os.environ, "WARREN_PASSWORD": "till"}
 PATIENCE = 20
-
-
-def python_with_prometheus():
-    """Returns a Python that has prometheus_client: this one, or Debian's; none if neither has."""
-    for it in (sys.executable, "/usr/bin/python3"):
-        if os.path.exists(it) and subprocess.run([it, "-c", "import prometheus_client"], capture_output=True).returncode == 0:
-            return it
-    return None
-
-
-PYTHON = python_with_prometheus()
 
 # two listeners and four connections, as the kernel's documentation writes them (proc_net_tcp.rst): local address, remote address, state .. inode
 TCP = """  sl  local_address rem_address   st tx_queue rx_queue tr tm->when retrnsmt   uid  timeout inode
@@ -88,8 +74,20 @@ class Processes(unittest.TestCase):
     def test_the_limit(self):
         for text, found in (("4294967296", 4294967296), ("unlimited", None)):
             self.write("41/limits", LIMITS.format(text))
-            self.assertEqual(address_space_limit(41, self.proc), found)
-        self.assertIsNone(address_space_limit("none", self.proc))
+            self.assertEqual(limit_of(41, "Max address space", self.proc), found)
+        self.assertEqual(limit_of(41, "Max open files", self.proc), 4096)
+        self.assertIsNone(limit_of(42, "Max address space", self.proc))
+
+    def test_the_figures(self):
+        """A process whose name has brackets and blanks, of another user: its descriptors may not be seen."""
+        ticks, page = os.sysconf("SC_CLK_TCK"), os.sysconf("SC_PAGE_SIZE")
+        after = ["S"] + [str(it) for it in range(4, 53)]
+        self.write("41/stat", f"41 (a) (b c)) {' '.join(after)}")
+        self.write("stat", "cpu 1 2\nbtime 1000\n")
+        wanted = {"virtual_memory_bytes": 23, "resident_memory_bytes": 24 * page, "start_time_seconds": 1000 + 22 / ticks, "cpu_seconds_total": 29 / ticks}
+        self.assertEqual(figures_of(41, self.proc), wanted)
+        self.assertEqual(figures_of(42, self.proc), {})
+        self.assertEqual(figures_of(None, self.proc), {})
 
 
 class Lines(unittest.TestCase):
@@ -161,7 +159,7 @@ class Exporter:
     """A running exporter of a broker at this port."""
 
     def __init__(self, port, definitions, *words, stdin=subprocess.DEVNULL):
-        command = [*warrenctl("metrics", PYTHON), f"till@127.0.0.1:{port}", definitions, "--listen", "127.0.0.1:0", *words]
+        command = [*warrenctl("metrics"), f"till@127.0.0.1:{port}", definitions, "--listen", "127.0.0.1:0", *words]
         self.process = subprocess.Popen(command, stdin=stdin, stdout=subprocess.PIPE, stderr=subprocess.PIPE, text=True, env=LOGIN)
         said = self.process.stdout.readline()
         assert said.startswith("metrics: listening on 127.0.0.1:"), (said, self.process.stderr.read())
@@ -173,6 +171,10 @@ class Exporter:
     def __exit__(self, *_):
         self.process.kill()
         self.process.communicate()
+
+    def connected(self):
+        host, _, port = self.address.rpartition(":")
+        return socket.create_connection((host, int(port)))
 
     def page(self):
         with urlopen(f"http://{self.address}/metrics", timeout=PATIENCE) as answer:
@@ -196,7 +198,6 @@ class Scripts(unittest.TestCase):
         return path
 
 
-@unittest.skipUnless(PYTHON, "python3-prometheus-client")
 class Pages(Scripts):
     def test_queues(self):
         with Broker({"audit": Queue([MESSAGE] * 7, consumers=2), "lost": Queue([MESSAGE] * 3), 'a "b"\n': Queue([MESSAGE])}) as broker:
@@ -274,23 +275,43 @@ class Pages(Scripts):
             found = {name: value for name, value in exporter.values().items() if name.startswith("warren_errors") and value}
             self.assertEqual(found, {'warren_errors_total{cause="in-use"}': 2, 'warren_errors_total{cause="memory"}': 1, 'warren_errors_total{cause="other"}': 1})
 
-    def test_a_client_that_says_nothing(self):
-        """One that goes away harms nobody."""
+    def test_clients_that_go_away(self):
+        """They harm nobody."""
         with Broker({}) as broker, Exporter(broker.port, self.file) as exporter:
-            host, _, port = exporter.address.rpartition(":")
             for data in (b"", b"GET /metrics HTTP/1.0\r\n\r\n", b"\xff\xff\r\n\r\n"):
-                with socket.create_connection((host, int(port))) as it:
+                with exporter.connected() as it:
                     it.sendall(data)
             self.assertEqual(exporter.values()["warren_connections"], 0)
 
+    def test_silent_clients(self):
+        """A scrape beside three of them is answered at once, and so it is beside more of them than there may be."""
+        with Broker({}) as broker, Exporter(broker.port, self.file) as exporter:
+            silent = [exporter.connected() for _ in range(3)]
+            for count in (0, 2 * MOST):
+                silent += [exporter.connected() for _ in range(count)]
+                begun = time.monotonic()
+                self.assertEqual(exporter.values()["warren_up"], 1)
+                self.assertLess(time.monotonic() - begun, 5)
+            silent[0].settimeout(PATIENCE)
+            self.assertEqual(silent[0].recv(1), b"", "the oldest is ended")
+            for it in silent:
+                it.close()
+
+    def test_other_paths(self):
+        with Broker({}) as broker, Exporter(broker.port, self.file) as exporter:
+            for path, status in (("/", 200), ("/metrics?name=a", 200), ("/favicon.ico", 404)):
+                with exporter.connected() as it:
+                    it.settimeout(PATIENCE)
+                    it.sendall(f"GET {path} HTTP/1.1\r\nHost: a\r\n\r\n".encode())
+                    self.assertEqual(int(it.makefile("rb").readline().split()[1]), status)
+
 
 class Bad(Scripts):
-    def refused(self, *words, python=PYTHON or sys.executable):
-        done = subprocess.run([*warrenctl("metrics", python), *words], stdin=subprocess.DEVNULL, capture_output=True, text=True, timeout=PATIENCE, env=LOGIN)
+    def refused(self, *words):
+        done = subprocess.run([*warrenctl("metrics"), *words], stdin=subprocess.DEVNULL, capture_output=True, text=True, timeout=PATIENCE, env=LOGIN)
         self.assertEqual((done.returncode, done.stdout, done.stderr.count("\n"), done.stderr[:9]), (3, "", 1, "metrics: "), done.stderr)
         return done.stderr
 
-    @unittest.skipUnless(PYTHON, "python3-prometheus-client")
     def test_what_is_wrong_is_one_line(self):
         self.refused()
         server = "till@127.0.0.1:1"
@@ -306,12 +327,6 @@ class Bad(Scripts):
         self.assertIn("No such file", self.refused(server, self.file, "--errors", "/nowhere/log"))
         self.assertIn("--errors", self.refused(server, self.file, "--hand-on"))
         self.assertIn("No such file", self.refused(server, self.file, "--password-file", "/nowhere"))
-
-    def test_without_the_library(self):
-        hidden = self.write("prometheus_client.py", "raise ImportError\n")
-        LOGIN["PYTHONPATH"] = os.path.dirname(hidden)
-        self.addCleanup(LOGIN.pop, "PYTHONPATH")
-        self.assertIn("apt-get install python3-prometheus-client", self.refused("till@127.0.0.1:1", self.file, python=sys.executable))
 
     def test_help(self):
         self.assertEqual(subprocess.run([*warrenctl("metrics"), "--help"], capture_output=True).returncode, 0)

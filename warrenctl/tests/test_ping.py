@@ -9,7 +9,7 @@ import unittest
 from types import SimpleNamespace
 
 from dev.beds.commands import warrenctl
-from warrenctl.tests.fake import Broker, Queue
+from warrenctl.tests.fake import PROTOCOL, START, Broker, Queue, Scripted, UntilTheEnd
 
 LOGIN = {**os.environ, "WARREN_PASSWORD": "till"}
 
@@ -104,6 +104,45 @@ class Ping(unittest.TestCase):
                 self.refused(broker, *words)
             self.refused(broker, queue="x" * 256)
         self.assertEqual(subprocess.run([*warrenctl("ping"), "--help"], capture_output=True).returncode, 0)
+
+
+class Hello(unittest.TestCase):
+    def hello(self, port, *words):
+        command = [*warrenctl("ping"), "--hello", f"127.0.0.1:{port}", *words]
+        done = subprocess.run(command, stdin=subprocess.DEVNULL, capture_output=True, text=True, timeout=60)
+        self.assertEqual(len((done.stdout + done.stderr).splitlines()), 1)
+        return done.returncode, done.stdout + done.stderr
+
+    def test_it_logs_in_nowhere(self):
+        """The eight bytes are all that is sent, no password is asked for, and no queue."""
+        with UntilTheEnd(PROTOCOL, ("sends", START)) as server:
+            status, said = self.hello(server.port)
+        self.assertEqual(status, 0)
+        self.assertRegex(said, r"^[0-9]+\.[0-9] ms\n$")
+
+    def test_later_than_wanted(self):
+        with Broker({}) as broker:
+            command = [*warrenctl("ping"), "--hello", f"127.0.0.1:{broker.port}", "--within", "0.001"]
+            self.assertEqual(subprocess.run(command, stdin=subprocess.DEVNULL, capture_output=True).returncode, 1)
+
+    def test_what_is_no_broker(self):
+        rows = ((b"HTTP/1.1 400 Bad Request\r\n\r\n", "no hello of AMQP 0-9-1"), (b"AMQP\0\1\0\0\0\0\0", "no hello"), (b"", "was ended"), (START[:5], "no hello"))
+        for data, told in rows:
+            with Scripted(PROTOCOL, ("sends", data)) as server:
+                status, said = self.hello(server.port)
+            self.assertEqual(status, 3)
+            self.assertIn(told, said)
+        with socket.create_server(("127.0.0.1", 0)) as silent:
+            port = silent.getsockname()[1]
+            self.assertEqual(self.hello(port, "--seconds", "1"), (3, f"ping: 127.0.0.1:{port}: no hello within 1 seconds\n"))
+        self.assertEqual(self.hello(port), (3, f"ping: 127.0.0.1:{port}: Connection refused\n"))
+
+    def test_words(self):
+        for words in (["ping"], ["--password-file", "/dev/null"], ["--seconds", "0"]):
+            self.assertEqual(self.hello(1, *words)[0], 3)
+        for words in (["till@127.0.0.1"], ["till@127.0.0.1", "ping", "--tls"], ["--hello", "till@127.0.0.1"], ["--hello"]):
+            done = subprocess.run([*warrenctl("ping"), *words], stdin=subprocess.DEVNULL, capture_output=True, text=True, timeout=60)
+            self.assertEqual((done.returncode, done.stdout, done.stderr.count("\n")), (3, "", 1), done.stderr)
 
 
 if __name__ == "__main__":

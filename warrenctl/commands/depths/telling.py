@@ -3,6 +3,7 @@
 import json
 
 from warrenctl.fault import Fault
+from warrenctl.prometheus.text import gauge, page_of
 
 
 def limits_in(file):
@@ -48,30 +49,29 @@ def table_of(depths, limits, before, alarm):
     return "\n".join(lines) + "\n"
 
 
-def metric(name, help_text, values):
-    """A gauge with its values, each of a queue or of the whole."""
+def of_queues(name, about, values):
+    """Returns a gauge with a value for each queue."""
+    family = gauge(name, about, "queue")
+    for queue, value in values:
+        family.add(value, queue)
+    return family
 
-    def label(queue):
-        escaped = queue.replace("\\", "\\\\").replace('"', '\\"').replace("\n", "\\n")
-        return f'{{queue="{escaped}"}}'
 
-    lines = [f"{name}{label(queue) if queue is not None else ''} {value}" for queue, value in values]
-    return "\n".join([f"# HELP {name} {help_text}", f"# TYPE {name} gauge", *lines]) + "\n"
+def up(answers):
+    return gauge("warren_up", "Whether the broker answered.").add(int(answers))
+
+
+def families_of(depths, limits):
+    """Yields the metrics of these depths."""
+    there = {name: it for name, it in depths.items() if it is not None}
+    limited = [(name, limits[name]) for name in there if limits[name] is not None]
+    yield of_queues("warren_queue_messages_ready", "Messages that are ready; those that were given out are not counted.", [(name, it.ready) for name, it in there.items()])
+    yield of_queues("warren_queue_consumers", "Consumers.", [(name, it.consumers) for name, it in there.items()])
+    yield of_queues("warren_queue_limit_messages", "The x-max-length of a queue that has one.", limited)
+    yield of_queues("warren_queue_missing", "Queues of the definitions file that the broker has not.", [(name, 1) for name in depths if name not in there])
 
 
 def metrics_of(depths, limits):
-    """The text format of Prometheus; none in place of depths if nothing was told."""
-    if depths is None:
-        return metric("warren_up", "Whether the broker answered.", [(None, 0)])
-    there = {name: it for name, it in depths.items() if it is not None}
-    ready = [(name, it.ready) for name, it in there.items()]
-    consumers = [(name, it.consumers) for name, it in there.items()]
-    stated = [(name, limits[name]) for name in there if limits[name] is not None]
-    missing = [(name, 1) for name in depths if name not in there]
-    return (
-        metric("warren_up", "Whether the broker answered.", [(None, 1)])
-        + metric("warren_queue_messages_ready", "Messages that are ready; those that were given out are not counted.", ready)
-        + metric("warren_queue_consumers", "Consumers.", consumers)
-        + metric("warren_queue_limit_messages", "The x-max-length of a queue that has one.", stated)
-        + metric("warren_queue_missing", "Queues of the definitions file that the broker has not.", missing)
-    )
+    """Returns what Prometheus reads; `depths` is `None` if the broker gave no answer."""
+    told = [] if depths is None else families_of(depths, limits)
+    return page_of([up(depths is not None), *told]).decode()

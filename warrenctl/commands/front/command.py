@@ -1,20 +1,30 @@
-"""Serves clients that ask for heartbeats, declare and bind, before a warren that takes none of these. With a certificate, over TLS."""
+"""Serves clients that ask for heartbeats, declare and bind, before a warren that takes none of these. With a certificate, over TLS;
+one that is renewed is read without a restart."""
 
 import asyncio
+import resource
 import signal
 import ssl
+import threading
 import time
 from collections import Counter
 from datetime import datetime, timezone
 
-from warrenctl.cli.words import Words
+from warrenctl.cli.words import Words, address, whole_number
+from warrenctl.commands.front.counting import Counts
+from warrenctl.commands.front.definitions import DefinitionsFile
+from warrenctl.commands.front.sessions import Session
+from warrenctl.commands.front.tls import Certificate
 from warrenctl.fault import Fault
+from warrenctl.prometheus.server import server_at
 
 DONE, NOT_LISTENING = 0, 4
-STATUSES = "Status: 0 it was ended by TERM or Ctrl-C; 3 a file or a word is refused, or pamqp is missing; 4 it cannot listen."
+STATUSES = "Status: 0 it was ended by TERM or Ctrl-C; 3 a file or a word is refused; 4 it cannot listen."
 HEARTBEAT = 60
 MOST = 64
 TLS_SECONDS = 10
+# above what any front serves, below what a system may give without a limit
+MOST_FILES = 65_536
 
 
 def words(arguments):
@@ -24,30 +34,21 @@ def words(arguments):
     parser.add_argument("--to", required=True, type=address, metavar="IP:PORT", help="where warren listens")
     parser.add_argument("--certificate", metavar="FILE", help="a chain of certificates in PEM, for TLS")
     parser.add_argument("--key", metavar="FILE", help="its key in PEM, if it is not in the same file")
+    parser.add_argument("--metrics", type=address, metavar="IP:PORT", help="where Prometheus asks for counts of what passes")
     parser.add_argument("--heartbeat", type=seconds, default=HEARTBEAT, help=f"seconds that clients are offered; without it, {HEARTBEAT}")
     parser.add_argument("--most", type=count, default=MOST, metavar="N", help=f"the most connections of one address; without it, {MOST}")
-    return parser.parse_args(arguments)
-
-
-def number(text, least, most):
-    if not text.isascii() or not text.isdigit() or not least <= int(text[:9]) <= most:
-        raise ValueError
-    return int(text)
-
-
-def address(text):
-    host, _, port = text.rpartition(":")
-    if not host:
-        raise ValueError
-    return host.strip("[]"), number(port, 0, 65_535)
+    given = parser.parse_args(arguments)
+    if given.key and not given.certificate:
+        parser.error("--key needs --certificate: without one the front serves in clear")
+    return given
 
 
 def seconds(text):
-    return number(text, 1, 65_535)
+    return whole_number(text, 1, 65_535)
 
 
 def count(text):
-    return number(text, 1, 1_000_000)
+    return whole_number(text, 1, 1_000_000)
 
 
 def say(line):
@@ -57,8 +58,10 @@ def say(line):
 class House:
     """What all connections share."""
 
-    def __init__(self, file, given):
-        self.file, self.heartbeat, self.most, self.server = file, given.heartbeat, given.most, given.to
+    def __init__(self, given):
+        self.file = DefinitionsFile(given.definitions, self.note)
+        self.heartbeat, self.most, self.server = given.heartbeat, given.most, given.to
+        self.counts = Counts(self.file) if given.metrics else None
         self._open = Counter()
         self._last_fault = 0.0, ""
 
@@ -84,13 +87,9 @@ class House:
         if not self._open[address]:
             del self._open[address]
 
-
-def tls_of(given):
-    if not given.certificate:
-        return None
-    context = ssl.SSLContext(ssl.PROTOCOL_TLS_SERVER)
-    context.load_cert_chain(given.certificate, given.key)
-    return context
+    def metrics(self):
+        """Yields what Prometheus is told. Another thread may call this."""
+        return self.counts.families(sum(list(self._open.values())))
 
 
 def fault_of(context):
@@ -99,13 +98,29 @@ def fault_of(context):
     return " ".join(f"{what}: {error}".split()) if error else what
 
 
-async def serve(house, given, tls, session):
+def raise_limit():
+    """Raises the soft limit of descriptors as far as the hard one lets it: each client takes two."""
+    soft, hard = resource.getrlimit(resource.RLIMIT_NOFILE)
+    wanted = MOST_FILES if hard == resource.RLIM_INFINITY else min(hard, MOST_FILES)
+    if soft != resource.RLIM_INFINITY and soft < wanted:
+        resource.setrlimit(resource.RLIMIT_NOFILE, (wanted, hard))
+
+
+def begin_metrics(house, given):
+    """Serves the counts by threads of their own, if they are wanted."""
+    if given.metrics:
+        server = server_at(given.metrics, house.metrics, NOT_LISTENING)
+        threading.Thread(target=server.serve_forever, daemon=True).start()
+        say(f"front: metrics at {server.server_name}:{server.server_port}")
+
+
+async def serve(house, given, tls):
     loop, ended = asyncio.get_running_loop(), asyncio.Event()
     loop.set_exception_handler(lambda _, context: house.fault(fault_of(context)))
     for it in (signal.SIGINT, signal.SIGTERM):
         loop.add_signal_handler(it, ended.set)
     handshake = {"ssl": tls, "ssl_handshake_timeout": TLS_SECONDS} if tls else {}
-    server = await loop.create_server(lambda: session(house).client, *given.listen, **handshake)
+    server = await loop.create_server(lambda: Session(house).client, *given.listen, **handshake)
     host, port = server.sockets[0].getsockname()[:2]
     say(f"front: listening on {host}:{port}{' with TLS' if tls else ''}, before {given.to[0]}:{given.to[1]}")
     await ended.wait()
@@ -113,20 +128,17 @@ async def serve(house, given, tls, session):
 
 
 def main(given):
+    raise_limit()
     try:
-        from warrenctl.commands.front.definitions import DefinitionsFile
-        from warrenctl.commands.front.sessions import Session
-    except ImportError as error:
-        raise Fault(f"{error.name} is missing: apt-get install python3-pamqp, and run it by /usr/bin/python3") from None
-    try:
-        tls = tls_of(given)
-        house = House(DefinitionsFile(given.definitions, lambda line: house.note(line)), given)
+        house = House(given)
+        tls = Certificate(given.certificate, given.key, house.note).context if given.certificate else None
     except ssl.SSLError as error:
         raise Fault(f"{given.certificate}: no certificate with its key in PEM: {error.reason or 'not read'}") from None
     except OSError as error:
         raise Fault(f"{error.filename or given.certificate}: {error.strerror}") from None
+    begin_metrics(house, given)
     try:
-        asyncio.run(serve(house, given, tls, Session))
+        asyncio.run(serve(house, given, tls))
         return DONE
     except OSError as error:
         raise Fault(f"{given.listen[0]}:{given.listen[1]}: {error.strerror or error}", NOT_LISTENING) from None

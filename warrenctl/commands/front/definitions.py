@@ -55,7 +55,7 @@ class DefinitionsFile:
         there = self.exchanges.get(declare.exchange)
         if there is None:
             return []
-        members = {"type": declare.exchange_type, **{name: getattr(declare, name) for name in ("durable", "auto_delete", "internal")}}
+        members = {"type": declare.kind, **{name: getattr(declare, name) for name in ("durable", "auto_delete", "internal")}}
         return _differences(members, there) + self._arguments_differ(declare.arguments, there["arguments"])
 
     def queue_differs(self, declare):
@@ -70,5 +70,5 @@ class DefinitionsFile:
 
     @staticmethod
     def _arguments_differ(wanted, there):
-        names = [it for it in {**(wanted or {}), **there} if it not in IGNORED]
-        return _differences({name: (wanted or {}).get(name) for name in names}, there)
+        names = [it for it in {**wanted, **there} if it not in IGNORED]
+        return _differences({name: wanted.get(name) for name in names}, there)

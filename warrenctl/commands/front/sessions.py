@@ -48,7 +48,7 @@ class Session:
         self._heard = 0.0
         self._paused = set()
         self._timers = []
-        self.translator = Translator(house.file, house.heartbeat, self.note)
+        self.translator = Translator(house.file, house.heartbeat, self.note, house.counts)
 
     def other(self, side):
         return self.server if side is self.client else self.client

@@ -8,13 +8,10 @@ the bind's. All else goes on byte for byte.
 from collections import defaultdict, deque
 
 from warrenctl.commands.front import frames
+from warrenctl.commands.front.counting import Watch
 from warrenctl.commands.front.frames import NoFrame, Reader, method_of
 
 PLAIN, AMQPLAIN = "PLAIN", "AMQPLAIN"
-
-
-def bytes_of(value):
-    return value.encode("utf-8", "surrogateescape") if isinstance(value, str) else bytes(value)
 
 
 def amqplain(response):
@@ -32,9 +29,10 @@ def amqplain(response):
 
 
 class Translator:
-    """The state of one connection. `file` has the topology, `heartbeat` is proposed in seconds, and `note` takes a line for the log."""
+    """The state of one connection. `file` has the topology, `heartbeat` is proposed in seconds, and `note` takes a line for the log. `counts`, if they
+    are given, count what passes."""
 
-    def __init__(self, file, heartbeat, note):
+    def __init__(self, file, heartbeat, note, counts=None):
         self._file, self._proposed, self._note = file, heartbeat, note
         self._opening = b""  # what came of the protocol header
         self._raw = False  # whether bytes came that are no frames, which are handed on as they are
@@ -63,7 +61,9 @@ class Translator:
             frames.CHANNEL_CLOSE: self._forget,
             frames.CHANNEL_CLOSE_OK: self._forget,
         }
-        self._client, self._server = Reader(self._client_rules), Reader(self._server_rules)
+        self._watch = Watch(counts, self._declared) if counts else None
+        self._client_watched, self._server_watched = (self._watch.of_client, self._watch.of_server) if counts else ({}, {})
+        self._client, self._server = Reader({*self._client_rules, *self._client_watched}), Reader({*self._server_rules, *self._server_watched})
 
     # ---- bytes
 
@@ -71,7 +71,7 @@ class Translator:
         """Takes bytes of the client; returns what the client and what the server is to be sent."""
         if not self._raw and len(self._opening) < frames.PROTOCOL_HEADER_SIZE:
             data = self._open(data)
-        return self._pass(data, self._client, self._client_rules, self._to_server)
+        return self._pass(data, self._client, self._client_rules, self._client_watched, self._to_server)
 
     def _open(self, data):
         """Takes the protocol header, of which no part is handed on; the bytes that are still to be handed on."""
@@ -89,17 +89,20 @@ class Translator:
         # what answers another protocol than 0-9-1 is its header, and no frame
         if not self.logged_in and data.startswith(b"AMQP"):
             self._raw = True
-        return self._pass(data, self._server, self._server_rules, self._to_client)
+        return self._pass(data, self._server, self._server_rules, self._server_watched, self._to_client)
 
-    def _pass(self, data, reader, rules, onward):
+    def _pass(self, data, reader, rules, watched, onward):
         if self._raw:
             onward.append(data)
         else:
             try:
                 for between, it in reader.parts(data):
                     onward.append(between)
-                    if it is not None and it.kind == frames.METHOD and rules[it.index](it) is None:
-                        onward.append(it.data)
+                    if it is not None and it.kind == frames.METHOD:
+                        if watched:
+                            self._watch.see(watched, it)
+                        if it.index not in rules or rules[it.index](it) is None:
+                            onward.append(it.data)
             except NoFrame as error:
                 self._raw = True
                 onward.append(error.rest)
@@ -121,7 +124,7 @@ class Translator:
         method = method_of(it)
         if method is None:
             return None
-        response = bytes_of(method.response)
+        response = method.response
         if method.mechanism == AMQPLAIN and amqplain(response):
             user, password = amqplain(response)
             self._to_server.append(frames.start_ok(it, PLAIN, b"\0" + user + b"\0" + password))
@@ -153,14 +156,14 @@ class Translator:
         method = method_of(it)
         if method is not None:
             what = "closed" if self.logged_in else f"login of {self.user!r}: refused"
-            self._note(f"{what} by the server, {method.reply_code} {method.reply_text}")
+            self._note(f"{what} by the server, {method.code} {method.text}")
 
     def _exchange_declare(self, it):
         method = method_of(it)
         if method is None:
             return None
         self._note_difference("exchange", method.exchange, {} if method.passive else self._file.exchange_differs(method))
-        return self._ask(it.channel, frames.passive_exchange(it.channel, method.exchange, method.exchange_type, method.nowait), None, method.nowait)
+        return self._ask(it.channel, frames.passive_exchange(it.channel, method.exchange, method.kind, method.no_wait), None, method.no_wait)
 
     def _queue_declare(self, it):
         method = method_of(it)
@@ -169,20 +172,20 @@ class Translator:
             return None
         self._declared[it.channel] = method.queue
         self._note_difference("queue", method.queue, {} if method.passive else self._file.queue_differs(method))
-        return self._ask(it.channel, frames.passive_queue(it.channel, method.queue, method.nowait), None, method.nowait)
+        return self._ask(it.channel, frames.passive_queue(it.channel, method.queue, method.no_wait), None, method.no_wait)
 
     def _queue_bind(self, it):
         method = method_of(it)
         queue = (method.queue or self._declared.get(it.channel, "")) if method else ""
-        if not queue or not self._file.has_binding(method.exchange, "queue", queue, method.routing_key):
+        if not queue or not self._file.has_binding(method.exchange, "queue", queue, method.key):
             return None
-        return self._ask(it.channel, frames.passive_queue(it.channel, queue, method.nowait), frames.QUEUE_BIND_OK, method.nowait)
+        return self._ask(it.channel, frames.passive_queue(it.channel, queue, method.no_wait), frames.QUEUE_BIND_OK, method.no_wait)
 
     def _exchange_bind(self, it):
         method = method_of(it)
-        if method is None or not self._file.has_binding(method.source, "exchange", method.destination, method.routing_key):
+        if method is None or not self._file.has_binding(method.source, "exchange", method.destination, method.key):
             return None
-        return self._ask(it.channel, frames.passive_exchange(it.channel, method.destination, no_wait=method.nowait), frames.EXCHANGE_BIND_OK, method.nowait)
+        return self._ask(it.channel, frames.passive_exchange(it.channel, method.destination, no_wait=method.no_wait), frames.EXCHANGE_BIND_OK, method.no_wait)
 
     def _ask(self, channel, declare, answer, no_wait):
         """Sends a passive declare, whose answer becomes that of a bind, if one is given."""

@@ -41,11 +41,50 @@ def has_one_of(folder, wanted):
         return False
 
 
-def address_space_limit(pid, proc="/proc"):
-    """Returns the soft limit of the process's address space in bytes, or `None` if it has none."""
+def text_of(name):
+    """Returns what a file of /proc has, or `None` if it is not there or this user may not read it."""
     try:
-        with open(os.path.join(proc, str(pid), "limits"), encoding="ascii") as file:
-            found = next(line.split()[3] for line in file if line.startswith("Max address space"))
-        return int(found)
-    except (OSError, ValueError, StopIteration):
+        with open(name, encoding="utf-8", errors="replace") as file:
+            return file.read()
+    except OSError:
+        return None
+
+
+def limit_of(pid, what, proc="/proc"):
+    """Returns a soft limit of the process, such as that of "Max address space" in bytes, or `None` if it has none."""
+    lines = (text_of(os.path.join(proc, str(pid), "limits")) or "").splitlines()
+    found = next((line[len(what) :].split()[0] for line in lines if line.startswith(what)), "")
+    return int(found) if found.isdigit() else None
+
+
+def started_at(ticks, proc="/proc"):
+    """Returns the time of a start in seconds since 1970, by its clock ticks since the start of the machine."""
+    lines = (text_of(os.path.join(proc, "stat")) or "").splitlines()
+    begun = next((int(line.split()[1]) for line in lines if line.startswith("btime ")), 0)
+    return begun + ticks / os.sysconf("SC_CLK_TCK")
+
+
+def figures_of(pid, proc="/proc"):
+    """Returns the figures of a process by their names; none if it is not there. Those that this user may not see are left out."""
+    stat = text_of(os.path.join(proc, str(pid), "stat"))
+    if stat is None:
+        return {}
+    # what follows the name in brackets begins with the third field of proc(5)
+    fields = stat.rpartition(")")[2].split()
+    found = {
+        "virtual_memory_bytes": int(fields[20]),
+        "resident_memory_bytes": int(fields[21]) * os.sysconf("SC_PAGE_SIZE"),
+        "start_time_seconds": started_at(int(fields[19]), proc),
+        "cpu_seconds_total": (int(fields[11]) + int(fields[12])) / os.sysconf("SC_CLK_TCK"),
+        "virtual_memory_max_bytes": limit_of(pid, "Max address space", proc),
+        "max_fds": limit_of(pid, "Max open files", proc),
+        "open_fds": count_in(os.path.join(proc, str(pid), "fd")),
+    }
+    return {name: it for name, it in found.items() if it is not None}
+
+
+def count_in(folder):
+    try:
+        return len(os.listdir(folder))
+    except OSError:
         return None

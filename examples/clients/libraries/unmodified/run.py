@@ -3,7 +3,7 @@
 Each declares an exchange and a queue of the shop, binds them, publishes under confirms and consumes, with the defaults of its library: it asks
 for a heartbeat, if its library does. A line for each says whether it printed what it should. Status 0 if none printed something else.
 
-They are Debian packages: python3-pamqp for the front; python3-pika, python3-aio-pika, ruby-bunny, php-amqplib, php-cli, librabbitmq-client-java,
+They are Debian packages: python3-pika, python3-aio-pika, ruby-bunny, php-amqplib, php-cli, librabbitmq-client-java,
 default-jdk-headless, golang-go, golang-github-rabbitmq-amqp091-go-dev and celery; and rabbitmq-server. What is not installed is passed over.
 """
 
@@ -116,12 +116,9 @@ def try_client(name, servers, folder):
 
 
 def main(warren):
-    if version_of("python3-pamqp") is None:
-        print("unmodified: skipped, the front wants pamqp: apt-get install python3-pamqp")
-        return 0
     serve = [warren, "serve", *SHOP, "--listen", "127.0.0.1:0"]
     with tempfile.TemporaryDirectory() as folder, rabbitmq() as rabbit, listening(serve) as port:
-        front = [*warrenctl("front", PYTHON), SHOP[0], "--listen", "127.0.0.1:0", "--to", f"127.0.0.1:{port}"]
+        front = [*warrenctl("front"), SHOP[0], "--listen", "127.0.0.1:0", "--to", f"127.0.0.1:{port}"]
         with listening(front) as front_port:
             servers = {"RabbitMQ": rabbit} if rabbit else {}
             servers["warren through the front"] = front_port
