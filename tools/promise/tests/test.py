@@ -20,7 +20,7 @@ PAGE = "docs/PROMISE.md"
 loader = importlib.machinery.SourceFileLoader("promise", os.path.join(TOOL, "__main__.py"))
 promise = importlib.util.module_from_spec(importlib.util.spec_from_loader("promise", loader))
 loader.exec_module(promise)
-CRATES = ["model", "broker", "laws", "engine", "serving", "certificate_laws", "certificate", "guarantee_search"]
+CRATES = ["model", "broker", "commands", "laws", "engine", "serving", "certificate_laws", "certificate", "guarantee_search"]
 PARTS = [PAGE] + [f"crates/{crate}/{part}" for crate in CRATES for part in ("specs", "src") if os.path.isdir(os.path.join(ROOT, f"crates/{crate}/{part}"))]
 
 
