@@ -35,7 +35,7 @@ PATHS = {
 MAINTAINER = ("--maintainer", "Till <till@example.org>")
 # the life of a package, in a root in which it is not there: old.deb and new.deb differ by their versions alone
 LIFE = """
-dpkg --force-unsafe-io -i old.deb
+dpkg --force-unsafe-io --no-triggers -i old.deb
 test "$(stat -c '%U:%G %a' /etc/warren/first)" = "root:warren 750"
 test "$(stat -c '%U:%G %a' /etc/warren/first/definitions.json)" = "root:warren 640"
 test "$(readlink /etc/warren/current)" = first
@@ -46,27 +46,27 @@ mkdir /etc/warren/mine
 chown root:root /etc/warren/mine
 chmod 755 /etc/warren
 rm -r /etc/warren/first
-dpkg --force-unsafe-io -i new.deb
+dpkg --force-unsafe-io --no-triggers -i new.deb
 dpkg -s warren | grep '^Status: install ok installed'
 test "$(readlink /etc/warren/current)" = mine
 test "$(stat -c '%U:%G %a' /etc/warren)" = "root:warren 755"
 rm /etc/warren/current
-dpkg --force-unsafe-io -i old.deb
+dpkg --force-unsafe-io --no-triggers -i old.deb
 test ! -L /etc/warren/current
 ln -s mine /etc/warren/current
-dpkg -r warren
+dpkg --no-triggers -r warren
 test ! -e /usr/bin/warren
 test -L /etc/warren/current
 test -e /etc/default/warren
-dpkg --force-unsafe-io -i new.deb
-dpkg --purge warren
+dpkg --force-unsafe-io --no-triggers -i new.deb
+dpkg --no-triggers --purge warren
 test ! -e /etc/default/warren
 test ! -L /etc/warren/current
 test -d /etc/warren/mine
 rm -r /etc/warren
-dpkg --force-unsafe-io -i new.deb
+dpkg --force-unsafe-io --no-triggers -i new.deb
 test "$(readlink /etc/warren/current)" = first
-dpkg --purge warren
+dpkg --no-triggers --purge warren
 test ! -e /etc/warren
 test ! -e /usr/share/warren
 echo lived
@@ -140,7 +140,7 @@ class Packages(unittest.TestCase):
         self.assertFalse([it for it in shared if "/tests/" in it or "__pycache__" in it])
         top = os.path.join(tree, SHARE)
         self.assertEqual(os.path.realpath(os.path.join(tree, "usr/share/doc/warren")), os.path.realpath(top))
-        for page in ("OPERATIONS", "ERRORS", "SECURITY", "CLIENTS", "GUARANTEES", "LIMITS"):
+        for page in ("OPERATIONS", "ERRORS", "SECURITY", "CLIENTS", "GUARANTEES", "COSTS", "RABBITMQ"):
             text = contents(f"{top}/docs/{page}.md").decode()
             for name in set(re.findall(r"warrenctl ([a-z]+)\b", text)):
                 done = subprocess.run([sys.executable, f"{tree}/usr/bin/warrenctl", name, "--help"], capture_output=True, text=True, timeout=60)
