@@ -30,6 +30,11 @@ def program_here():
     return made or shutil.which("warren")
 
 
+def program_of(given):
+    """Returns the program that a command line names, or the one that is here; nothing with `--alone`."""
+    return None if given.alone else given.warren or program_here()
+
+
 def version_of(path):
     """The version that a program of warren tells, such as "0.1.0"; nothing if it is another program. The status is that of a refused command line."""
     with contextlib.suppress(subprocess.TimeoutExpired):

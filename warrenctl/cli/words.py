@@ -40,3 +40,7 @@ class Words(argparse.ArgumentParser):
 
     def add_password(self):
         self.add_argument("--password-file", metavar="FILE", help=PASSWORD_FILE)
+
+    def add_program(self):
+        self.add_argument("--warren", metavar="PROGRAM", help="the program that checks; without it, that of `make try`, a proved one, or the one on the path")
+        self.add_argument("--alone", action="store_true", help="ask no program: check by matching alone")

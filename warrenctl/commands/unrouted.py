@@ -11,8 +11,8 @@ from warrenctl.cli.words import Words
 from warrenctl.fault import Fault
 from warrenctl.files.causes import wrong_pattern
 from warrenctl.files.reading import Refused, read_definitions
-from warrenctl.program import program_here
-from warrenctl.routing.asking import BROKEN, HOLDS, UNDECIDED, answers_of
+from warrenctl.program import program_of
+from warrenctl.routing.asking import BROKEN, HOLDS, UNDECIDED, answers_of, worst
 from warrenctl.routing.checker import Topology
 from warrenctl.routing.dropping import enters, first_words, keeps, public_exchanges, with_one_queue, with_probe
 from warrenctl.routing.sentences import key_told, told
@@ -30,8 +30,7 @@ def words(arguments):
     parser.add_argument("--exchange", help="of this exchange alone")
     parser.add_argument("--pattern", help="of the keys that match this topic pattern alone, such as orders.#")
     parser.add_argument("--copies", action="store_true", help="also count a copy that an exchange on the way drops, though another copy enters a queue")
-    parser.add_argument("--warren", metavar="PROGRAM", help="the program that checks; without it, that of `make try`, a proved one, or the one on the path")
-    parser.add_argument("--alone", action="store_true", help="ask no program: check by matching alone")
+    parser.add_program()
     given = parser.parse_args(arguments)
     if given.pattern is not None and wrong_pattern(given.pattern):
         parser.error(f"--pattern {wrong_pattern(given.pattern)}")
@@ -93,7 +92,7 @@ def unrouted(given):
     if given.exchange is not None and given.exchange not in names:
         raise Fault(f"{given.definitions}: there is no exchange {told(given.exchange)} that clients may publish to")
     names = names if given.exchange is None else [given.exchange]
-    program = None if given.alone else given.warren or program_here()
+    program = program_of(given)
     asked = Asked(definitions, program, given.copies)
     found = print_answers(asked, [(it, EVERY if given.pattern is None else given.pattern) for it in names])
     dropping = [exchange for (exchange, _), answer in found if answer.kind != HOLDS]
@@ -102,7 +101,7 @@ def unrouted(given):
     if not program:
         tell("unrouted", "by matching alone; `warren check` decides (make try)")
     kinds = {answer.kind for _, answer in found}
-    return BROKEN if BROKEN in kinds else UNDECIDED if UNDECIDED in kinds else HOLDS
+    return worst(kinds)
 
 
 def main(given):

@@ -18,6 +18,11 @@ HOLDS, BROKEN, UNDECIDED = range(3)
 Answer = namedtuple("Answer", "kind key path", defaults=(None, ()))
 
 
+def worst(kinds):
+    """Returns the status of some answers: a broken guarantee outweighs one that is undecided."""
+    return next((it for it in (BROKEN, UNDECIDED) if it in kinds), HOLDS)
+
+
 def ran(program, *words):
     """Runs a command of the program to its end."""
     try:

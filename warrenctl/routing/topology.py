@@ -7,6 +7,7 @@ import json
 from collections import namedtuple
 
 from warrenctl.fault import Fault
+from warrenctl.routing.checker import Pattern
 
 Exchange = namedtuple("Exchange", "name kind internal alternate")
 Queue = namedtuple("Queue", "name limits dead key")
@@ -33,22 +34,6 @@ class Broken:
         self.steps = set()
         self.missed = set()
         self.entered = set()
-
-
-def matches(pattern, words):
-    """Whether a topic pattern matches these words: `*` is one word, `#` any number of them."""
-    # how many first words of the pattern's beginning match, one token after another
-    counts = {0}
-    for token in pattern:
-        if token == "#":
-            counts = set(range(min(counts), len(words) + 1)) if counts else counts
-        else:
-            counts = {it + 1 for it in counts if it < len(words) and token in ("*", words[it])}
-    return len(words) in counts
-
-
-def words_of(key):
-    return key.split(".") if key else []
 
 
 def texts(entry, *names):
@@ -105,9 +90,7 @@ class Topology:
     # ---- the way of a message
 
     def _lets_pass(self, exchange, binding, key):
-        if exchange.kind == "topic":
-            return matches(words_of(binding.key), words_of(key))
-        return exchange.kind == "fanout" or binding.key == key
+        return exchange.kind == "fanout" or Pattern(exchange.kind == "topic", binding.key).matches(key)
 
     def _onward(self, name, key):
         exchange = next((it for it in self.exchanges if it.name == name), None)

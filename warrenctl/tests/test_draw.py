@@ -12,7 +12,8 @@ import unittest
 
 from dev import ROOT, SHOP
 from dev.beds.commands import warrenctl
-from warrenctl.routing.topology import Topology, matches, read_guarantees, read_verdicts, words_of
+from warrenctl.routing.checker import Pattern
+from warrenctl.routing.topology import Topology, read_guarantees, read_verdicts
 
 
 def text(name):
@@ -33,9 +34,9 @@ class Routes(unittest.TestCase):
                 asked, _, wanted = line.strip().partition(" -> ")
                 kind, *row = shlex.split(asked, comments=False) if line.startswith(("match ", "places ")) else [""]
                 if kind == "match":
-                    self.assertEqual("yes" if matches(words_of(row[0]), words_of(row[1])) else "no", wanted, line)
+                    self.assertEqual("yes" if Pattern(True, row[0]).matches(row[1]) else "no", wanted, line)
                 elif kind == "places":
-                    found = [str(place) for place, it in enumerate(row[1:]) if matches(words_of(it), words_of(row[0]))]
+                    found = [str(place) for place, it in enumerate(row[1:]) if Pattern(True, it).matches(row[0])]
                     self.assertEqual(" ".join(found) or "none", wanted, line)
                 checked += bool(kind)
         self.assertGreater(checked, 40)

@@ -13,8 +13,8 @@ from warrenctl.commands.unrouted import EVERY, Asked
 from warrenctl.fault import Fault
 from warrenctl.files.reading import Refused, read_definitions, read_guarantees
 from warrenctl.files.writing import write
-from warrenctl.program import program_here
-from warrenctl.routing.asking import BROKEN, HOLDS, UNDECIDED, answers_of
+from warrenctl.program import program_of
+from warrenctl.routing.asking import BROKEN, answers_of, worst
 from warrenctl.routing.checker import Topology
 from warrenctl.routing.dropping import public_exchanges
 from warrenctl.routing.topology import Topology as Drawn
@@ -28,8 +28,7 @@ def words(arguments):
     parser.add_argument("definitions", help="a definitions file")
     parser.add_argument("guarantees", nargs="?", help="a guarantees file; without it the page has none")
     parser.add_argument("--out", metavar="FILE", help="the page; without it, standard output")
-    parser.add_argument("--warren", metavar="PROGRAM", help="the program that checks; without it, that of `make try`, a proved one, or the one on the path")
-    parser.add_argument("--alone", action="store_true", help="ask no program: check by matching alone")
+    parser.add_program()
     return parser.parse_args(arguments)
 
 
@@ -49,7 +48,7 @@ def html_of(given):
     """The page, and the kinds of its verdicts."""
     definitions = read_definitions(given.definitions)
     guarantees = read_guarantees(given.guarantees, definitions) if given.guarantees else []
-    program = None if given.alone else given.warren or program_here()
+    program = program_of(given)
     topology, drawn = Topology(definitions), Drawn(definitions)
     for it in guarantees:
         drawn.with_default(it["exchange"])
@@ -69,4 +68,4 @@ def main(given):
         sys.stdout.write(text)
     else:
         write(given.out, text, given.definitions)
-    return BROKEN if BROKEN in kinds else UNDECIDED if UNDECIDED in kinds else HOLDS
+    return worst(kinds)

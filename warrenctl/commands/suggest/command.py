@@ -14,7 +14,7 @@ from warrenctl.fault import Fault
 from warrenctl.files.guarantees import MOST_GUARANTEES
 from warrenctl.files.reading import Refused, read_definitions
 from warrenctl.files.writing import write
-from warrenctl.program import program_here
+from warrenctl.program import program_of
 from warrenctl.routing.asking import BROKEN, HOLDS, UNDECIDED, answers_of
 from warrenctl.routing.checker import Topology
 from warrenctl.routing.sentences import broken, listed, promise, told
@@ -32,8 +32,7 @@ def words(arguments):
     parser.add_argument("definitions", help="a definitions file")
     parser.add_argument("file", nargs="?", help="the guarantees file to be written; without it, standard output")
     parser.add_argument("--force", action="store_true", help="replace the guarantees file if there is one")
-    parser.add_argument("--warren", metavar="PROGRAM", help="the program that checks; without it, that of `make try`, a proved one, or the one on the path")
-    parser.add_argument("--alone", action="store_true", help="ask no program: check by matching alone")
+    parser.add_program()
     return parser.parse_args(arguments)
 
 
@@ -147,7 +146,7 @@ def suggest(given):
         raise Fault(f"{given.file} is there already; --force replaces it")
     definitions = read_definitions(given.definitions)
     topology = Topology(definitions)
-    program = None if given.alone else given.warren or program_here()
+    program = program_of(given)
     written, left = holding(candidates(topology, definitions), lambda some: answers_of(program, given.definitions, topology, some))
     text = text_of(written)
     if given.file is None:

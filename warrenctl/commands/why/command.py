@@ -11,8 +11,8 @@ from warrenctl.files.causes import EMPTY_ARRAYS, ENTRIES, name_of, quoted, read_
 from warrenctl.files.places import lines_of
 from warrenctl.files.reading import Refused, read_certificates, read_definitions, read_guarantees, read_input
 from warrenctl.files.writing import write
-from warrenctl.program import program_here
-from warrenctl.routing.asking import BROKEN, HOLDS, UNDECIDED, checked, ran
+from warrenctl.program import program_of
+from warrenctl.routing.asking import BROKEN, HOLDS, UNDECIDED, checked, ran, worst
 from warrenctl.routing.checker import Topology, refutes
 from warrenctl.routing.search import MOST_STATES, search
 from warrenctl.routing.sentences import broken, fault, promise, told, way
@@ -95,11 +95,6 @@ class Warren:
         return all(quoted(end[1]) in self.queues(places[begin][1], places[begin][2] or key) for begin, end in zip(begins, ends))
 
 
-# a broken guarantee outweighs one that is undecided
-def worse(one, other):
-    return BROKEN if BROKEN in (one, other) else max(one, other)
-
-
 class Answers:
     """What is said of each guarantee, behind its status."""
 
@@ -151,7 +146,7 @@ def lines_in(name):
 
 def answered(given, definitions, guarantees):
     """Each guarantee that is asked for: its number, its sentence, its status, and what is said of it."""
-    program = None if given.alone else given.warren or program_here()
+    program = program_of(given)
     warren = Warren(program, given.definitions) if program else None
     if given.verdicts:
         verdicts = read_verdicts(lines_in(given.verdicts), len(guarantees))
@@ -184,7 +179,7 @@ def why(given, cases):
         print(f"{number}: {sentence}: {said}", flush=True)
         kind = {BROKEN: "broken", UNDECIDED: "undecided"}.get(one, "")
         cases.append(Case(given.definitions, sentence, FAILURE if kind else PASSED, kind, said if kind else ""))
-        status = worse(status, one)
+        status = worst((status, one))
     return status
 
 
