@@ -17,6 +17,8 @@ HOLDERS = {"KeepsEach": ("KeepsEvents", "KeepsOccurrences")}
 WORD = re.compile(r"[A-Za-z_][A-Za-z_0-9]*")
 DEFINES = re.compile(r"^(?:[a-z]+ )*pub (?:record |data |inductive )?([A-Za-z_][A-Za-z_0-9]*)\b")
 CODE = re.compile(r"`([^`]+)`")
+# definitions, and the file that has them
+PLACED = re.compile(r"((?:`[^`]+`(?:, | and )?)+) in \[`([^`]+)`\]")
 
 
 class Sources:
@@ -196,20 +198,28 @@ class Page:
         return told
 
     def check_ground(self, row):
-        """What the promises rest on: a definition, a law of some crate, a call whose contract has it, and wrong bodies."""
+        """What the promises rest on: definitions, a law of some crate that speaks of one, a call whose contract has each, and wrong bodies."""
+        placed = [(CODE.findall(words), file) for words, file in PLACED.findall(row[1])]
         names = [CODE.findall(cell) for cell in row]
-        if [len(it) for it in names[1:4]] != [2, 1, 1] or not names[4]:
+        if not placed or [len(it) for it in names[2:4]] != [1, 1] or not names[4]:
             self.say(f"the row `{row[0]}` lacks a name")
             return
-        (word, file), law, call = names[1], names[2][0], names[3][0]
-        self.check_definition(word, file)
-        for name, what in ((law, "law"), (call, "call")):
-            crate, _, function = name.partition("::")
-            contract = self.sources.contract(crate, function)
-            if not self.sources.reaches(contract, word, (crate, "certificate_laws", "model")):
-                self.say(f"the {what} {name} does not speak of {word}")
+        words, law, call = [it for some, _ in placed for it in some], names[2][0], names[3][0]
+        for some, file in placed:
+            for word in some:
+                self.check_definition(word, file)
+        if not any(self.speaks(law, word) for word in words):
+            self.say(f"the law {law} does not speak of {' or '.join(words)}")
+        for word in words:
+            if not self.speaks(call, word):
+                self.say(f"the call {call} does not speak of {word}")
         for cell in names[4]:
             self.check_edit(cell)
+
+    def speaks(self, name, word):
+        """Whether the contract of a law or a call reaches a word."""
+        crate, _, function = name.partition("::")
+        return self.sources.reaches(self.sources.contract(crate, function), word, (crate, "certificate_laws", "model"))
 
     def check(self):
         fields = {record: fields_of(self.sources.text(HEADLINE), record) for record in RECORDS}

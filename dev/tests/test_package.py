@@ -140,7 +140,7 @@ class Packages(unittest.TestCase):
         self.assertFalse([it for it in shared if "/tests/" in it or "__pycache__" in it])
         top = os.path.join(tree, SHARE)
         self.assertEqual(os.path.realpath(os.path.join(tree, "usr/share/doc/warren")), os.path.realpath(top))
-        for page in ("OPERATIONS", "ERRORS", "SECURITY", "CLIENTS", "GUARANTEES", "RABBITMQ", "COSTS"):
+        for page in ("OPERATIONS", "ERRORS", "SECURITY", "CLIENTS", "GUARANTEES", "COSTS", "RABBITMQ"):
             text = contents(f"{top}/docs/{page}.md").decode()
             for name in set(re.findall(r"warrenctl ([a-z]+)\b", text)):
                 done = subprocess.run([sys.executable, f"{tree}/usr/bin/warrenctl", name, "--help"], capture_output=True, text=True, timeout=60)

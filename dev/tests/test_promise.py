@@ -15,7 +15,7 @@ from dev import ROOT
 from dev.checks import promise
 
 PAGE = "docs/PROMISE.md"
-CRATES = ["model", "broker", "laws", "engine", "serving", "certificate_laws", "certificate", "guarantee_search"]
+CRATES = ["model", "broker", "commands", "laws", "engine", "serving", "certificate_laws", "certificate", "guarantee_search"]
 PARTS = [PAGE] + [f"crates/{crate}/{part}" for crate in CRATES for part in ("specs", "src") if os.path.isdir(os.path.join(ROOT, f"crates/{crate}/{part}"))]
 
 

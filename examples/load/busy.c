@@ -5,7 +5,8 @@
    Each publisher writes WINDOW confirmed publishes of SIZE bytes to EXCHANGE under KEY at once (default: `direct` and `new`), and
    the next WINDOW once all are acked or nacked. Each consumer takes from QUEUE (default: `one`): with a prefetch it acknowledges
    each delivery by an ack of its own, and with prefetch 0 it takes without acks. If STYLE is `awaited`, the publishers also wait
-   for the deliveries of their windows; if it is `free`, they don't.
+   for the deliveries of their windows; if it is `free`, they don't; if it is `returned`, neither, and the consumers give each
+   delivery back by a nack.
 
    Prints `began` after half a second in which nothing is counted, and then the publishes acked or nacked and the deliveries taken,
    each a second, over SECONDS. If SECONDS is 0, it prints both for each line on standard input, counted since the line before, and
@@ -23,7 +24,7 @@
 #include <time.h>
 #include <unistd.h>
 
-enum { ROOM = 1 << 18, WARM = 500000 };
+enum { ROOM = 1 << 18, WARM = 500000, MOST = 131072 - 8 };
 
 typedef struct {
     int socket;
@@ -39,7 +40,7 @@ typedef struct {
 } Client;
 
 static uint64_t published, taken;
-static int window_size, prefetch, is_awaited;
+static int window_size, prefetch, is_awaited, is_returned;
 static const char *exchange = "direct", *key = "new", *queue = "one";
 
 static void fail(const char *what) {
@@ -131,6 +132,11 @@ static void consume(int socket) {
     expect(socket, 60, 21);
 }
 
+/* How many bytes a publish takes, at most. */
+static size_t room_for(int size) {
+    return size + 8 * (size / MOST) + 128;
+}
+
 /* One publish, as its frames. */
 static unsigned char *publish(unsigned char *at, int size) {
     unsigned char *start = at;
@@ -139,10 +145,14 @@ static unsigned char *publish(unsigned char *at, int size) {
     start = at;
     at = put(put(put(put(at, 2, 1), 1, 2), 0, 4), 60, 2);
     at = end_frame(start, put(put(put(at, 0, 2), size, 8), 0, 2));
-    start = at;
-    at = put(put(put(at, 3, 1), 1, 2), 0, 4);
-    memset(at, 'x', size);
-    return end_frame(start, at + size);
+    for (int some; size > 0; size -= some) {
+        some = size < MOST ? size : MOST;
+        start = at;
+        at = put(put(put(at, 3, 1), 1, 2), 0, 4);
+        memset(at, 'x', some);
+        at = end_frame(start, at + some);
+    }
+    return at;
 }
 
 static Client *client(int port, int is_consumer, int size) {
@@ -160,7 +170,7 @@ static Client *client(int port, int is_consumer, int size) {
         return it;
     }
     select_confirms(it->socket);
-    unsigned char *at = it->words = malloc((size_t)window_size * (size + 128));
+    unsigned char *at = it->words = malloc(window_size * room_for(size));
     for (int i = 0; i < window_size; i++) at = publish(at, size);
     it->length = it->written = at - it->words;
     return it;
@@ -196,9 +206,9 @@ static void delivered(Client *it, const unsigned char *arguments) {
     if (prefetch == 0) return;
     unsigned char *start = it->words + it->length;
     if (it->length + 32 > ROOM) fail("the server reads no acks");
-    unsigned char *at = method(start, 1, 60, 80);
+    unsigned char *at = method(start, 1, 60, is_returned ? 120 : 80);
     memcpy(at, arguments + 1 + arguments[0], 8);
-    it->length = end_frame(start, put(at + 8, 0, 1)) - it->words;
+    it->length = end_frame(start, put(at + 8, is_returned ? 2 : 0, 1)) - it->words;
 }
 
 /* What is done for the whole frames that came; what is left of another is kept. */
@@ -279,10 +289,11 @@ static int counted(int poll, Client **all, int count, uint64_t span) {
 }
 
 int main(int words, char **word) {
-    if (words != 9 && words != 12) fail("busy PORT SECONDS PUBLISHERS WINDOW CONSUMERS PREFETCH SIZE free|awaited [EXCHANGE KEY QUEUE]");
+    if (words != 9 && words != 12) fail("busy PORT SECONDS PUBLISHERS WINDOW CONSUMERS PREFETCH SIZE free|awaited|returned [EXCHANGE KEY QUEUE]");
     int port = atoi(word[1]), publishers = atoi(word[3]), consumers = atoi(word[5]), size = atoi(word[7]);
     uint64_t span = 1e6 * atof(word[2]);
     window_size = atoi(word[4]), prefetch = atoi(word[6]), is_awaited = !strcmp(word[8], "awaited") && consumers > 0;
+    is_returned = !strcmp(word[8], "returned");
     if (words == 12) exchange = word[9], key = word[10], queue = word[11];
     int count = publishers + consumers, poll = epoll_create1(0);
     Client **all = calloc(count, sizeof *all);

@@ -35,6 +35,15 @@ GONE = 1.0
 WAITING = 1000
 """Messages that wait before a slow consumer comes."""
 
+BESIDE_IDLE = 900
+"""Connections that say nothing, beside a flood."""
+
+TAKERS, TAKEN = 200, 1_000_000
+"""Consumers that give back what they get, and the bytes of a message."""
+
+SIZES = (60_000, 70_000, 1_000_000)
+"""Bytes of a large publish: less than a read may get, a little more, and many reads."""
+
 SMALL = b"x" * 12
 TO_ONE, TO_TWO, TO_FULL = ("direct", "new", "one"), ("direct", "other", "two"), ("direct", "full", "full")
 """An exchange, a routing key, and the queue to which they lead."""
@@ -56,8 +65,8 @@ class Row:
 class Group:
     """Clients of `busy.c` that never pause, in a process of their own, from the time on when all have logged in."""
 
-    def __init__(self, server, publishers, window, consumers=0, prefetch=0, style="free", way=TO_ONE):
-        words = [server.port, 0, publishers, window, consumers, prefetch, len(SMALL), style, *way]
+    def __init__(self, server, publishers, window, consumers=0, prefetch=0, style="free", way=TO_ONE, size=len(SMALL)):
+        words = [server.port, 0, publishers, window, consumers, prefetch, size, style, *way]
         self.process = subprocess.Popen([os.environ["BUSY"], *map(str, words)], stdin=subprocess.PIPE, stdout=subprocess.PIPE, bufsize=0)
         try:
             self.line()
@@ -168,16 +177,96 @@ def beside_flood(client, way=None):
     return measured
 
 
+KINDS = (
+    ("confirm", f"one publish each {1000 * GAP:.0f} ms", confirms),
+    ("1x1", "another queue, 1 x 1 delivered and acked, prefetch 1", pipeline(1)),
+    ("1x100", "another queue, 1 x 100 delivered and acked, prefetch 100", pipeline(100)),
+    ("login", "one login after another", logins),
+)
+THE_FLOOD = " x ".join(f"{it:,}" for it in FLOOD)
+
+
 def flood_rows():
-    kinds = (
-        ("confirm", f"one publish each {1000 * GAP:.0f} ms", confirms),
-        ("1x1", "another queue, 1 x 1 delivered and acked, prefetch 1", pipeline(1)),
-        ("1x100", "another queue, 1 x 100 delivered and acked, prefetch 100", pipeline(100)),
-        ("login", "one login after another", logins),
-    )
-    flood = " x ".join(f"{it:,}" for it in FLOOD)
-    places = (("alone", "alone", None), ("flood", f"beside {flood} into a queue that nobody consumes", TO_ONE), ("full", f"beside {flood} into a full queue", TO_FULL))
-    return [Row(f"{kind}.{place}", f"{says}, {where}", beside_flood(client, way)) for kind, says, client in kinds for place, where, way in places]
+    places = (("alone", "alone", None), ("flood", f"beside {THE_FLOOD} into a queue that nobody consumes", TO_ONE), ("full", f"beside {THE_FLOOD} into a full queue", TO_FULL))
+    return [Row(f"{kind}.{place}", f"{says}, {where}", beside_flood(client, way)) for kind, says, client in KINDS for place, where, way in places]
+
+
+# ---- one client beside a flood and connections that say nothing, and beside consumers of large messages
+
+
+def beside_idle_and_flood(client):
+    def measured(server, seconds):
+        with held(server.clients(BESIDE_IDLE)):
+            server.settle()
+            yield from beside_flood(client, TO_ONE)(server, seconds)
+        server.settle()
+
+    return measured
+
+
+def beside_takers(client):
+    """A client beside consumers that give each message back at once, of which there is one for each; and what these take meanwhile."""
+
+    def measured(server, seconds):
+        with contextlib.closing(Client(server.port)) as publisher:
+            publisher.select()
+            for _ in range(TAKERS):
+                publisher.socket.sendall(publish(*TO_ONE[:2], b"x" * TAKEN))
+                publisher.await_acks(1)
+        with group(server, 0, 1, TAKERS, 1, "returned", TO_ONE) as takers:
+            takers.mark()
+            figures = client(server, seconds)
+            yield f"{figures}; the consumers {takers.mark()[1]:,} a second"
+
+    return measured
+
+
+def crowd_rows():
+    idle = [Row(f"{kind}.idle", f"{says}, beside {THE_FLOOD} and {BESIDE_IDLE} idle", beside_idle_and_flood(client)) for kind, says, client in KINDS]
+    takers = f"beside {TAKERS} consumers of {TAKEN:,} bytes that give each back"
+    return idle + [Row(f"{kind}.takers", f"{says}, {takers}", beside_takers(client)) for kind, says, client in KINDS if kind != "1x100"]
+
+
+# ---- large publishes beside a flood
+
+
+def filled_up(server):
+    """Fills the queue `full`, so that further publishes are refused and take no memory."""
+    with contextlib.closing(Client(server.port)) as client:
+        client.select()
+        client.socket.sendall(publish(*TO_FULL[:2], SMALL) * WAITING)
+        client.await_acks(WAITING)
+
+
+def large(publishers, size):
+    """What large publishes get into a full queue, one at a time for each publisher: alone, and beside publishers that never pause."""
+
+    def measured(server, seconds):
+        filled_up(server)
+        with group(server, publishers, 1, way=TO_FULL, size=size) as it:
+            alone = it.over(seconds)[0]
+            with group(server, *FLOOD, way=TO_ONE) as flood:
+                flood.mark()
+                beside = it.over(seconds)[0]
+                others = flood.mark()[0]
+        yield f"alone {alone:,} a second, beside them {beside:,} (1/{alone / max(beside, 1):.0f}); the flood {others:,} a second"
+
+    return measured
+
+
+def many(publishers, window):
+    """What publishers with small windows get, and what a message costs."""
+
+    def measured(server, seconds):
+        it = Cost(server, seconds, publishers, window)
+        yield f"{it.rate:,} a second, {it.microseconds:.2f} us a message"
+
+    return measured
+
+
+def large_rows():
+    rows = [Row(f"large.{count}x{size}", f"{count} publishers of {size:,} bytes, one at a time, beside {THE_FLOOD}", large(count, size)) for count in (1, 16) for size in SIZES]
+    return rows + [Row("many.1000x20", "1,000 x 20 publishes", many(1000, 20))]
 
 
 # ---- a queue with a slow consumer
@@ -397,4 +486,4 @@ def neighbour_rows():
 
 
 def rows():
-    return flood_rows() + slow_rows() + stranger_rows() + neighbour_rows()
+    return flood_rows() + crowd_rows() + large_rows() + slow_rows() + stranger_rows() + neighbour_rows()

@@ -1,11 +1,12 @@
 """Fills servers until memory is refused, and looks whether they can be emptied then.
 
-    python3 -m examples.refusals.full WARREN [--limit MB ..] [--body BYTES ..] [--queues N ..] [--pressing N ..] [--allocator NAME ..] [--chaos SECONDS] [--jobs N]
+    python3 -m examples.refusals.full WARREN [--limit MB ..] [--body BYTES ..] [--queues N ..] [--pressing N ..] [--allocator NAME ..] [--chaos SECONDS] [--burst CONSUMERS] [--jobs N]
 
 A row is one server with a limit of address space and an allocator. One publisher confirms publishes to a queue without a limit, or to several
 by a fanout, until it is lost. All clients leave; in some rows eight others press on by publishing. Then 100 clients log in and stay, others
 declare passively, get and consume with and without acks, ack, reject, give back, cancel, purge and close, and each acked message comes once,
-in order. Publishes fill the server again, and a queue is purged then. A row of chaos.py is added for each allocator.
+in order. Publishes fill the server again, and a queue is purged then. A row of chaos.py is added for each allocator, and with
+--burst one of burst.py for each limit and allocator, with bodies of 1,000 bytes.
 
 Without options all rows are tried, one after the other, which takes hours. Each option takes some values in place of all: --limit 48 --body 12 100
 --pressing 0. --body without a value leaves all rows but chaos out. The table in the end has a verdict for each row. Status: 0 all hold; 1 one does not;
@@ -19,7 +20,7 @@ import sys
 import tempfile
 import time
 
-from examples.refusals import chaos
+from examples.refusals import burst, chaos
 from examples.refusals.filled import (
     ACCOUNT,
     ALLOCATORS,
@@ -53,8 +54,8 @@ GOT, WITHOUT_ACKS = 40, 100
 PREFETCH = 100
 # of so many messages one is rejected without a dead letter, and one is given back once
 REJECTED, REQUEUED = 97, 89
-# bytes of a body that goes into one frame
-LARGEST = 131_064
+# bytes of a body that goes into one frame, and of one behind a burst
+LARGEST, BURST_BODY = 131_064, 1_000
 
 
 def gets(client, queue, taken):
@@ -226,11 +227,12 @@ def words():
     parser.add_argument("--pressing", type=int, nargs="+", default=[0, 8], help="publishers that go on")
     parser.add_argument("--allocator", choices=ALLOCATORS, nargs="+", default=list(ALLOCATORS), help="what gives memory")
     parser.add_argument("--chaos", type=int, default=30, metavar="SECONDS", help="of a row of chaos; 0 leaves these out")
+    parser.add_argument("--burst", type=int, default=0, metavar="CONSUMERS", help="of the rows of burst; 0 leaves these out")
     parser.add_argument("--jobs", type=int, default=1, help="rows side by side")
     given = parser.parse_args()
     if not (os.path.isfile(given.warren) and os.access(given.warren, os.X_OK)):
         parser.error(f"{given.warren} is no program")
-    if min([*given.limit, given.jobs, *given.queues]) < 1 or not 12 <= min([12, *given.body]) <= max([12, *given.body]) <= LARGEST or min([given.chaos, *given.pressing]) < 0:
+    if min([*given.limit, given.jobs, *given.queues]) < 1 or not 12 <= min([12, *given.body]) <= max([12, *given.body]) <= LARGEST or min([given.chaos, given.burst, *given.pressing]) < 0:
         parser.error(f"limits, queues and jobs are 1 at least, a body has 12 to {LARGEST} bytes, and nothing is less than 0")
     return given
 
@@ -250,7 +252,8 @@ def allocators_here(names):
 def rows_of(given):
     allocators = allocators_here(given.allocator)
     rows = [Row(*each) for each in itertools.product(given.limit, given.body, given.queues, given.pressing, allocators)]
-    return rows + [chaos.Row(given.limit[0], given.chaos, it) for it in allocators if given.chaos]
+    bursts = [burst.Row(limit, BURST_BODY, given.burst, it) for limit in given.limit for it in allocators if given.burst]
+    return rows + bursts + [chaos.Row(given.limit[0], given.chaos, it) for it in allocators if given.chaos]
 
 
 def main():

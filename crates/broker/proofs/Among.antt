@@ -1,5 +1,5 @@
 -- A waiter among others, and what is left of them after a sweep.
-use Rattle.broker.proofs.Names.{Some, None, ◌+◌, ◌∙◌, ◌<◌, ℕ, zero, suc, List, [], ◌∷◌, ◌++◌, Bool, true, false, cond, length, get_or, filter, inl, inr, refl, sym, ap, subst, arith, if◌then◌else◌, is_some, ◌==◌, ◌&&◌, position_from, eqb-true, eq-eqb, false≢true, IsIn, is_consumer, is_waiter_of, Waiter, Pick}
+use Rattle.broker.proofs.Names.{◌∙◌, ◌<◌, ℕ, zero, suc, List, [], ◌∷◌, ◌++◌, Bool, true, false, cond, length, get_or, filter, inl, inr, refl, sym, ap, subst, arith, ◌==◌, ◌&&◌, eqb-true, eq-eqb, false≢true, IsIn, IsNotThere, is_consumer, Waiter, Pick}
 use Rattle.std.proofs.Common.{◌≡◌}
 use Rattle.broker.proofs.Waking.{both}
 
@@ -59,12 +59,8 @@ same_consumer p q e =
     one : ℕ → ℕ → ℕ → Pick
     one c h n = record { connection = c; channel = h; number = n }
 
--- no waiter of the consumer is there where none is found
-pub not_found : (p : Pick) (waiters : List Waiter) (n : ℕ) → position_from (is_waiter_of p) n waiters ≡ None → (s : Waiter) → IsIn s waiters → s.pick ≡ p → ⊥
-not_found p [] n e s i same = i
-not_found p (x ∷ xs) n e s i same = go (is_waiter_of p x) refl e i (λ f j. not_found p xs (n + 1) f s j same)
-  where
-    go : (v : Bool) → is_waiter_of p x ≡ v → cond v (Some n) (position_from (is_waiter_of p) (n + 1) xs) ≡ None → IsIn s (x ∷ xs) → (position_from (is_waiter_of p) (n + 1) xs ≡ None → IsIn s xs → ⊥) → ⊥
-    go true is f j more = false≢true (sym (ap is_some f))
-    go false is f (inl here) more = false≢true (sym is ∙ ap (is_consumer p) (ap (λ (z : Waiter). z.pick) (sym here) ∙ same) ∙ one_consumer p)
-    go false is f (inr j) more = more f j
+-- no waiter of the consumer is there if none is at any index
+pub not_found : (p : Pick) (waiters : List Waiter) → ((i : ℕ) → i < length waiters → IsNotThere p waiters i) → (s : Waiter) → IsIn s waiters → s.pick ≡ p → ⊥
+not_found p waiters none s i same =
+    let (n, lt, e) = place_in s waiters i in
+    false≢true (sym (none n lt s lt) ∙ ap (λ (z : Waiter). is_consumer p z.pick) e ∙ ap (is_consumer p) same ∙ one_consumer p)

@@ -1,9 +1,7 @@
 -- A waiter comes in as the last of its line.
-use Rattle.broker.proofs.Names.{◌∙◌, ◌<◌, ◌≤◌, ◌+◌, ◌++◌, ℕ, zero, suc, List, [], ◌∷◌, Bool, Result, if◌then◌else◌, length, take, drop, get_or, min, inl, inr, refl, sym, ap, subst, arith, insert, is_ok, IsOk, leb_tells, drop_min, take_min, drop_all, take_all, append-nil, take-append-drop, IsIn, bit_of, Kept, Pick, Waiter, turned, AllDistinct, round_of, picks, awake_waiter, asleep_waiter, Inserts, IsAwake, KeepsRound}
+use Rattle.broker.proofs.Names.{◌∙◌, ◌<◌, ◌≤◌, ◌+◌, ◌++◌, ℕ, zero, suc, List, [], ◌∷◌, Bool, Result, if◌then◌else◌, length, take, drop, get_or, min, inl, inr, refl, sym, ap, subst, arith, insert, is_ok, IsOk, leb_tells, drop_min, take_min, drop_all, take_all, append-nil, take-append-drop, IsIn, bit_of, Kept, Pick, Waiter, turned, AllDistinct, round_of, picks, asleep_waiter, Inserts, IsAwake, KeepsRound}
 use Rattle.std.proofs.Common.{◌≡◌, ◌⊎◌}
 use Rattle.std.proofs.lemmas.List.{append_assoc}
-use Rattle.broker.proofs.Lining.{in_place}
-use Rattle.broker.proofs.Picks.{picks_length, picks_at}
 use Rattle.broker.proofs.Standing.{distinct_parts}
 
 -- ---- one more in a list

@@ -1,5 +1,5 @@
 -- A waiter is made, and those of consumers that are gone go: those who are there are gone round as before.
-use Rattle.broker.proofs.Names.{◌∙◌, ◌≤◌, ◌+◌, ℕ, zero, suc, List, [], ◌∷◌, Bool, true, false, cond, length, take, drop, filter, min, inl, inr, refl, sym, ap, subst, arith, not, ◌==◌, ◌||◌, false≢true, drop_min, take_min, filter-append, length-filter, count_by-le-length, count-cons, IsIn, Kept, Pick, Waiter, turned, picks, is_of, remains}
+use Rattle.broker.proofs.Names.{◌∙◌, ◌≤◌, ◌+◌, ℕ, zero, suc, List, [], ◌∷◌, Bool, true, false, cond, length, take, drop, filter, min, inl, inr, refl, sym, ap, subst, arith, not, ◌||◌, false≢true, drop_min, take_min, filter-append, length-filter, count_by-le-length, count-cons, IsIn, Kept, Owner, Pick, Waiter, turned, picks, is_of, owns, remains}
 use Rattle.std.proofs.Common.{◌≡◌}
 use Rattle.std.specs.Prelude.{count_by}
 use Rattle.broker.proofs.Picks.{of_waiter, picks_length, picks_swept}
@@ -109,14 +109,14 @@ module _ (test : Pick → Bool) where
 -- ---- who remains
 
 -- whoever is there and takes from the queue
-pub of_remains : (kept : Kept) (queue c : ℕ) (p : Pick) → is_of kept queue p ≡ true → remains kept queue c p ≡ true
-of_remains kept queue c p its = go (p.connection == c) (is_of kept queue p) its
+pub of_remains : (kept : Kept) (queue : ℕ) (o : Owner) (p : Pick) → is_of kept queue p ≡ true → remains kept queue o p ≡ true
+of_remains kept queue o p its = go (owns o p.connection p.channel) (is_of kept queue p) its
   where
     go : (u v : Bool) → v ≡ true → (not u || v) ≡ true
     go true true e = refl
     go true false e = absurd (false≢true e)
     go false v e = refl
 
--- and of this connection nobody else
-pub remains_of : (kept : Kept) (queue c : ℕ) (p : Pick) → remains kept queue c p ≡ true → (p.connection == c) ≡ true → is_of kept queue p ≡ true
-remains_of kept queue c p its here = subst (λ (u : Bool). (not u || is_of kept queue p) ≡ true) here its
+-- and of this owner nobody else
+pub remains_of : (kept : Kept) (queue : ℕ) (o : Owner) (p : Pick) → remains kept queue o p ≡ true → owns o p.connection p.channel ≡ true → is_of kept queue p ≡ true
+remains_of kept queue o p its here = subst (λ (u : Bool). (not u || is_of kept queue p) ≡ true) here its

@@ -1,5 +1,5 @@
 -- Consumers of a connection are gone, and so are their waiters.
-use Rattle.broker.proofs.Names.{◌∙◌, ◌<◌, ◌≤◌, ◌+◌, ◌++◌, ◌∷◌, ℕ, List, [], Bool, true, false, Option, length, take, get_or, filter, inl, inr, refl, sym, ap, subst, arith, not, ◌==◌, ◌||◌, is_some, nat_eq, lookup, leb_tells, eqb-true, eq-eqb, false≢true, get_or_past, IsIn, Kept, Pick, Waiters, Rounds, Listing, Listings, Gone, Nobody, One, Several, round_at, order, is_of, is_other, remains, is_listed_there, listing, listings_on, channels_of, IsInRound, IsListedUnder, LosesWaiter, ListsItsWaiters, KeepRounds, LeaveLine, LeaveLines, LeaveNamed, IsAmongGone, AddsGone, only_gone, IsServing}
+use Rattle.broker.proofs.Names.{◌∙◌, ◌<◌, ◌≤◌, ◌+◌, ◌++◌, ◌∷◌, ℕ, List, [], Bool, true, false, Option, length, take, get_or, filter, inl, inr, refl, sym, ap, subst, arith, not, ◌==◌, ◌||◌, is_some, nat_eq, lookup, leb_tells, eqb-true, eq-eqb, false≢true, get_or_past, IsIn, Kept, Owner, Pick, Waiters, Rounds, Listing, Listings, Gone, Nobody, One, Several, round_at, order, is_number, is_of, is_other, owns, remains, is_listed_there, listing, listings_on, channels_of, IsInRound, IsItsOwn, IsListedUnder, LosesWaiter, ListsItsWaiters, KeepRounds, LeaveLine, LeaveLines, LeaveNamed, IsAmongGone, AddsGone, only_gone, IsServing}
 use Rattle.std.proofs.Common.{◌≡◌, ◌⊎◌}
 use Rattle.commands.specs.State.{broker_of}
 use Rattle.broker.proofs.Later.{filter_all, remains_of}
@@ -9,6 +9,12 @@ use Rattle.broker.proofs.Removing.{is_self, other}
 use Rattle.broker.proofs.Sleeping.{distinct}
 use Rattle.broker.proofs.Standing.{passes, filter_twice, in_left, in_right}
 use Rattle.broker.proofs.Takers.{of_has}
+use Rattle.broker.proofs.Waking.{and, both}
+
+-- either is so
+pub known : (v : Bool) → (v ≡ true) ⊎ (v ≡ false)
+known true = inl refl
+known false = inr refl
 
 -- ---- who is gone
 
@@ -62,8 +68,8 @@ module _ (kept : Kept) (queue : ℕ) (p : Pick) (old new : List Waiters) (loses 
       go false f = subst (P place (round_at old place)) (sym (loses.others place (distinct place queue f))) (others place (round_at old place))
 
   -- whoever remains is another
-  remains_other : (c : ℕ) → p.connection ≡ c → (q : Pick) → remains kept queue c q ≡ true → is_other p q ≡ true
-  remains_other c its q e = other p q (λ same. false≢true (sym gone ∙ ap (is_of kept queue) same ∙ remains_of kept queue c q e (eq-eqb q.connection c (ap (λ (z : Pick). z.connection) (sym same) ∙ its))))
+  remains_other : (o : Owner) → owns o p.connection p.channel ≡ true → (q : Pick) → remains kept queue o q ≡ true → is_other p q ≡ true
+  remains_other o its q e = other p q (λ same. false≢true (sym gone ∙ ap (is_of kept queue) same ∙ remains_of kept queue o q e (ap (λ (z : Pick). owns o z.connection z.channel) (sym same) ∙ its)))
 
   pub one_left : (l : Listing) → l ≡ listing queue p → IsIn l.consumer (order (round_at new l.queue)) → ⊥
   one_left l e i =
@@ -78,57 +84,63 @@ module _ (kept : Kept) (queue : ℕ) (p : Pick) (old new : List Waiters) (loses 
       at_each (λ n r s. is_of kept n q ≡ true → IsInRound (broker_of kept) lists n r q → IsInRound (broker_of kept) lists n s q)
       (λ its. loses.round.stay (broker_of kept) lists queue q (λ same. false≢true (sym gone ∙ ap (is_of kept queue) (sym same) ∙ its))) (λ n r its j. j) place has i
 
-  pub one_same : (c : ℕ) → p.connection ≡ c → (place : ℕ) → filter (remains kept place c) (order (round_at new place)) ≡ filter (remains kept place c) (order (round_at old place))
-  one_same c its place =
-      at_each (λ n r s. filter (remains kept n c) (order s) ≡ filter (remains kept n c) (order r))
-      (ap (filter (remains kept queue c)) loses.round.line ∙ filter_twice (remains kept queue c) (is_other p) (order (round_at old queue)) (remains_other c its)) (λ n r. refl) place
+  pub one_same : (o : Owner) → owns o p.connection p.channel ≡ true → (place : ℕ) → filter (remains kept place o) (order (round_at new place)) ≡ filter (remains kept place o) (order (round_at old place))
+  one_same o its place =
+      at_each (λ n r s. filter (remains kept n o) (order s) ≡ filter (remains kept n o) (order r))
+      (ap (filter (remains kept queue o)) loses.round.line ∙ filter_twice (remains kept queue o) (is_other p) (order (round_at old queue)) (remains_other o its)) (λ n r. refl) place
 
--- ---- all of a connection
+-- ---- all of an owner
 
-module _ (kept : Kept) (c : ℕ) (old : Rounds) (its : ListsItsWaiters c old) (count : ℕ) (before after : List ℕ) (gone : Gone) (found : AddsGone kept (IsListedUnder old.lists c) count Nobody before gone after) where
-  -- a waiter of the connection whose consumer is gone was found
-  among : (place : ℕ) (p : Pick) → IsIn p (order (round_at old.rounds place)) → p.connection ≡ c → is_of kept place p ≡ false → IsAmongGone count gone after (listing place p)
+-- what is listed on a channel of the owner is its
+pub owned : (kept : Kept) (o : Owner) (h : ℕ) (l : Listing) → is_number o.channel h ≡ true → IsItsOwn kept o.connection h l → owns o l.consumer.connection l.consumer.channel ≡ true
+owned kept o h l number its =
+    and (l.consumer.connection == o.connection) (is_number o.channel l.consumer.channel) (eq-eqb l.consumer.connection o.connection its.connection) (ap (is_number o.channel) its.channel ∙ number)
+
+module _ (kept : Kept) (o : Owner) (old : Rounds) (its : ListsItsWaiters o old) (count : ℕ) (before after : List ℕ) (gone : Gone) (found : AddsGone kept (IsListedUnder old.lists o) count Nobody before gone after) where
+  -- a waiter of the owner whose consumer is gone was found
+  among : (place : ℕ) (p : Pick) → IsIn p (order (round_at old.rounds place)) → owns o p.connection p.channel ≡ true → is_of kept place p ≡ false → IsAmongGone count gone after (listing place p)
   among place p i here far =
       let noted = its.noted place p i here in
-      let under = ap (λ (n : ℕ). lookup (nat_eq n) old.lists) (sym here) ∙ noted.there in
-      found.come (listing place p) (p.channel, subst (λ (o : Option (List Listings)). IsIn (listing place p) (listings_on (channels_of o) p.channel).all) (sym under) noted.among) far
+      let parts = both (p.connection == o.connection) (is_number o.channel p.channel) here in
+      let under = ap (λ (n : ℕ). lookup (nat_eq n) old.lists) (sym (eqb-true p.connection o.connection parts.0)) ∙ noted.there in
+      found.come (listing place p) (p.channel, parts.1, subst (λ (x : Option (List Listings)). IsIn (listing place p) (listings_on (channels_of x) p.channel).all) (sym under) noted.among) far
 
   -- those that are left in a line remain
-  line_left : (place : ℕ) (new : Waiters) → ((p : Pick) → IsIn p (order new) → p.connection ≡ c → is_of kept place p ≡ false → ⊥)
-      → filter (remains kept place c) (order new) ≡ filter (remains kept place c) (order (round_at old.rounds place)) → LeaveLine kept place c (round_at old.rounds place) new
-  line_left place new none same = sym (filter_all (remains kept place c) (order new) all) ∙ same
+  line_left : (place : ℕ) (new : Waiters) → ((p : Pick) → IsIn p (order new) → owns o p.connection p.channel ≡ true → is_of kept place p ≡ false → ⊥)
+      → filter (remains kept place o) (order new) ≡ filter (remains kept place o) (order (round_at old.rounds place)) → LeaveLine kept place o (round_at old.rounds place) new
+  line_left place new none same = sym (filter_all (remains kept place o) (order new) all) ∙ same
     where
-      all : (p : Pick) → IsIn p (order new) → remains kept place c p ≡ true
-      all p i = go (p.connection == c) (is_of kept place p) refl refl
+      all : (p : Pick) → IsIn p (order new) → remains kept place o p ≡ true
+      all p i = go (owns o p.connection p.channel) (is_of kept place p) refl refl
         where
-          go : (u v : Bool) → (p.connection == c) ≡ u → is_of kept place p ≡ v → (not u || v) ≡ true
+          go : (u v : Bool) → owns o p.connection p.channel ≡ u → is_of kept place p ≡ v → (not u || v) ≡ true
           go true true here there = refl
-          go true false here far = absurd (none p i (eqb-true p.connection c here) far)
+          go true false here far = absurd (none p i here far)
           go false v far there = refl
 
   -- nobody is gone
-  pub lines_stay : gone ≡ Nobody → LeaveLines kept c old.rounds old.rounds
+  pub lines_stay : gone ≡ Nobody → LeaveLines kept o old.rounds old.rounds
   lines_stay e place = line_left place (round_at old.rounds place) (λ p i here far. subst (λ (g : Gone). IsAmongGone count g after (listing place p)) e (among place p i here far)) refl
 
   -- one is
-  pub one_gone : (queue : ℕ) (p : Pick) (guess : ℕ) → gone ≡ One queue p guess → (p.connection ≡ c) × (is_of kept queue p ≡ false)
+  pub one_gone : (queue : ℕ) (p : Pick) (guess : ℕ) → gone ≡ One queue p guess → (owns o p.connection p.channel ≡ true) × (is_of kept queue p ≡ false)
   one_gone queue p guess e = elim (found.one (listing queue p) (ap only_gone e)) [ inl none ↦ absurd (false≢true (ap is_some none)) | inr one ↦ (its.own (listing queue p) one.0, one.1) ]
 
-  pub lines_without : (queue : ℕ) (p : Pick) (guess : ℕ) (new : List Waiters) → gone ≡ One queue p guess → LosesWaiter queue p old.rounds new → LeaveLines kept c old.rounds new
+  pub lines_without : (queue : ℕ) (p : Pick) (guess : ℕ) (new : List Waiters) → gone ≡ One queue p guess → LosesWaiter queue p old.rounds new → LeaveLines kept o old.rounds new
   lines_without queue p guess new e loses place =
       let one = one_gone queue p guess e in
       line_left place (round_at new place)
       (λ q i here far.
       let was = one_were kept queue p old.rounds new loses one.1 place q i in
       one_left kept queue p old.rounds new loses one.1 (listing place q) (subst (λ (g : Gone). IsAmongGone count g after (listing place q)) e (among place q was here far)) i)
-      (one_same kept queue p old.rounds new loses one.1 c one.0 place)
+      (one_same kept queue p old.rounds new loses one.1 o one.0 place)
 
   -- several are
-  pub lines_swept : (new : List Waiters) → gone ≡ Several → length old.rounds ≤ count → LeaveNamed kept c after old.rounds new → LeaveLines kept c old.rounds new
+  pub lines_swept : (new : List Waiters) → gone ≡ Several → length old.rounds ≤ count → LeaveNamed kept o after old.rounds new → LeaveLines kept o old.rounds new
   lines_swept new e most left place = elim (left place) [
     | inl line ↦ line
     | inr stays ↦
-        subst (LeaveLine kept place c (round_at old.rounds place)) (sym stays.1)
+        subst (LeaveLine kept place o (round_at old.rounds place)) (sym stays.1)
         (line_left place (round_at old.rounds place) (λ p i here far. stays.0 (subst (λ (g : Gone). IsAmongGone count g after (listing place p)) e (among place p i here far) (within place p i))) refl)
   ]
     where
@@ -143,8 +155,8 @@ module _ (kept : Kept) (c : ℕ) (old : Rounds) (its : ListsItsWaiters c old) (c
 -- ---- a broker's
 
 -- what is listed are its waiters
-pub its_waiters : (kept : Kept) (r : Rounds) (c : ℕ) → IsServing kept r → ListsItsWaiters c r
-its_waiters kept r c serving = record {
-  own = λ l i. ((serving.listed c i.0).there l i.1).connection;
+pub its_waiters : (kept : Kept) (r : Rounds) (o : Owner) → IsServing kept r → ListsItsWaiters o r
+its_waiters kept r o serving = record {
+  own = λ l i. owned kept o i.0 l i.1 ((serving.listed o.connection i.0).there l i.2);
   noted = λ place p i its. serving.noted place p (of_has kept place p ((serving.own place).there p i));
 }

@@ -1,12 +1,13 @@
 -- The names that several files of these proofs use.
 pub use Rattle.broker.specs.Lines.{AllDistinct, IsPassed, ahead, count_before, turned}
 pub use Rattle.broker.specs.Moving.{AllAreAwake, IndicesDiffer, IsMoved, IsOfEither, LinesCome, ListsAreMoved, RoundsAreMoved, HasWaiter, all_awake, all_moved, channels_moved, listing_moved, listings_moved}
-pub use Rattle.broker.specs.Rounds.{AddsGone, AddsItsOwn, AddsListing, AllAddTheirOwn, AllAreConsumers, AllAreEmpty, AllAreInRounds, AllAreNoted, AllListedAreThere, AllRun, AllWaken, AreBelow, CanListOn, AreItsConsumers, AreItsListings, FallsAsleepIfUnable, FallsAsleep, FindsWaiter, GoesLast, GoesOn, HasConsumer, HasJoined, HasListRoom, HasNoList, HasNoWaiter, HasRoom, IsAsleep, IsAsleepAt, IsAmongGone, IsAsleepIn, IsAt, IsAwake, IsAwakeAt, IsExpected, IsInItsRound, IsInRound, IsItsOwn, IsListed, IsListedAt, IsListedOn, IsListedOnAny, IsListedUnder, IsNextMarked, IsNoted, IsNotedOn, IsServing, IsWoken, KeepListingsOn, KeepLists, KeepRounds, KeepsAll, KeepsIn, KeepsListings, KeepsRound, KeepsWaiters, LeaveLine, LeaveLines, LeaveNamed, LeavesIfNamed, Listing, Listings, ListingsLeave, Lists, ListsItsOwn, ListsItsWaiters, ListsMore, ListsOneMore, ListsRunning, ListsStay, LosesOne, LosesWaiter, MakesNoList, NoneAwake, NoneAwakePassed, NoneBetween, NoneInRound, NoneMarked, NonePassed, NotesStay, NumbersRise, OthersStay, PicksFirst, PicksFrom, QueuesAreMarked, Rounds, SameListed, SameOrders, SleepMore, StaysAt, Waiters, Wakens, WakesListed, WakesWaiter, asleep_waiter, awake_waiter, channels_of, has_remained, has_taker, is_able, is_consumer, is_listed_there, is_listing, is_numbered_of, is_of, is_on_channel, is_other, is_waiter_of, listed_on, listing, listings_of, listings_on, number_of, only_gone, order, picks, remains, round_at, round_of, rounds_of, takes_from, wakes, wakes_on}
+pub use Rattle.broker.specs.Rounds.{AddsGone, AddsItsOwn, AddsListing, AllAddTheirOwn, AllAreConsumers, AllAreEmpty, AllAreInRounds, AllAreNoted, AllListedAreThere, AllRun, AllWaken, AreBelow, CanListOn, AreItsConsumers, AreItsListings, FallsAsleepIfUnable, FallsAsleep, FindsWaiter, GoesLast, GoesOn, HasConsumer, HasJoined, HasListRoom, HasNoList, HasNoWaiter, HasRoom, IsAsleep, IsAsleepAt, IsAmongGone, IsAsleepIn, IsAt, IsAwake, IsAwakeAt, IsExpected, IsInItsRound, IsInRound, IsItsOwn, IsListed, IsListedAt, IsListedOn, IsListedOnAny, IsListedUnder, IsNextMarked, IsNotThere, IsNoted, IsNotedOn, IsServing, IsWoken, KeepListingsOn, KeepLists, KeepRounds, KeepsAll, KeepsIn, KeepsListings, KeepsRound, KeepsWaiters, LeaveLine, LeaveLines, LeaveNamed, LeavesIfNamed, Listing, Listings, ListingsLeave, Lists, ListsItsOwn, ListsItsWaiters, ListsMore, ListsOneMore, ListsRunning, ListsStay, LosesOne, LosesWaiter, MakesNoList, NoneAwake, NoneAwakePassed, NoneBetween, NoneInRound, NoneMarked, NonePassed, NotesStay, NumbersRise, OthersStay, PicksFirst, PicksFrom, QueuesAreMarked, Rounds, SameListed, SameOrders, SleepMore, StaysAt, Waiters, Wakens, WakesListed, WakesWaiter, asleep_waiter, awake_waiter, channels_of, has_remained, has_taker, is_able, is_consumer, is_listed_there, is_listing, is_numbered_of, is_of, is_on_channel, is_number, is_other, listed_on, listing, listings_of, listings_on, number_of, only_gone, order, owner_of, owns, picks, remains, round_at, round_of, rounds_of, takes_from, wakes, wakes_on}
 pub use Rattle.broker.specs.Turns.{WithTurn, with_turn}
 pub use Rattle.broker.specs.Waiting.{AllInLine, CanGive, IsFirst, IsServedSoon, IsPickedInTurn, LinesMove, LinesStay, NobodyIsPutBack, NobodyWaits, NoneIsLater, QueueWaits, ServesSoon, IsInLine, WaitersAreConsumers, Waits, ahead_at, line_at, owed, queues, count_before_at}
 pub use Rattle.broker.specs.declared.rounds.finding.Found.{Found}
 pub use Rattle.broker.specs.declared.rounds.sleepers.leaving.Gone.{Gone}
 pub use Rattle.broker.specs.declared.rounds.sleepers.leaving.Gone.TheVariants.{Nobody, One, Several}
+pub use Rattle.broker.specs.declared.rounds.waiters.Owner.{Owner}
 pub use Rattle.broker.specs.declared.rounds.waiters.Waiter.{Waiter}
 pub use Rattle.channels.proofs.Moving.{changed_to, one_changed}
 pub use Rattle.channels.proofs.Setting.{same_default}

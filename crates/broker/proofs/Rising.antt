@@ -1,9 +1,9 @@
 -- Lists of a channel along which the numbers of consumers rise.
-use Rattle.broker.proofs.Names.{◌∙◌, ◌<◌, ◌≤◌, ◌+◌, ◌++◌, ℕ, List, [], ◌∷◌, Bool, true, Option, Some, None, length, get_or, map, filter, inl, inr, ap, arith, is_some, IfSome, AllWithin, false≢true, leb_tells, length-append, length-map, get_or-map, get_or-append-add, IsIn, Listing, number_of, NumbersRise, AreBelow, IsListedAt, listing_moved}
+use Rattle.broker.proofs.Names.{◌∙◌, ◌<◌, ◌≤◌, ◌+◌, ◌++◌, ℕ, List, [], ◌∷◌, Bool, length, get_or, map, filter, inl, inr, ap, arith, AllWithin, leb_tells, length-append, length-map, get_or-map, get_or-append-add, IsIn, Listing, number_of, NumbersRise, AreBelow, listing_moved}
 use Rattle.std.proofs.Common.{◌≡◌}
 use Rattle.std.specs.List.Sorted.{IsNonDecreasingBy}
 use Rattle.std.proofs.lemmas.List.Kept.{AllPairs-filter}
-use Rattle.broker.proofs.Among.{place_in, in_at, front_at}
+use Rattle.broker.proofs.Among.{place_in, front_at}
 
 pub rises_none : NumbersRise []
 rises_none i j d lt within = absurd (omega (arith, within))

@@ -1,9 +1,9 @@
 -- Waiters that fall asleep and are woken.
-use Rattle.broker.proofs.Names.{◌∙◌, ◌<◌, ◌≤◌, ◌+◌, ℕ, List, ◌++◌, Bool, true, false, length, get_or, set, filter, inl, inr, refl, sym, ap, subst, arith, ◌==◌, eqb-true, eq-eqb, false≢true, leb_tells, length-append, length-set, get_or-set_same, get_or-set_other, IsIn, Broker, MayTake, bit_of, Differs, same_default, Kept, IsPickFrom, CannotTake, Pick, Waiter, Waiters, Lists, Listing, round_of, picks, awake_waiter, asleep_waiter, is_of, listing, IsAwakeAt, IsAwake, IsAsleep, IsListed, IsInRound, KeepsIn, KeepsRound, ListsMore, ListsStay, NoneAwake, FallsAsleepIfUnable, FallsAsleep, NoneInRound, StaysAt, Wakens, AllWaken, IsWoken}
+use Rattle.broker.proofs.Names.{◌∙◌, ◌<◌, ◌≤◌, ◌+◌, ℕ, List, Bool, true, false, length, get_or, set, filter, inl, inr, refl, sym, ap, subst, arith, ◌==◌, eqb-true, eq-eqb, false≢true, leb_tells, length-set, get_or-set_same, get_or-set_other, IsIn, Broker, MayTake, bit_of, Differs, same_default, Kept, IsPickFrom, CannotTake, Pick, Waiter, Waiters, Lists, Listing, round_of, picks, awake_waiter, asleep_waiter, is_of, listing, IsAwakeAt, IsAwake, IsAsleep, IsListed, IsInRound, KeepsIn, KeepsRound, ListsMore, ListsStay, NoneAwake, FallsAsleepIfUnable, FallsAsleep, NoneInRound, StaysAt, Wakens, AllWaken, IsWoken}
 use Rattle.std.proofs.Common.{◌≡◌, ◌⊎◌}
 use Rattle.commands.specs.State.{broker_of}
 use Rattle.broker.proofs.Picks.{picks_set, of_waiter}
-use Rattle.broker.proofs.Among.{stays, place_in, in_at, in_front, front_at}
+use Rattle.broker.proofs.Among.{stays, place_in, in_at}
 
 -- to one who may take nothing no delivery can be made
 pub cannot_pick : (kept : Kept) (queue : ℕ) (p : Pick) → CannotTake (broker_of kept) p → IsPickFrom kept queue p → ⊥

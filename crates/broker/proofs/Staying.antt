@@ -1,11 +1,12 @@
 -- Consumers that are there still after an event, and those whose waiters are kept.
-use Rattle.broker.proofs.Names.{◌∙◌, ◌++◌, ℕ, List, [], ◌∷◌, Bool, true, false, Option, Some, None, inl, inr, refl, sym, ap, subst, if◌then◌else◌, ◌==◌, ◌&&◌, IfSome, eqb-true, Channel, Broker, with_pair, with_row, Acts, IsDelivery, channel_or_new, Topology, IsIn, Event, First, Command, TooLarge, Fault, Lose, Pause, Resume, Deliver, Send, Note, WasConsumer, connection_of_event, one_stays, AllConsumersStay, Kept, Pick, AllDistinct, Waiters, Rounds, Lists, Listing, IsItsOwn, AreItsListings, AllListedAreThere, is_listed_there, SameListed, ListsItsOwn, ListingsLeave, round_at, order, is_of, remains, AreItsConsumers, AllAreConsumers, AddsItsOwn, AllAddTheirOwn, LeaveLines, SameOrders, GoesOn, PicksFirst}
+use Rattle.broker.proofs.Names.{◌∙◌, ◌++◌, ℕ, List, [], ◌∷◌, Bool, true, false, Option, Some, None, inl, inr, refl, sym, ap, subst, if◌then◌else◌, ◌==◌, ◌&&◌, IfSome, eqb-true, Channel, Broker, with_pair, with_row, Acts, IsDelivery, channel_or_new, Topology, IsIn, Event, First, Command, TooLarge, Fault, Lose, Pause, Resume, Deliver, Send, Note, WasConsumer, connection_of_event, one_stays, AllConsumersStay, ReportsConsumers, Ends, Kept, Owner, Pick, AllDistinct, Waiters, Rounds, Lists, Listing, IsItsOwn, AreItsListings, AllListedAreThere, is_listed_there, SameListed, ListsItsOwn, ListingsLeave, round_at, order, is_of, owner_of, owns, remains, AreItsConsumers, AllAreConsumers, AddsItsOwn, AllAddTheirOwn, LeaveLines, SameOrders, GoesOn, PicksFirst}
 use Rattle.std.proofs.Common.{◌≡◌, ◌⊎◌, append_assoc}
 use Rattle.model.specs.Alone.{event_connection}
 use Rattle.model.specs.Broker.{Consumer}
 use Rattle.model.specs.declared.events.Event.TheVariants.{Open, Running}
 use Rattle.laws.proofs.Deeds.{Deed, changes, enters, gives, settles, purges, nothing, alters, ends, clears, renews, acted}
 use Rattle.commands.specs.State.{broker_of, topology_kept}
+use Rattle.commands.specs.declared.acted.Ends.TheVariants as ended
 use Rattle.broker.proofs.Later.{remains_of}
 use Rattle.broker.proofs.Lining.{in_either, filter_in, filter_distinct, distinct_end}
 use Rattle.broker.proofs.Standing.{in_left, in_right, passes, distinct_parts}
@@ -53,6 +54,38 @@ its_connection (Pause c) = refl
 its_connection (Resume c) = refl
 its_connection (Deliver c) = refl
 
+-- each consumer that is not the owner's still exists
+abbrev pub AllOthersStay : Owner → Broker → Broker → Type 0
+AllOthersStay o old new = (d h : ℕ) → owns o d h ≡ false → (k : Consumer) → WasConsumer old d h k → WasConsumer new d h k
+
+all_of : (v : Bool) → (v && true) ≡ false → v ≡ false
+all_of true e = e
+all_of false e = refl
+
+-- where all of other connections do
+pub other_owners : (c : ℕ) (old new : Broker) → ((d h : ℕ) → (d == c) ≡ false → (k : Consumer) → WasConsumer old d h k → WasConsumer new d h k) → AllOthersStay (record { connection = c; channel = None }) old new
+other_owners c old new stay d h far = stay d h (all_of (d == c) far)
+
+pub owner_connection : (e : Event) (x : Ends) → (owner_of e x).connection ≡ connection_of_event e
+owner_connection e ended.Nothing = refl
+owner_connection e ended.Consumers = refl
+owner_connection e ended.Connection = refl
+
+-- what a step reports of consumers: those of other owners stay
+pub reported_stay : (e : Event) (x : Ends) (old new : Broker) → ReportsConsumers e x old new → AllOthersStay (owner_of e x) old new
+reported_stay e ended.Nothing old new stay d h far k was = stay d h k was
+reported_stay e ended.Connection old new stay d h far k was = stay d h k (all_of (d == connection_of_event e) far) was
+reported_stay (Open c) ended.Consumers old new none d h far k was = absurd none
+reported_stay (First c bytes) ended.Consumers old new none d h far k was = absurd none
+reported_stay (Running c max n) ended.Consumers old new may d h far k was = may.1 d h k (all_of (d == c) far) was
+reported_stay (Command c l m content) ended.Consumers old new leaves d h far k was = leaves.others d h k far was
+reported_stay (TooLarge c l) ended.Consumers old new leaves d h far k was = leaves.others d h k far was
+reported_stay (Fault c code) ended.Consumers old new none d h far k was = absurd none
+reported_stay (Lose c) ended.Consumers old new none d h far k was = absurd none
+reported_stay (Pause c) ended.Consumers old new none d h far k was = absurd none
+reported_stay (Resume c) ended.Consumers old new none d h far k was = absurd none
+reported_stay (Deliver c) ended.Consumers old new none d h far k was = absurd none
+
 -- and where something is delivered all stay
 pub delivery_stays : (old new : Broker) (c : ℕ) (sends : List Send) (notes : List Note) → IsDelivery old c sends notes new → AllConsumersStay old new
 delivery_stays old new c sends notes p =
@@ -91,36 +124,35 @@ own_joined kept old new adds own place = record {
   once = comes_once kept place (round_at old place) (round_at new place) (adds place) (own place).once;
 }
 
--- where those of one connection leave that are gone, and those of others stay; one may have come in before
-module _ (old new : Kept) (c : ℕ) (before after left : List Waiters) (is : topology_kept new ≡ topology_kept old)
-    (stay : (d h : ℕ) → (d == c) ≡ false → (k : Consumer) → WasConsumer (broker_of old) d h k → WasConsumer (broker_of new) d h k) (own : AllAreConsumers old before) (leave : LeaveLines new c after left) where
+-- where those of one owner leave that are gone, and those of others stay; one may have come in before
+module _ (old new : Kept) (o : Owner) (before after left : List Waiters) (is : topology_kept new ≡ topology_kept old)
+    (stay : AllOthersStay o (broker_of old) (broker_of new)) (own : AllAreConsumers old before) (leave : LeaveLines new o after left) where
   -- whoever is left is there, if it was there or came in
-  left_there : (place : ℕ) (p : Pick) → IsIn p (order (round_at before place)) ⊎ (is_of new place p ≡ true) → remains new place c p ≡ true → is_of new place p ≡ true
+  left_there : (place : ℕ) (p : Pick) → IsIn p (order (round_at before place)) ⊎ (is_of new place p ≡ true) → remains new place o p ≡ true → is_of new place p ≡ true
   left_there place p (inr its) remained = its
-  left_there place p (inl was) remained = go (p.connection == c) refl
+  left_there place p (inl was) remained = go (owns o p.connection p.channel) refl
     where
-      go : (v : Bool) → (p.connection == c) ≡ v → is_of new place p ≡ true
-      go true here = remains_of new place c p remained here
+      go : (v : Bool) → owns o p.connection p.channel ≡ v → is_of new place p ≡ true
+      go true here = remains_of new place o p remained here
       go false far = of_stays old new place p is (stay p.connection p.channel far) ((own place).there p was)
 
   own_after : ((place : ℕ) (p : Pick) → IsIn p (order (round_at after place)) → IsIn p (order (round_at before place)) ⊎ (is_of new place p ≡ true)) → ((place : ℕ) → AllDistinct (order (round_at after place))) → AllAreConsumers new left
   own_after came once place = record {
     there = λ p i.
         let j = subst (IsIn p) (leave place) i in
-        left_there place p (came place p (filter_in (remains new place c) p (order (round_at after place)) j)) (passes (remains new place c) p (order (round_at after place)) j);
-    once = subst (λ (ps : List Pick). AllDistinct ps) (sym (leave place)) (filter_distinct (remains new place c) (order (round_at after place)) (once place));
+        left_there place p (came place p (filter_in (remains new place o) p (order (round_at after place)) j)) (passes (remains new place o) p (order (round_at after place)) j);
+    once = subst (λ (ps : List Pick). AllDistinct ps) (sym (leave place)) (filter_distinct (remains new place o) (order (round_at after place)) (once place));
   }
 
 -- where nobody came in
-pub own_left : (old new : Kept) (c : ℕ) (before left : List Waiters) → topology_kept new ≡ topology_kept old
-    → ((d h : ℕ) → (d == c) ≡ false → (k : Consumer) → WasConsumer (broker_of old) d h k → WasConsumer (broker_of new) d h k) → AllAreConsumers old before → LeaveLines new c before left → AllAreConsumers new left
-own_left old new c before left is stay own leave = own_after old new c before before left is stay own leave (λ place p i. inl i) (λ place. (own place).once)
+pub own_left : (old new : Kept) (o : Owner) (before left : List Waiters) → topology_kept new ≡ topology_kept old
+    → AllOthersStay o (broker_of old) (broker_of new) → AllAreConsumers old before → LeaveLines new o before left → AllAreConsumers new left
+own_left old new o before left is stay own leave = own_after old new o before before left is stay own leave (λ place p i. inl i) (λ place. (own place).once)
 
 -- and where one did
-pub own_came : (old new : Kept) (c : ℕ) (before after left : List Waiters) → topology_kept new ≡ topology_kept old
-    → ((d h : ℕ) → (d == c) ≡ false → (k : Consumer) → WasConsumer (broker_of old) d h k → WasConsumer (broker_of new) d h k) → AllAreConsumers old before → AllAddTheirOwn new before after
-    → LeaveLines new c after left → AllAreConsumers new left
-own_came old new c before after left is stay own adds leave = own_after old new c before after left is stay own leave (λ place. who_came new place (round_at before place) (round_at after place) (adds place))
+pub own_came : (old new : Kept) (o : Owner) (before after left : List Waiters) → topology_kept new ≡ topology_kept old
+    → AllOthersStay o (broker_of old) (broker_of new) → AllAreConsumers old before → AllAddTheirOwn new before after → LeaveLines new o after left → AllAreConsumers new left
+own_came old new o before after left is stay own adds leave = own_after old new o before after left is stay own leave (λ place. who_came new place (round_at before place) (round_at after place) (adds place))
     (λ place. comes_once new place (round_at before place) (round_at after place) (adds place) (own place).once)
 
 -- ---- what is listed
@@ -148,24 +180,23 @@ listed_joined kept old new adds own c h = record {
   once = adds.once c h (own c h).once;
 }
 
--- and where those of one connection leave that are gone, and those of others stay; one may have been listed before
-pub listed_left : (old new : Kept) (c : ℕ) (before after left : Lists) → topology_kept new ≡ topology_kept old
-    → ((d h : ℕ) → (d == c) ≡ false → (k : Consumer) → WasConsumer (broker_of old) d h k → WasConsumer (broker_of new) d h k) → AllListedAreThere old before → ListsItsOwn new before after
-    → ListingsLeave new c after left → AllListedAreThere new left
-listed_left old new c before after left is stay own adds leave d h = record {
+-- and where those of one owner leave that are gone, and those of others stay; one may have been listed before
+pub listed_left : (old new : Kept) (o : Owner) (before after left : Lists) → topology_kept new ≡ topology_kept old
+    → AllOthersStay o (broker_of old) (broker_of new) → AllListedAreThere old before → ListsItsOwn new before after → ListingsLeave new o after left → AllListedAreThere new left
+listed_left old new o before after left is stay own adds leave d h = record {
   there = λ l i. elim (adds.came d h l (leave.left d h l i).0) [
-    | inl was ↦ go l (leave.left d h l i).1 (d == c) refl ((own d h).there l was)
+    | inl was ↦ go l (leave.left d h l i).1 (owns o d h) refl ((own d h).there l was)
     | inr its ↦ its
   ];
   once = leave.once d h (adds.once d h (own d h).once);
 }
   where
-    go : (l : Listing) → ((d == c) ≡ true → is_listed_there new l ≡ true) → (v : Bool) → (d == c) ≡ v → IsItsOwn old d h l → IsItsOwn new d h l
+    go : (l : Listing) → (owns o d h ≡ true → is_listed_there new l ≡ true) → (v : Bool) → owns o d h ≡ v → IsItsOwn old d h l → IsItsOwn new d h l
     go l there true here its = record { connection = its.connection; channel = its.channel; there = there here }
     go l there false far its = record {
       connection = its.connection;
       channel = its.channel;
-      there = of_stays old new l.queue l.consumer is (stay l.consumer.connection l.consumer.channel (ap (λ (n : ℕ). n == c) its.connection ∙ far)) its.there;
+      there = of_stays old new l.queue l.consumer is (stay l.consumer.connection l.consumer.channel (ap (λ (n : ℕ). owns o n l.consumer.channel) its.connection ∙ ap (owns o d) its.channel ∙ far)) its.there;
     }
 
 -- nobody need be listed more

@@ -1,15 +1,15 @@
 -- What a step leaves.
-use Rattle.broker.proofs.Names.{◌∙◌, ◌++◌, ℕ, List, [], ◌∷◌, true, false, Option, Some, None, length, inl, inr, refl, sym, ap, subst, ◌==◌, IfSome, Broker, Acts, IsIn, Event, Send, Note, WasConsumer, ConsumersAreMade, connection_of_event, AllRunStill, AllConsumersStay, ReportsEnd, Kept, consumer_to_make, IsConsumed, Ends, Pick, Rounds, Waiters, Lists, KeepsIn, KeepLists, round_at, listing, is_of, wakes, IsServing, AllRun, AllAreConsumers, AllListedAreThere, SameListed, ListsItsOwn, ListsItsWaiters, ListingsLeave, HasJoined, AllAddTheirOwn, AllWaken, KeepsWaiters, KeepsAll, LeaveLines, ListsRunning, HasNoList, MakesNoList, NotesStay, IsExpected, WakesWaiter, GoesOn}
+use Rattle.broker.proofs.Names.{◌∙◌, ◌++◌, ℕ, List, [], ◌∷◌, true, Option, Some, None, length, inl, inr, refl, sym, ap, subst, IfSome, Broker, Acts, IsIn, Event, Send, Note, ConsumersAreMade, AllRunStill, AllConsumersStay, ReportsEnd, Kept, consumer_to_make, IsConsumed, Ends, Owner, Pick, Rounds, Waiters, Lists, KeepsIn, KeepLists, round_at, listing, is_of, wakes, IsServing, AllRun, AllAreConsumers, AllListedAreThere, SameListed, ListsItsOwn, ListsItsWaiters, ListingsLeave, HasJoined, AllAddTheirOwn, AllWaken, KeepsWaiters, KeepsAll, LeaveLines, ListsRunning, HasNoList, MakesNoList, NotesStay, IsExpected, WakesWaiter, GoesOn}
 use Rattle.std.proofs.Common.{◌≡◌}
-use Rattle.model.specs.Broker.{Consumer}
 use Rattle.commands.specs.State.{broker_of, topology_kept}
 use Rattle.commands.specs.declared.acted.Ends.TheVariants as ended
 use Rattle.broker.specs.declared.rounds.waiters.Newcomer.{Newcomer}
 use Rattle.broker.proofs.Outcomes.{some_holds}
 use Rattle.broker.proofs.Joined.{StayAgreed, Holds, holds, serves, serves_kept, serves_next, running_still, running_but, notes_keep, keeps_all}
+use Rattle.broker.proofs.Leaving.{owned}
 use Rattle.broker.proofs.Orders.{goes_then}
 use Rattle.broker.proofs.Sleeping.{joined_kept}
-use Rattle.broker.proofs.Staying.{others_stay, its_connection, who_came, own_same, own_joined, own_stays, own_came, listed_stays, listed_same, listed_joined, listed_left}
+use Rattle.broker.proofs.Staying.{AllOthersStay, who_came, own_same, own_joined, own_stays, own_came, listed_stays, listed_same, listed_joined, listed_left}
 use Rattle.broker.proofs.Takers.{of_has}
 use Rattle.broker.proofs.Turning.{GoRound, round_joined}
 
@@ -84,9 +84,9 @@ module _ (old : Kept) (before woken ready : Rounds) (e : Event) (serving : IsSer
         (λ place p wants has. (wakens place).awake p (wake p wants (broker_of old) place (serving.joined place p has))) topology has_joined stays notes_stay len held_on
 
     -- each waiter is listed under its connection
-    pub lists_waiters : (c : ℕ) → AllAddTheirOwn new ready.rounds after.rounds → ListsItsWaiters c after
-    lists_waiters c adds = record {
-      own = λ l i. elim (lists_own.came c i.0 l i.1) [ inl was ↦ ((listed_on c i.0).there l was).connection | inr its ↦ its.connection ];
+    pub lists_waiters : (o : Owner) → AllAddTheirOwn new ready.rounds after.rounds → ListsItsWaiters o after
+    lists_waiters o adds = record {
+      own = λ l i. elim (lists_own.came o.connection i.0 l i.2) [ inl was ↦ owned old o i.0 l i.1 ((listed_on o.connection i.0).there l was) | inr its ↦ owned new o i.0 l i.1 its ];
       noted = λ place p i its. elim (who_came new place (round_at ready.rounds place) (round_at after.rounds place) (adds place) p i) [
         | inl was ↦ notes_stay (listing place p) (held_on.noted place p (of_has old place p ((own_on place).there p was)))
         | inr has ↦ held_then.noted place p (of_has new place p has)
@@ -104,23 +104,20 @@ module _ (old : Kept) (before woken ready : Rounds) (e : Event) (serving : IsSer
           (listed_joined new ready.lists after.lists lists_own (listed_stays old new ready.lists topology stay_there listed_on))
 
     -- where something did, and what it took with it leaves
-    module _ (c : ℕ) (its : c ≡ connection_of_event e) (left : Rounds) (adds : AllAddTheirOwn new ready.rounds after.rounds) (leave : LeaveLines new c after.rounds left.rounds) where
-      others : (d h : ℕ) → (d == c) ≡ false → (k : Consumer) → WasConsumer (broker_of old) d h k → WasConsumer (broker_of new) d h k
-      others d h far = others_stay (topology_kept old) (broker_of old) (broker_of new) e sends notes acts d h (subst (λ (n : ℕ). (d == n) ≡ false) (its ∙ its_connection e) far)
-
+    module _ (o : Owner) (others : AllOthersStay o (broker_of old) (broker_of new)) (left : Rounds) (adds : AllAddTheirOwn new ready.rounds after.rounds) (leave : LeaveLines new o after.rounds left.rounds) where
       pub own_left_then : AllAreConsumers new left.rounds
-      own_left_then = own_came old new c before.rounds after.rounds left.rounds topology others serving.own (adds_then new after adds) leave
+      own_left_then = own_came old new o before.rounds after.rounds left.rounds topology others serving.own (adds_then new after adds) leave
 
-      pub serving_left : (ends : Ends) → ReportsEnd c ends (broker_of old) (broker_of new) → KeepsWaiters new after left → KeepLists new after.lists left.lists → (ends ≡ ended.Connection → HasNoList left.lists c) → MakesNoList after.lists left.lists
-          → ListingsLeave new c after.lists left.lists → length left.rounds ≡ length after.rounds → IsServing new left
+      pub serving_left : (ends : Ends) → ReportsEnd o.connection ends (broker_of old) (broker_of new) → KeepsWaiters new after left → KeepLists new after.lists left.lists → (ends ≡ ended.Connection → HasNoList left.lists o.connection) → MakesNoList after.lists left.lists
+          → ListingsLeave new o after.lists left.lists → length left.rounds ≡ length after.rounds → IsServing new left
       serving_left ends tells keeps_there noted_there gone makes lists_leave long =
           serves new left (serves_kept new after left keeps_there noted_there.noted long held_then) (runs ends tells gone) own_left_then
-          (listed_left old new c ready.lists after.lists left.lists topology others listed_on lists_own lists_leave)
+          (listed_left old new o ready.lists after.lists left.lists topology others listed_on lists_own lists_leave)
         where
           made : MakesNoList ready.lists left.lists
           made d from = makes d (makes_none d from)
 
-          runs : (x : Ends) → ReportsEnd c x (broker_of old) (broker_of new) → (x ≡ ended.Connection → HasNoList left.lists c) → AllRun (broker_of new) left.lists
-          runs ended.Connection ends_it forgets = running_but (broker_of old) (broker_of new) ready.lists left.lists c ends_it.1 (λ from. forgets refl) made lists_on
+          runs : (x : Ends) → ReportsEnd o.connection x (broker_of old) (broker_of new) → (x ≡ ended.Connection → HasNoList left.lists o.connection) → AllRun (broker_of new) left.lists
+          runs ended.Connection ends_it forgets = running_but (broker_of old) (broker_of new) ready.lists left.lists o.connection ends_it.1 (λ from. forgets refl) made lists_on
           runs ended.Consumers runs_on forgets = running_still (broker_of old) (broker_of new) ready.lists left.lists runs_on made lists_on
           runs ended.Nothing runs_on forgets = running_still (broker_of old) (broker_of new) ready.lists left.lists runs_on made lists_on

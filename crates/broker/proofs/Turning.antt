@@ -1,5 +1,5 @@
 -- A broker with its rounds, as its callers see it: who is in the orders of its queues.
-use Rattle.broker.proofs.Names.{◌∙◌, ◌<◌, ◌≤◌, ◌++◌, ℕ, List, [], ◌∷◌, Bool, true, Option, length, filter, inl, inr, sym, ap, subst, arith, append-nil, filter-append, Topology, IsIn, queue_name, Kept, Pick, count_before, AllDistinct, Waiters, Rounds, round_at, order, is_consumer, takes_from, is_of, remains, HasConsumer, AllAreConsumers, AllAddTheirOwn, LeaveLines, SameOrders, GoesOn, IsServing, with_turn, line_at, count_before_at, AllInLine, WaitersAreConsumers, NobodyIsPutBack, NoneIsLater}
+use Rattle.broker.proofs.Names.{◌∙◌, ◌<◌, ◌≤◌, ◌++◌, ℕ, List, [], ◌∷◌, Bool, true, Option, length, filter, inl, inr, sym, ap, subst, arith, append-nil, filter-append, Topology, IsIn, queue_name, Kept, Owner, Pick, count_before, AllDistinct, Waiters, Rounds, round_at, order, is_consumer, takes_from, is_of, remains, HasConsumer, AllAreConsumers, AllAddTheirOwn, LeaveLines, SameOrders, GoesOn, IsServing, with_turn, line_at, count_before_at, AllInLine, WaitersAreConsumers, NobodyIsPutBack, NoneIsLater}
 use Rattle.std.proofs.Common.{◌≡◌}
 use Rattle.commands.specs.State.{broker_of, topology_kept}
 use Rattle.broker.proofs.Among.{one_consumer, same_consumer, stays}
@@ -55,10 +55,10 @@ round_joined kept old new adds place test its = elim (adds place) [
 ]
 
 -- and where others leave
-pub round_left : (kept : Kept) (c : ℕ) (old mid new : List Waiters) → GoRound kept old mid → LeaveLines kept c mid new → GoRound kept old new
-round_left kept c old mid new keeps left place test its =
+pub round_left : (kept : Kept) (o : Owner) (old mid new : List Waiters) → GoRound kept old mid → LeaveLines kept o mid new → GoRound kept old new
+round_left kept o old mid new keeps left place test its =
     let first = keeps place test its in
-    (first.0, ap (filter test) (left place) ∙ filter_twice test (remains kept place c) (order (round_at mid place)) (λ p e. of_remains kept place c p (its p e)) ∙ first.1)
+    (first.0, ap (filter test) (left place) ∙ filter_twice test (remains kept place o) (order (round_at mid place)) (λ p e. of_remains kept place o p (its p e)) ∙ first.1)
 
 -- where all who were there are gone round as before, nobody has more before it
 module _ (old new : Kept) (r s : Rounds) (x y : Option Pick) (is : topology_kept new ≡ topology_kept old) (held : Holds old r) (was : AllAreConsumers old r.rounds) (own : AllAreConsumers new s.rounds) (keeps : GoRound new r.rounds s.rounds) where

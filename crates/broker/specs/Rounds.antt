@@ -11,7 +11,7 @@ use Rattle.model.specs.Broker.{Consumer, Channel, Broker}
 use Rattle.model.specs.Agreement.{IsAgreed}
 use Rattle.model.specs.Settling.{Rises}
 use Rattle.model.specs.declared.events.Event.{Event}
-use Rattle.model.specs.declared.events.Event.TheVariants.{Command, Resume}
+use Rattle.model.specs.declared.events.Event.TheVariants.{Command, TooLarge, Resume}
 use Rattle.model.specs.declared.methods.Method.{Method}
 use Rattle.model.specs.declared.methods.Method.TheVariants.{BasicPublish, BasicGet}
 use Rattle.laws.specs.Consumers.{WasConsumer}
@@ -22,11 +22,15 @@ use Rattle.commands.specs.State.{Kept, broker_of, topology_kept}
 use Rattle.commands.specs.Picked.{IsPickFrom, CannotTake}
 use Rattle.commands.specs.NewConsumers.{consumer_to_make, IsConsumed}
 use Rattle.commands.specs.declared.picks.Pick.{Pick}
+use Rattle.commands.specs.declared.acted.Ends.{Ends}
+use Rattle.commands.specs.declared.acted.Ends.TheVariants.{Consumers}
+use Rattle.replies.specs.Sent.{connection_of_event}
 use Rattle.broker.specs.declared.rounds.finding.Found.{Found}
 use Rattle.broker.specs.declared.rounds.finding.Found.TheVariants.{Able, Unable, Over}
 use Rattle.broker.specs.declared.rounds.sleepers.leaving.Gone.{Gone}
 use Rattle.broker.specs.declared.rounds.sleepers.leaving.Gone.TheVariants.{Nobody, One, Several}
 use Rattle.broker.specs.declared.rounds.waiters.Newcomer.{Newcomer}
+use Rattle.broker.specs.declared.rounds.waiters.Owner.{Owner}
 use Rattle.broker.specs.declared.rounds.waiters.Waiter.{Waiter}
 use Rattle.broker.specs.Lines.{turned, IsPassed, AllDistinct}
 
@@ -113,9 +117,9 @@ takes_from b queue p = has_taker queue p.number (b.channel p.connection p.channe
 abbrev pub is_of : Kept → ℕ → Pick → Bool
 is_of kept queue p = nat_lt queue (length (topology_kept kept).queues) && takes_from (broker_of kept) (queue_name (topology_kept kept) queue) p
 
--- the waiter is consumer `p`'s
-abbrev pub is_waiter_of : Pick → Waiter → Bool
-is_waiter_of p s = is_consumer p s.pick
+-- the waiter at index `place`, if there is one, is not consumer `p`'s
+abbrev pub IsNotThere : Pick → List Waiter → ℕ → Type 0
+IsNotThere p waiters place = (d : Waiter) → place < length waiters → is_consumer p (slice_index_or waiters place d).pick ≡ false
 
 -- consumer `p`'s waiter, awake
 abbrev pub awake_waiter : Pick → Waiter
@@ -412,30 +416,50 @@ pub record PicksFirst (kept : Kept) (old new : Rounds) (p : Pick) : Type 0 where
 
 -- ---- removing consumers
 
--- the consumer is of another connection than `c`, or exists and takes from the queue at this index
-abbrev pub remains : Kept → ℕ → ℕ → Pick → Bool
-remains kept queue c p = not (p.connection == c) || is_of kept queue p
+-- the channel is of this number; `None` is any channel
+abbrev pub is_number : Option ℕ → ℕ → Bool
+is_number None h = true
+is_number (Some number) h = h == number
 
--- the waiter's consumer is of another connection than `c`, or exists and takes from the queue at this index
-abbrev pub has_remained : Kept → ℕ → ℕ → Waiter → Bool
-has_remained kept queue c s = remains kept queue c s.pick
+-- channel `h` of connection `c` is the owner's
+abbrev pub owns : Owner → ℕ → ℕ → Bool
+owns o c h = (c == o.connection) && is_number o.channel h
+
+-- the channel that an event belongs to, if it is a command's or a publish's
+abbrev pub channel_of_event : Event → Option ℕ
+channel_of_event (Command c h m content) = Some h
+channel_of_event (TooLarge c h) = Some h
+channel_of_event e = None
+
+-- whose consumers may have ended after the event: only those of its channel, unless its connection ended or begins anew
+abbrev pub owner_of : Event → Ends → Owner
+owner_of e Consumers = record { connection = connection_of_event e; channel = channel_of_event e }
+owner_of e ends = record { connection = connection_of_event e; channel = None }
+
+-- the consumer is not the owner's, or exists and takes from the queue at this index
+abbrev pub remains : Kept → ℕ → Owner → Pick → Bool
+remains kept queue o p = not (owns o p.connection p.channel) || is_of kept queue p
+
+-- the waiter's consumer is not the owner's, or exists and takes from the queue at this index
+abbrev pub has_remained : Kept → ℕ → Owner → Waiter → Bool
+has_remained kept queue o s = remains kept queue o s.pick
 
 -- the waiters whose consumer does not remain (`remains`) are removed from the round, and the order of the rest is unchanged
-abbrev pub LeaveLine : Kept → ℕ → ℕ → Waiters → Waiters → Type 0
-LeaveLine kept queue c old new = order new ≡ filter (remains kept queue c) (order old)
+abbrev pub LeaveLine : Kept → ℕ → Owner → Waiters → Waiters → Type 0
+LeaveLine kept queue o old new = order new ≡ filter (remains kept queue o) (order old)
 
 -- the waiters whose consumer does not remain are removed from each round, and the order of the rest is unchanged
-abbrev pub LeaveLines : Kept → ℕ → List Waiters → List Waiters → Type 0
-LeaveLines kept c old new = (place : ℕ) → LeaveLine kept place c (round_at old place) (round_at new place)
+abbrev pub LeaveLines : Kept → Owner → List Waiters → List Waiters → Type 0
+LeaveLines kept o old new = (place : ℕ) → LeaveLine kept place o (round_at old place) (round_at new place)
 
 -- the waiters whose consumer does not remain are removed from the round at this index, or it is not in the set, and unchanged
-abbrev pub LeavesIfNamed : Kept → ℕ → List ℕ → List Waiters → List Waiters → ℕ → Type 0
-LeavesIfNamed kept c named old new place = LeaveLine kept place c (round_at old place) (round_at new place)
+abbrev pub LeavesIfNamed : Kept → Owner → List ℕ → List Waiters → List Waiters → ℕ → Type 0
+LeavesIfNamed kept o named old new place = LeaveLine kept place o (round_at old place) (round_at new place)
     ⊎ ((bit_of named place ≡ 1 → ⊥) × (round_at new place ≡ round_at old place))
 
 -- `LeavesIfNamed` of each round
-abbrev pub LeaveNamed : Kept → ℕ → List ℕ → List Waiters → List Waiters → Type 0
-LeaveNamed kept c named old new = (place : ℕ) → LeavesIfNamed kept c named old new place
+abbrev pub LeaveNamed : Kept → Owner → List ℕ → List Waiters → List Waiters → Type 0
+LeaveNamed kept o named old new = (place : ℕ) → LeavesIfNamed kept o named old new place
 
 -- each waiter of another consumer than `p` stays, awake or asleep as it is
 abbrev pub OthersStay : Pick → Waiters → Waiters → Type 0
@@ -451,18 +475,18 @@ pub record LosesWaiter (queue : ℕ) (p : Pick) (old new : List Waiters) : Type 
   pub round : LosesOne p (round_at old queue) (round_at new queue)
   pub others : (at : ℕ) → (at ≡ queue → ⊥) → round_at new at ≡ round_at old at
 
--- the listing is on some channel
-abbrev pub IsListedOnAny : List Listings → Listing → Type 0
-IsListedOnAny channels l = (h : ℕ) × IsIn l (listings_on channels h).all
+-- the listing is on this channel; `None` is any channel
+abbrev pub IsListedOnAny : Option ℕ → List Listings → Listing → Type 0
+IsListedOnAny channel channels l = (h : ℕ) × (is_number channel h ≡ true) × IsIn l (listings_on channels h).all
 
--- the listing is on some channel of connection `c`
-abbrev pub IsListedUnder : Lists → ℕ → Listing → Type 0
-IsListedUnder lists c l = (h : ℕ) × IsIn l (listed_on lists c h)
+-- the listing is on a channel of the owner
+abbrev pub IsListedUnder : Lists → Owner → Listing → Type 0
+IsListedUnder lists o l = (h : ℕ) × (is_number o.channel h ≡ true) × IsIn l (listed_on lists o.connection h)
 
--- Under connection `c` are listed only its own consumers, and each waiter of them is.
-pub record ListsItsWaiters (c : ℕ) (r : Rounds) : Type 0 where
-  pub own : (l : Listing) → IsListedUnder r.lists c l → l.consumer.connection ≡ c
-  pub noted : (place : ℕ) (p : Pick) → IsIn p (order (round_at r.rounds place)) → p.connection ≡ c → IsNoted r.lists (listing place p)
+-- On the owner's channels are listed only its own consumers, and each waiter of them is.
+pub record ListsItsWaiters (o : Owner) (r : Rounds) : Type 0 where
+  pub own : (l : Listing) → IsListedUnder r.lists o l → owns o l.consumer.connection l.consumer.channel ≡ true
+  pub noted : (place : ℕ) (p : Pick) → IsIn p (order (round_at r.rounds place)) → owns o p.connection p.channel ≡ true → IsNoted r.lists (listing place p)
 
 -- the listed consumer is the one that `gone` names; or, if several are gone, its queue is in the set, unless its index is not below `count`
 abbrev pub IsAmongGone : ℕ → Gone → List ℕ → Listing → Type 0
@@ -602,10 +626,10 @@ pub record ListsItsOwn (kept : Kept) (old new : Lists) : Type 0 where
   pub came : (c h : ℕ) (l : Listing) → IsIn l (listed_on new c h) → IsIn l (listed_on old c h) ⊎ IsItsOwn kept c h l
   pub once : ListOnce old new
 
--- No listing is added, and each listing of connection `c` that is left is of an existing consumer.
-pub record ListingsLeave (kept : Kept) (c : ℕ) (old new : Lists) : Type 0 where
+-- No listing is added, and each listing on the owner's channels that is left is of an existing consumer.
+pub record ListingsLeave (kept : Kept) (o : Owner) (old new : Lists) : Type 0 where
   pub left : (d h : ℕ) (l : Listing) → IsIn l (listed_on new d h)
-      → IsIn l (listed_on old d h) × ((d == c) ≡ true → is_listed_there kept l ≡ true)
+      → IsIn l (listed_on old d h) × (owns o d h ≡ true → is_listed_there kept l ≡ true)
   pub once : ListOnce old new
 
 -- a connection that isn't running and had no list still has none

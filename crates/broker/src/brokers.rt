@@ -2,8 +2,9 @@
 
 ghost use Rattle.std.specs.Prelude.{◌≡◌};
 ghost use Rattle.replies.specs.Sent.{connection_of_event};
+ghost use Rattle.broker.specs.Rounds.{channel_of_event, owner_of};
 
-use crate::rounds::ConsumerRounds;
+use crate::rounds::{ConsumerRounds, Owner};
 use crate::turns::turn_kept;
 use commands::{Core, Ends, Pick};
 use exchange_graph::Topology;
@@ -30,6 +31,30 @@ fn connection_of(event: &Event) -> u64
         | Event::Pause { connection }
         | Event::Resume { connection }
         | Event::Deliver { connection } => *connection,
+    }
+}
+
+/// Returns the channel that an event belongs to, if it is a command's or a publish's.
+fn channel_of(event: &Event) -> Option<u16>
+    ensures { result ≡ channel_of_event event.now }
+{
+    match event {
+        Event::Command { channel, .. } | Event::TooLarge { channel, .. } => Some(*channel),
+        _ => None,
+    }
+}
+
+/// Returns whose consumers may have ended after `event`: only those of its channel, unless its connection ended or begins anew.
+fn owner_of(event: &Event, ends: Ends) -> Owner
+    ensures { result ≡ owner_of event.now ends }
+{
+    let channel = match ends {
+        Ends::Consumers => channel_of(event),
+        _ => None,
+    };
+    Owner {
+        connection: connection_of(event),
+        channel,
     }
 }
 
@@ -136,8 +161,8 @@ impl Broker {
         match acted.ends {
             Ends::Nothing => Ok(acted.step),
             _ => {
-                self.rounds
-                    .leave(&self.core, connection_of(event), acted.ends);
+                let owner = owner_of(event, acted.ends);
+                self.rounds.leave(&self.core, owner, acted.ends);
                 Ok(acted.step)
             }
         }
@@ -229,7 +254,11 @@ impl Broker {
         brokers_stay_agreed();
         consumers_are_made();
         self.core.open(alloc, connection, channel_max, channels)?;
-        self.rounds.leave(&self.core, connection, Ends::Consumers);
+        let owner = Owner {
+            connection,
+            channel: None,
+        };
+        self.rounds.leave(&self.core, owner, Ends::Consumers);
         Ok(())
     }
 
@@ -243,7 +272,11 @@ impl Broker {
         brokers_stay_agreed();
         consumers_are_made();
         self.core.lose(connection);
-        self.rounds.leave(&self.core, connection, Ends::Connection);
+        let owner = Owner {
+            connection,
+            channel: None,
+        };
+        self.rounds.leave(&self.core, owner, Ends::Connection);
     }
 
     /// Records that the output of `connection` holds 1,048,576 bytes or more. Never allocates.

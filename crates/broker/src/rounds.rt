@@ -6,8 +6,8 @@
 //! message, the waiter falls asleep, and costs nothing until an event of its own channel, or the end of its connection's pause, wakes it.
 //! A command wakes the waiters that sleep on its channel, and looks at no other. Each waiter is listed at its channel when it is made, with
 //! a bit that says whether it sleeps, so that a pick never allocates. A waiter is removed with its consumer, and so is its listing: when
-//! consumers of a connection may have left, the connection's listings are checked, and no others. If several have left, the rounds of their
-//! queues are swept, each once.
+//! consumers of a channel may have left, the channel's listings are checked, and no others, and when a connection may have lost them all, those of
+//! the connection. If several have left, the rounds of their queues are swept, each once.
 
 mod finding;
 mod queue_rounds;
@@ -25,6 +25,7 @@ use crate::rounds::sleepers::{
     wake_connection,
 };
 use crate::rounds::waiters::Newcomer;
+pub(crate) use crate::rounds::waiters::Owner;
 use commands::{Core, Ends, Pick};
 use model::{Event, Method};
 use std::alloc::{AllocError, Global};
@@ -153,27 +154,27 @@ impl ConsumerRounds {
         }
     }
 
-    /// Removes the waiters and the listings of those consumers of `connection` that are gone, and all its lists if it is no longer running. The
-    /// order of the others is unchanged. Looks at no other connection's listings. Never allocates.
-    pub fn leave(&mut self, core: &Core, connection: u64, ends: Ends)
-        requires ended { ends ≡ ended.Connection → (broker_of core.now).connection connection ≡ None }
-        requires listed { ListsItsWaiters connection self.old }
+    /// Removes the waiters and the listings of those consumers of `owner` that are gone, and all lists of its connection if that is no longer
+    /// running. The order of the others is unchanged. Looks at no other listings. Never allocates.
+    pub fn leave(&mut self, core: &Core, owner: Owner, ends: Ends)
+        requires ended { ends ≡ ended.Connection → (broker_of core.now).connection owner.connection ≡ None }
+        requires listed { ListsItsWaiters owner self.old }
         // The waiters and listings of existing consumers stay.
         ensures kept { KeepsWaiters core.now self.old self.new }
         ensures noted { KeepLists core.now self.old.lists self.new.lists }
-        // The listings of those consumers of this connection that are gone are removed.
-        ensures left { ListingsLeave core.now connection self.old.lists self.new.lists }
-        ensures gone { ends ≡ ended.Connection → HasNoList self.new.lists connection }
+        // The listings of those consumers of the owner that are gone are removed.
+        ensures left { ListingsLeave core.now owner self.old.lists self.new.lists }
+        ensures gone { ends ≡ ended.Connection → HasNoList self.new.lists owner.connection }
         // The frame.
         ensures none { MakesNoList self.old.lists self.new.lists }
-        ensures lines { LeaveLines core.now connection self.old.rounds self.new.rounds }
+        ensures lines { LeaveLines core.now owner self.old.rounds self.new.rounds }
         ensures len { length self.new.rounds ≡ length self.old.rounds }
         ensures next { self.new.next ≡ self.old.next }
     {
-        self.rounds.leave(&self.sleepers, core, connection);
+        self.rounds.leave(&self.sleepers, core, owner);
         match ends {
-            Ends::Connection => forget_connection(&mut self.sleepers, connection),
-            _ => leave_lists(&mut self.sleepers, core, connection),
+            Ends::Connection => forget_connection(&mut self.sleepers, owner.connection),
+            _ => leave_lists(&mut self.sleepers, core, owner),
         }
     }
 

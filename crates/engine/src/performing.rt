@@ -10,7 +10,7 @@ ghost use Rattle.broker.specs.Turns.{topology_kept, broker_of};
 ghost use Rattle.broker.specs.Waiting.{NobodyIsPutBack, NoneIsLater};
 ghost use Rattle.engine.specs.Performing.{IsAskedBy, session_after, AnswersByPhase, IsAnswerTo, PausesOr, PerformsByPhase};
 ghost use Rattle.engine.specs.Allocating.{brings_message as brings, AreWithin, room_wanted};
-ghost use Rattle.outputs.specs.Storages.{IsReleased, IsWhole};
+ghost use Rattle.outputs.specs.Storages.{AreAtMost, IsReleased, IsWhole};
 
 use crate::reserve::{self, hold_for};
 use broker::{Broker, Step};
@@ -128,9 +128,10 @@ pub(crate) fn perform(
     ensures topology { topology_kept broker.new ≡ topology_kept broker.old }
     ensures turn { broker.new.turn ≡ broker.old.turn }
     ensures later { OnOk result (NobodyIsPutBack broker.old broker.new) }
-    // The reserve: a publish needs it whole, anything else fails only after it was freed.
+    // The reserve: a publish needs it whole, and fails only if nothing is spare beyond it; anything else fails only after it was freed.
     ensures whole { OnOk result (brings event.now ≡ true → IsWhole spares.new) }
     ensures last { OnErr result (brings event.now ≡ false → IsReleased spares.new) }
+    ensures spare { OnErr result (AreAtMost 16 8 spares.new) }
     ensures kept { brings event.now ≡ false → 3 < spares.new.contents → spares.new ≡ spares.old }
 {
     hold_for(spares, event)?;

@@ -5,6 +5,7 @@ ghost use Rattle.model.specs.Commands.{IsCommand};
 ghost use Rattle.model.specs.Arrivals.{event_of as event_of_command, SameToCome};
 ghost use Rattle.model.specs.declared.events.Event.TheVariants as happens;
 ghost use Rattle.assembly.specs.Held.{stream_of};
+ghost use Rattle.outputs.specs.Storages.{AreAtMost};
 ghost use Rattle.engine.specs.Reading.{IsKeptEvent, ComesNext, HasMore, kept_of, kept_for};
 
 use crate::reserve::next;
@@ -14,8 +15,8 @@ use outputs::Spares;
 use std::alloc::AllocError;
 
 /// Reads the next event of connection `number` into `kept`, unless one is pending: the next command in its bytes, or the fault that they
-/// end in. Frees the reserve only if at most `allowance` bytes are unread. Fails only if an allocation fails; nothing is pending then, and
-/// the same event comes next.
+/// end in. Frees the reserve only if at most `allowance` bytes are unread. Fails only if an allocation fails while nothing is spare beyond the
+/// reserve; nothing is pending then, and the same event comes next.
 pub(crate) fn read_next(
     number: u64,
     spares: &mut Spares,
@@ -28,6 +29,7 @@ pub(crate) fn read_next(
     ensures err { OnErr result (SameToCome (kept_of kept.old) (stream_of stream.old) None (stream_of stream.new)) }
     ensures wants { OnErr result (HasMore (kept_of kept.old) (stream_of stream.old)) }
     ensures none { OnErr result (kept.new ≡ None) }
+    ensures spare { OnErr result (AreAtMost 16 8 spares.new) }
 {
     if kept.is_some() {
         return Ok(());

@@ -1,14 +1,16 @@
 //! Calls that retry with the memory of the reserve.
 //!
-//! The spare storages of the outputs are the reserve. If an allocation fails, they are freed, and the call is made again. Only a publish leaves them
-//! alone: it brings a message in, and is performed only while the reserve is whole. Reading frees them only while the connection's unread bytes are
-//! within its allowance: so publishers that keep sending don't take the memory that others need to empty their queues.
+//! The spare storages of the outputs are the reserve, 16 small and 8 large ones, and what is spare beyond it. If an allocation fails, they are freed,
+//! and the call is made again. A publish brings a message in: it is performed only while the reserve is whole, and frees only what is spare beyond it.
+//! So does reading, once a connection has more unread bytes than its allowance: publishers that keep sending don't take the memory that others need to
+//! empty their queues, and what a burst of deliveries left spare is theirs.
 
-ghost use Rattle.std.specs.Prelude.{◌≡◌, ◌≤◌, ◌<◌, ◌+◌, if◌then◌else◌, [], None, IsOk, IfOk, OnOk, OnErr, length, true, false};
+ghost use Rattle.std.specs.Prelude.{◌≡◌, ◌≤◌, ◌<◌, ◌+◌, if◌then◌else◌, [], None, IsOk, IfErr, IfOk, OnOk, OnErr, length, true, false};
 ghost use Rattle.model.specs.Commands.{heard};
 ghost use Rattle.model.specs.Sending.{AreOwn};
 ghost use Rattle.model.specs.Step.{Acts};
 ghost use Rattle.assembly.specs.Held.{stream_of};
+ghost use Rattle.assembly.specs.declared.faults.Fault.TheVariants as fault;
 ghost use Rattle.assembly.specs.Onward.{YieldsNext, broken_by};
 ghost use Rattle.broker.specs.Turns.{topology_kept, broker_of, AddressesTo};
 ghost use Rattle.broker.specs.Waiting.{NobodyIsPutBack, NoneIsLater, ServesSoon};
@@ -17,7 +19,7 @@ ghost use Rattle.commands.specs.Picked.{IsPick, DeliversTo};
 ghost use Rattle.commands.specs.Steps.{AddressesOwn};
 ghost use Rattle.engine.specs.Performing.{AnswersByPhase, IsAskedBy};
 ghost use Rattle.engine.specs.Allocating.{brings_message as brings, allowance_after as allowed, room_wanted as wants, KeepsLarge};
-ghost use Rattle.outputs.specs.Storages.{IsReleased, IsWhole, room_of, spare_for};
+ghost use Rattle.outputs.specs.Storages.{AreAtMost, IsReleased, IsWhole, KeepsReserve, room_of, spare_for};
 ghost use Rattle.outputs.specs.declared.room.Room.TheVariants as room;
 
 use crate::performing;
@@ -65,30 +67,57 @@ fn brings_message(event: &Event) -> bool
     )
 }
 
-/// Makes the reserve whole, unless `event` is a command without a content. Fails only if an allocation fails.
+/// Makes the reserve whole if `event` is a command with a content. Fails only if an allocation fails, and nothing is spare beyond the reserve then.
 pub(crate) fn hold_for(spares: &mut Spares, event: &Event) -> Result<(), AllocError>
     ensures whole { OnOk result (brings event.now ≡ true → IsWhole spares.new) }
     ensures only { OnErr result (brings event.now ≡ true) }
+    ensures spare { OnErr result (AreAtMost 16 8 spares.new) }
     ensures other { brings event.now ≡ false → spares.new ≡ spares.old }
 {
     if brings_message(event) {
-        return spares.hold();
+        return make_whole(spares);
     }
     Ok(())
 }
 
-/// Frees the reserve, so that `event` can be tried again. Fails exactly if `event` is a command with a content, and changes nothing then.
-fn release_for(spares: &mut Spares, event: &Event) -> Result<(), AllocError>
-    ensures left { OnOk result (IsReleased spares.new) }
-    ensures other { OnOk result (brings event.now ≡ false) }
-    ensures only { OnErr result (brings event.now ≡ true) }
-    ensures same { OnErr result (spares.new ≡ spares.old) }
+/// Makes the reserve whole, if necessary with the memory of what is spare beyond it. If that fails, nothing is spare beyond the reserve.
+fn make_whole(spares: &mut Spares) -> Result<(), AllocError>
+    ensures whole { OnOk result (IsWhole spares.new) }
+    ensures spare { OnErr result (AreAtMost 16 8 spares.new) }
+{
+    match spares.hold() {
+        Err(_) => {
+            spares.trim();
+            spares.hold()
+        }
+        held => held,
+    }
+}
+
+/// Frees spare storages so that `event` can be tried again: for a command with a content what is spare beyond the reserve, otherwise the reserve too.
+fn release_for(spares: &mut Spares, event: &Event)
+    ensures left { brings event.now ≡ false → IsReleased spares.new }
+    ensures spare { AreAtMost 16 8 spares.new }
+    ensures keeps { brings event.now ≡ true → KeepsReserve spares.old spares.new }
 {
     if brings_message(event) {
-        return Err(AllocError);
+        spares.trim();
+    } else {
+        spares.release();
     }
-    spares.release();
-    Ok(())
+}
+
+/// Frees the reserve if `is_little`, and otherwise only what is spare beyond it.
+fn release_if(spares: &mut Spares, is_little: bool)
+    ensures left { is_little ≡ true → IsReleased spares.new }
+    ensures spare { AreAtMost 16 8 spares.new }
+    ensures keeps { is_little ≡ false → KeepsReserve spares.old spares.new }
+{
+    if is_little {
+        spares.release();
+    } else {
+        spares.trim();
+    }
 }
 
 /// Returns whether `unread` and `more` bytes together are at most `allowance`.
@@ -102,8 +131,8 @@ fn is_within(unread: usize, more: usize, allowance: usize) -> bool
     }
 }
 
-/// Appends `bytes` to the unread input of `stream`, if necessary with the memory of the reserve, which is freed only if at most `allowance`
-/// bytes are unread, `bytes` included. If it fails, `stream` is unchanged.
+/// Appends `bytes` to the unread input of `stream`, if necessary with the memory of spare storages. The reserve is freed only if at most
+/// `allowance` bytes are unread, `bytes` included. If it fails, `stream` is unchanged.
 pub(crate) fn feed(
     spares: &mut Spares,
     stream: &mut Stream,
@@ -114,22 +143,24 @@ pub(crate) fn feed(
     ensures err { OnErr result (stream.new ≡ stream.old) }
     ensures full { OnErr result (stream.old.room < length bytes.now) }
     ensures fault { stream.new.fault ≡ stream.old.fault }
-    // If the unread bytes, the new ones included, are within the allowance, the call fails only after the reserve was freed. Past the allowance
-    // the reserve is left alone.
+    // The call fails only after all that is spare beyond the reserve was freed, and the reserve too if the unread bytes, the new ones included, are
+    // within the allowance. Past the allowance the reserve is left alone.
     ensures last { OnErr result (length (stream_of stream.old).unread + length bytes.now ≤ allowance → IsReleased spares.new) }
-    ensures whole { allowance < length (stream_of stream.old).unread + length bytes.now → spares.new ≡ spares.old }
+    ensures spare { OnErr result (AreAtMost 16 8 spares.new) }
+    ensures whole { allowance < length (stream_of stream.old).unread + length bytes.now → KeepsReserve spares.old spares.new }
 {
     let is_little = is_within(stream.unread(), bytes.len(), allowance);
     match stream.feed(bytes) {
-        Err(_) if is_little => {
-            spares.release();
+        Err(_) => {
+            release_if(spares, is_little);
             stream.feed(bytes)
         }
         fed => fed,
     }
 }
 
-/// Reads the next command of `stream`, if necessary with the memory of the reserve, which is freed only if at most `allowance` bytes are unread.
+/// Reads the next command of `stream`, if necessary with the memory of spare storages. The reserve is freed only if at most `allowance` bytes are
+/// unread.
 pub(crate) fn next(
     spares: &mut Spares,
     stream: &mut Stream,
@@ -137,12 +168,14 @@ pub(crate) fn next(
 ) -> Result<Option<Command>, Fault>
     ensures yields { YieldsNext (stream_of stream.old) result (stream_of stream.new) }
     ensures keeps { stream.new.fault ≡ broken_by result }
-    ensures whole { allowance < length (stream_of stream.old).unread → spares.new ≡ spares.old }
+    // It fails for memory only after all that is spare beyond the reserve was freed.
+    ensures spare { IfErr result (λ e. e ≡ fault.Memory → AreAtMost 16 8 spares.new) }
+    ensures whole { allowance < length (stream_of stream.old).unread → KeepsReserve spares.old spares.new }
 {
-    let unread = stream.unread();
+    let is_little = stream.unread() <= allowance;
     match stream.next() {
-        Err(Fault::Memory) if unread <= allowance => {
-            spares.release();
+        Err(Fault::Memory) => {
+            release_if(spares, is_little);
             stream.next()
         }
         next => next,
@@ -231,8 +264,8 @@ pub(crate) fn pump(
     }
 }
 
-/// Performs `event`, if necessary with the memory of the reserve. If that fails, nothing has changed, and the reserve was freed. A
-/// command with a content leaves the reserve alone.
+/// Performs `event`, if necessary with the memory of spare storages. If that fails, nothing has changed, and the reserve was freed; for a
+/// command with a content only what is spare beyond it.
 pub(crate) fn step(
     alloc: Global,
     broker: &mut Broker,
@@ -247,23 +280,25 @@ pub(crate) fn step(
     ensures topology { topology_kept broker.new ≡ topology_kept broker.old }
     ensures turn { broker.new.turn ≡ broker.old.turn }
     ensures later { OnOk result (NobodyIsPutBack broker.old broker.new) }
-    // A failure changes nothing in the broker. A publish leaves the reserve alone; anything else fails only after it was freed.
+    // A failure changes nothing in the broker. A publish leaves the reserve alone, and fails only if nothing is spare beyond it; anything else
+    // fails only after it was freed.
     ensures err { OnErr result (broker.new ≡ broker.old) }
-    ensures whole { OnOk result (brings event.now ≡ true → spares.new ≡ spares.old) }
+    ensures whole { brings event.now ≡ true → KeepsReserve spares.old spares.new }
     ensures last { OnErr result (brings event.now ≡ false → IsReleased spares.new) }
-    ensures kept { 3 < spares.new.contents → spares.new ≡ spares.old }
+    ensures spare { OnErr result (AreAtMost 16 8 spares.new) }
+    ensures kept { brings event.now ≡ false → 3 < spares.new.contents → spares.new ≡ spares.old }
 {
     match broker.step(alloc, event) {
         Err(_) => {
-            release_for(spares, event)?;
+            release_for(spares, event);
             broker.step(alloc, event)
         }
         stepped => stepped,
     }
 }
 
-/// Answers an event of the connection `c`, which does not run, if necessary with the memory of the reserve. If that fails, nothing has
-/// changed, and the reserve was freed. A command with a content leaves the reserve alone.
+/// Answers an event of the connection `c`, which does not run, if necessary with the memory of spare storages. If that fails, nothing has
+/// changed, and the reserve was freed; for a command with a content only what is spare beyond it.
 pub(crate) fn by_phase(
     c: u64,
     alloc: Global,
@@ -284,14 +319,15 @@ pub(crate) fn by_phase(
     ensures topology { topology_kept broker.new ≡ topology_kept broker.old }
     ensures turn { broker.new.turn ≡ broker.old.turn }
     ensures later { OnOk result (NobodyIsPutBack broker.old broker.new) }
-    // The reserve: a publish leaves it alone; anything else fails only after it was freed.
-    ensures whole { OnOk result (brings event.now ≡ true → spares.new ≡ spares.old) }
+    // The reserve: a publish leaves it alone, and fails only if nothing is spare beyond it; anything else fails only after it was freed.
+    ensures whole { brings event.now ≡ true → KeepsReserve spares.old spares.new }
     ensures last { OnErr result (brings event.now ≡ false → IsReleased spares.new) }
-    ensures kept { 3 < spares.new.contents → spares.new ≡ spares.old }
+    ensures spare { OnErr result (AreAtMost 16 8 spares.new) }
+    ensures kept { brings event.now ≡ false → 3 < spares.new.contents → spares.new ≡ spares.old }
 {
     match performing::by_phase(c, alloc, users, broker, session, event) {
         Err(_) => {
-            release_for(spares, event)?;
+            release_for(spares, event);
             performing::by_phase(c, alloc, users, broker, session, event)
         }
         answered => answered,

@@ -100,10 +100,12 @@ fn do_next(
     // The frame.
     ensures topology { topology_kept broker.new ≡ topology_kept broker.old }
     ensures turn { broker.new.turn ≡ broker.old.turn }
-    // A publish leaves the reserve whole. Any other event fails only after the reserve was freed, and takes no large storage for a reply.
+    // A publish leaves the reserve whole, and fails only if at most one storage of each size is spare beyond it. Any other event fails only after the
+    // reserve was freed, and takes no large storage for a reply.
     ensures whole { OnOk result (IfSome connection.old.kept (λ e. brings e ≡ true → IsWhole spares.new)) }
     ensures after { OnOk result (IfSome connection.old.kept (λ e. connection.new.allowance ≡ allowance_after e)) }
     ensures last { OnErr result (IfSome connection.old.kept (λ e. brings e ≡ false → AreAtMost 9 3 spares.new)) }
+    ensures spare { OnErr result (AreAtMost 17 9 spares.new) }
     ensures large { OnOk result (IfSome connection.old.kept (λ e. KeepsLargeFor e connection.old.output.bytes spares.old spares.new)) }
 {
     let Some(event) = &connection.kept else {
@@ -210,6 +212,8 @@ pub(crate) fn turn_connection(
     // The storage of an empty output is freed.
     ensures idle { IfOk result (λ t. OnIdle t (HoldsNone connection.new.output)) }
     ensures refused { OnErr result (HoldsNone connection.new.output) }
+    // It fails only if at most one spare storage of each size is more than the reserve has.
+    ensures spare { OnErr result (AreAtMost 17 9 spares.new) }
     // The frame, and the order of consumers that wait.
     ensures kept { IsKeptEvent connection.new.number connection.new.kept connection.new.stream.fault }
     ensures number { connection.new.number ≡ connection.old.number }

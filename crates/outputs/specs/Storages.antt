@@ -70,6 +70,13 @@ pub record AreAtMost (replies contents : ℕ) (spares : SpareCounts) : Type 0 wh
 abbrev pub IsReleased : SpareCounts → Type 0
 IsReleased spares = AreAtMost (left_of Reply) (left_of Content) spares
 
+-- No storage of the reserve was freed: at most those that are more than it were.
+pub record KeepsReserve (old new : SpareCounts) : Type 0 where
+  pub replies_few : old.replies ≤ reserve_of Reply → new.replies ≡ old.replies
+  pub replies_many : reserve_of Reply ≤ old.replies → reserve_of Reply ≤ new.replies
+  pub contents_few : old.contents ≤ reserve_of Content → new.contents ≡ old.contents
+  pub contents_many : reserve_of Content ≤ old.contents → reserve_of Content ≤ new.contents
+
 -- A storage came back where `old` were spare. It is kept while at most 16 are; beyond 256, or for one that nobody took for long, one is freed.
 pub record ComesBack (old new : ℕ) : Type 0 where
   pub kept : old ≤ 16 → new ≡ old + 1

@@ -124,6 +124,16 @@ impl Pool {
         self.spares.truncate(self.kind.left());
     }
 
+    /// Frees the spare storages that are more than the reserve has.
+    pub(crate) fn trim(&mut self)
+        ensures most { self.new.count ≤ reserve_of self.old.kind }
+        ensures few { self.old.count ≤ reserve_of self.old.kind → self.new ≡ self.old }
+        ensures many { reserve_of self.old.kind ≤ self.old.count → reserve_of self.old.kind ≤ self.new.count }
+        ensures kind { self.new.kind ≡ self.old.kind }
+    {
+        self.spares.truncate(self.kind.reserve());
+    }
+
     /// Gives out the storage that came back last, if one is spare.
     pub(crate) fn take(&mut self) -> Option<Vec<u8>>
         ensures count { MatchOption result ((self.old.count ≡ 0) × (self.new.count ≡ 0)) (λ _. self.old.count ≡ self.new.count + 1) }

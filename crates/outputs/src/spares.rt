@@ -1,7 +1,7 @@
 //! Storages that no output holds: the reserve, and those of outputs that were emptied, for the next outputs that get bytes.
 
 ghost use Rattle.std.specs.Prelude.{◌≡◌, ◌≢◌, ◌≤◌, ◌<◌, ◌+◌, [], length, vec_capacity, IfOk, IsOk, OnOk, OnErr};
-ghost use Rattle.outputs.specs.Storages.{IsReleased, IsWhole, MovesBytes, TakesIn, room_of, spare_for, storage_of, without_one};
+ghost use Rattle.outputs.specs.Storages.{AreAtMost, IsReleased, IsWhole, KeepsReserve, MovesBytes, TakesIn, room_of, spare_for, storage_of, without_one};
 ghost use Rattle.outputs.specs.Waiting.{HoldsNone};
 
 use crate::Output;
@@ -65,6 +65,15 @@ impl Spares {
     {
         self.replies.release();
         self.contents.release();
+    }
+
+    /// Frees all spare storages that are more than the reserve has, 16 small and 8 large ones. The reserve itself stays.
+    pub fn trim(&mut self)
+        ensures most { AreAtMost 16 8 self.new }
+        ensures keeps { KeepsReserve self.old self.new }
+    {
+        self.replies.trim();
+        self.contents.trim();
     }
 
     /// Makes room in `output` for what `wanted` says. An output in which nothing waits gets a spare storage for that, or a new one if none

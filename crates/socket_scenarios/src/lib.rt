@@ -9,6 +9,7 @@ mod passed;
 mod patience;
 mod pieces;
 mod rests;
+mod shares;
 mod silent;
 
 use scenario_outcomes::{Sums, run_scenarios};
@@ -18,11 +19,12 @@ use std::io;
 pub fn run_all(sums: &mut Sums, rt: &HostRuntime) -> io::Result<()> {
     let alloc = rt.alloc();
     run_scenarios! { sums, rt;
+        shares::each_client_is_read_soon(alloc);
         silent::bytes_between_a_read_and_a_rest_are_told_by_it(rt, alloc);
         silent::a_full_read_is_followed_by_another(rt, alloc);
         silent::an_end_behind_the_last_bytes_is_read(rt, alloc);
         silent::a_rest_tells_of_one_among_many(rt, alloc);
-        silent::silent_sockets_are_asked_in_turn(rt, alloc);
+        silent::sockets_are_read_soon_without_a_rest(rt, alloc);
         passed::silent_sockets_are_passed_by_up_to_one_that_speaks(rt, alloc);
         passed::full_sockets_are_passed_by_up_to_one_with_room(rt, alloc);
         listening::sockets_listen_at_the_address_that_is_asked_for(rt, alloc);

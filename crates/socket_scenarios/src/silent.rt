@@ -11,8 +11,8 @@ use std::time::Duration;
 /// The number of sockets at once: twice as many files are open, and a process may have 1,024.
 const MANY: usize = 400;
 
-/// The most silent sockets that a round asks.
-const ASKED_AT_MOST: u64 = 8;
+/// The rounds without a rest within which each socket that has something is read.
+const SOON: u32 = 16;
 
 /// The number of writes that surely fill a socket that nobody reads, however much the system buffers.
 const MOST_WRITES: u32 = 100_000;
@@ -115,14 +115,15 @@ fn bytes_of_a_rest(sockets: &mut Sockets, socket: u64) -> Result<usize, Unmet> {
     Err(Unmet::Claim("a rest reports what came before it"))
 }
 
-/// Bytes that come between a read that emptied a socket and a rest are not asked for in the next round, and the rest reports
-/// them.
+/// Bytes that come between a read that emptied a socket and a rest are not asked for in the round after that read, if a rest came just before it, and
+/// the next rest reports them.
 pub(crate) fn bytes_between_a_read_and_a_rest_are_told_by_it<N: Net>(
     net: &N,
     alloc: Global,
 ) -> Result<(), Unmet> {
     let mut sockets = listening(net, alloc)?;
     let (mut client, socket) = met(net, &mut sockets)?;
+    sockets.rest();
     for _ in 0..3 {
         value_of("write_all", client.write_all(b"one"))?;
         expect_got(&mut sockets, socket, 3)?;
@@ -228,8 +229,8 @@ pub(crate) fn a_rest_tells_of_one_among_many<N: Net>(net: &N, alloc: Global) -> 
     Ok(())
 }
 
-/// If no round rests, silent sockets are asked in turn, few in each round, and each that has something gives it.
-pub(crate) fn silent_sockets_are_asked_in_turn<N: Net>(
+/// If no round rests, each socket that has something gives it soon.
+pub(crate) fn sockets_are_read_soon_without_a_rest<N: Net>(
     net: &N,
     alloc: Global,
 ) -> Result<(), Unmet> {
@@ -239,15 +240,10 @@ pub(crate) fn silent_sockets_are_asked_in_turn<N: Net>(
         value_of("write_all", client.write_all(b"one"))?;
     }
     let mut given = 0u64;
-    for _ in 0..PATIENCE {
-        let count = speaking(&mut sockets, clients.as_slice());
-        expect("a round asks few of them", count <= ASKED_AT_MOST)?;
-        given = given.saturating_add(count);
-        if given == MANY as u64 {
-            return Ok(());
-        }
+    for _ in 0..SOON {
+        given = given.saturating_add(speaking(&mut sockets, clients.as_slice()));
     }
-    Err(Unmet::Claim("each of them is asked"))
+    expect_number("the number of sockets that were read", given, MANY as u64)
 }
 
 /// Writes until a socket takes less than it is offered, and returns how many bytes it took.

@@ -3,9 +3,8 @@
 
 mod answers;
 mod counts;
-mod loud;
+mod rounds;
 mod sockets;
-mod turns;
 mod watch;
 
 pub use counts::Totals;

@@ -11,8 +11,7 @@ use crate::answers::{is_later, read_answer, write_answer};
 use crate::counts::{
     Count, PLACES, Totals, count_accept, count_read, count_write, place_in, totals_at,
 };
-use crate::loud::{LoudSlots, UNKNOWN, is_known};
-use crate::turns::{Rounds, Voice};
+use crate::rounds::Rounds;
 use crate::watch::Watch;
 use mio::event::Event;
 use mio::net::{TcpListener, TcpStream};
@@ -24,6 +23,7 @@ use std::io::{self, Read as _, Write as _};
 use std::net::{Net, SocketAddr};
 use std::rt::HostRuntime;
 use std::time::{Duration, Instant};
+use turns::Turns;
 
 /// The token of the listening socket. The token of an accepted socket is its name, which is less.
 const LISTENER: Token = Token(usize::MAX);
@@ -34,7 +34,13 @@ const MOST_GIVEN: u64 = u64::MAX / PLACES - 1;
 /// The seconds that a client has to log in, and to answer a close.
 const PATIENCE: u64 = 30;
 
-/// The most events of a rest: as many as a server has connections, and one for the listening socket.
+/// A read that gets so many bytes is taken for a part of a large content: a server offers them only where its share of commands takes more.
+const LARGEST: usize = 65_536;
+
+/// The most milliseconds that a rest lasts.
+const LONGEST_REST: u64 = 100;
+
+/// The most events of a fetch: as many as a server has connections, and one for the listening socket.
 const MOST_EVENTS: usize = 1025;
 
 /// A socket that was accepted.
@@ -44,13 +50,10 @@ struct Accepted {
     /// same index has another name.
     name: u64,
     stream: TcpStream,
-    voice: Voice,
     /// The turn since which a write waits for room, if one does.
     full: Option<u64>,
     /// Whether it was full and an event has reported room since.
     has_room: bool,
-    /// The slot of its connection, or `UNKNOWN`.
-    slot: usize,
     /// When its reads and writes begin to fail, unless its connection runs: by then the connection has to run, or to be over with all output written.
     ends: Option<Instant>,
     /// Whether its connection is not running.
@@ -58,9 +61,9 @@ struct Accepted {
 }
 
 /// The sockets of a server: one that listens, and those that it accepted, with names that are never used again. None blocks
-/// except in `rest`, which waits at most 100 milliseconds for one of them to have something. A socket is silent if its last read didn't fill the
-/// buffer, and full if its last write took less than it was offered: the system is asked about it again in its turn, or once an event of a rest
-/// names it.
+/// except in `rest`, which waits at most 100 milliseconds for one of them to have something. Which sockets the system is asked for bytes in a round
+/// is decided by crate `turns`. A socket is full if its last write took less than it was offered: the system is asked about it again in its turn, or
+/// once an event names it.
 #[derive(Drop)]
 pub struct Sockets {
     listener: TcpListener,
@@ -70,28 +73,17 @@ pub struct Sockets {
     accepted: Slab<Accepted>,
     /// The number of sockets that were accepted and kept.
     given: u64,
-    /// Decides which sockets the system is asked about in a round.
+    /// Numbers the rounds, and decides which full sockets are asked for a write.
     rounds: Rounds,
+    /// Decides which sockets are asked for bytes, by the index in their names.
+    turns: Turns,
     /// The clock by which sockets are ended.
     watch: Watch,
-    /// Whether a client may be waiting to be accepted.
-    voice: Voice,
-    /// The slots whose sockets are asked for a read in every round.
-    loud: LoudSlots,
+    /// Whether an event named the listening socket, so that a client may be waiting to be accepted.
+    is_called: bool,
     failures: u64,
     /// The bytes that each socket gave and took, by the index in their names.
     counts: Vec<Option<Count>>,
-}
-
-/// Returns the voice of a socket after an event; it was `voice` before.
-fn heard(event: &Event, voice: Voice) -> Voice {
-    if event.is_read_closed() || event.is_error() {
-        Voice::Ending
-    } else if event.is_readable() {
-        Voice::Speaking
-    } else {
-        voice
-    }
 }
 
 /// Returns whether a full socket is written to again after `event`: it has room, or it was closed or failed, which the write then reports.
@@ -99,49 +91,37 @@ fn has_room(event: &Event) -> bool {
     event.is_writable() || event.is_write_closed() || event.is_error()
 }
 
-/// Records at the slot of a socket whether it is asked for a read in every round: if it isn't silent, or may have to be ended.
-fn note(loud: &mut LoudSlots, accepted: &Accepted) {
-    let is_silent = matches!(accepted.voice, Voice::Silent(_)) && accepted.ends.is_none();
-    loud.put(accepted.slot, !is_silent);
-}
-
-/// Records whether the connection of a socket is not running (`is_stranger`), and when the socket's time `ends`. A greedy socket leaves the cycle
-/// that it was in.
-fn begin_anew(
-    loud: &mut LoudSlots,
-    accepted: &mut Accepted,
-    ends: Option<Instant>,
-    is_stranger: bool,
-) {
-    accepted.ends = ends;
-    accepted.is_stranger = is_stranger;
-    if matches!(accepted.voice, Voice::Greedy(_)) {
-        accepted.voice = Voice::Speaking;
-    }
-    note(loud, accepted);
-}
-
-/// Records the slot of a socket, if that was not known.
-fn learn_slot(loud: &mut LoudSlots, accepted: &mut Accepted, slot: usize) {
-    if !is_known(accepted.slot) && is_known(slot) {
-        accepted.slot = slot;
-        loud.remove_unknown();
-        note(loud, accepted);
+/// Records what an event says of the socket with this index: that its peer has ended it, or that it has something.
+fn hear_event(turns: &mut Turns, index: usize, event: &Event) {
+    if event.is_read_closed() || event.is_error() {
+        turns.end(index);
+    } else if event.is_readable() {
+        turns.speak(index);
     }
 }
 
-/// Returns the first slot at or after `from` that is free: at most `end`.
-fn first_free(peers: &Slab<Peer>, from: usize, end: usize) -> usize
+/// Returns the first slot at or after `from` that is free, or whose socket has another index than the slot: at most `end`.
+fn first_other(peers: &Slab<Peer>, from: usize, end: usize) -> usize
     requires { from ≤ end }
     ensures least { from ≤ result }
     ensures most { result ≤ end }
     ensures taken { (i : ℕ) → from ≤ i → i < result → is_some (slice_index_or peers.now.slots i None) ≡ true }
 {
     let mut slot = from;
-    while slot < end && peers.get(slot).is_some() {
+    while slot < end && is_own(peers, slot) {
         slot += 1;
     }
     slot
+}
+
+/// Returns whether a slot is taken, by a socket whose index is the slot.
+fn is_own(peers: &Slab<Peer>, slot: usize) -> bool
+    ensures { result ≡ true → is_some (slice_index_or peers.now.slots slot None) ≡ true }
+{
+    match peers.get(slot) {
+        Some(peer) => place_in(peer.socket) == slot,
+        None => false,
+    }
 }
 
 /// Returns the socket with this name, if it is still there.
@@ -170,6 +150,7 @@ fn set_up(poll: &Poll, stream: &mut TcpStream, name: u64) -> io::Result<()> {
 impl Sockets {
     ghost use Rattle.std.specs.Prelude.{◌≡◌, ◌+◌, ◌≤◌, ◌<◌, ◌*◌, ℕ, List, Some, None, length, IfOk, IfSome, cond, is_some, slice_index_or, true};
     ghost use Rattle.std.specs.Duration.{as_nanos};
+    ghost use Rattle.turns.specs.Turns.{HasMore, voice_at};
     ghost use Rattle.sockets.specs.Traffic.{patience_of, seen, traffic_of};
 
     /// Listens at `address`.
@@ -184,9 +165,9 @@ impl Sockets {
             accepted: Slab::with_capacity(alloc, MOST_EVENTS)?,
             given: 0,
             rounds: Rounds::new(),
+            turns: Turns::new(alloc)?,
             watch: Watch::none(),
-            voice: Voice::Speaking,
-            loud: LoudSlots::new(alloc)?,
+            is_called: true,
             failures: 0,
             counts: vec![in alloc; None; PLACES as usize]?,
         })
@@ -251,23 +232,60 @@ impl Sockets {
         }
         let name = self.given * PLACES + place;
         set_up(&self.poll, &mut stream, name).ok()?;
+        let ends = self.watch.ends();
         let accepted = Accepted {
             name,
             stream,
-            voice: Voice::Speaking,
             full: None,
             has_room: false,
-            slot: UNKNOWN,
-            ends: self.watch.ends(),
+            ends,
             is_stranger: true,
         };
         self.accepted.insert_reserved(accepted);
-        self.loud.add_unknown();
+        self.turns.enter(place as usize);
+        self.turns.watch(place as usize, ends.is_some());
         self.given += 1;
         Some(name)
     }
 
-    /// Begins a round. Accepts a socket, unless it is known that no client waits.
+    /// Returns the most milliseconds that a rest lasts: 0 while a socket waits that has more.
+    fn longest_rest(&self) -> u64
+        ensures most { result ≤ 100 }
+        ensures pressed { (i : ℕ) → HasMore (voice_at self.now.turns.voices i) → result ≡ 0 }
+    {
+        if self.turns.is_pressed() {
+            0
+        } else {
+            LONGEST_REST
+        }
+    }
+
+    /// Begins a round, and fetches events first if none were fetched for long.
+    fn begin(&mut self)
+        ensures failures { self.new.failures ≡ self.old.failures }
+        ensures counts { self.new.counts ≡ self.old.counts }
+        ensures given { self.new.given ≡ self.old.given }
+    {
+        if self.rounds.fetches(self.turns.is_pressed()) {
+            self.fetch(0);
+        }
+        self.rounds.begin();
+        self.turns.begin(self.rounds.number());
+        self.watch.look();
+    }
+
+    /// Fetches the events of all sockets, and waits at most `millis` milliseconds for one.
+    fn fetch(&mut self, millis: u64)
+        ensures failures { self.new.failures ≡ self.old.failures }
+        ensures counts { self.new.counts ≡ self.old.counts }
+        ensures given { self.new.given ≡ self.old.given }
+    {
+        let longest = Duration::from_millis(millis);
+        let _ = self.poll.poll(&mut self.events, Some(longest));
+        self.hear();
+    }
+
+    /// Begins a round. Accepts a socket, unless no client is likely to wait.
     fn ask(&mut self) -> Accept
         ensures failures { self.new.failures ≡ self.old.failures + fails (accept_call result) }
         ensures counts { self.new.counts ≡ self.old.counts }
@@ -275,12 +293,10 @@ impl Sockets {
         ensures fresh { (s : ℕ) → result ≡ accept.Socket s → self.old.given * 4096 ≤ s }
         ensures named { (s : ℕ) → result ≡ accept.Socket s → s < self.new.given * 4096 }
     {
-        self.rounds.begin();
-        self.watch.look();
-        if !self.rounds.asks_read(self.voice, false) {
+        self.begin();
+        if !self.is_called && !self.rounds.accepts(self.turns.is_pressed()) {
             return Accept::Nothing;
         }
-        self.voice = Voice::Speaking;
         match self.listener.accept() {
             Ok((stream, _)) => match self.keep(stream) {
                 Some(name) => Accept::Socket(name),
@@ -288,7 +304,7 @@ impl Sockets {
                 None => Accept::Nothing,
             },
             Err(error) if is_later(&error) => {
-                self.voice = self.rounds.silent();
+                self.is_called = false;
                 Accept::Nothing
             }
             Err(_) if self.fail() => Accept::Failed,
@@ -335,62 +351,26 @@ impl Sockets {
         if self.watch.is_over(accepted.ends) {
             return self.failed_read();
         }
-        if !self.rounds.asks_read(accepted.voice, accepted.is_stranger) {
+        let index = place_in(socket);
+        if !self.turns.is_due(index) {
             return Read::Wait;
         }
         let room = buffer.len();
         match read_answer(accepted.stream.read(buffer), room) {
             Read::Got(count) => {
-                accepted.voice = self
-                    .rounds
-                    .after_read(accepted.voice, count < room, accepted.is_stranger);
-                note(&mut self.loud, accepted);
+                self.turns.hear(index, count >= room, accepted.is_stranger);
+                if count >= LARGEST {
+                    self.turns.note_part(index);
+                }
                 Read::Got(count)
             }
             Read::Wait => {
-                accepted.voice = self.rounds.silent();
-                note(&mut self.loud, accepted);
+                self.turns.fall_silent(index);
                 Read::Wait
             }
             Read::End => Read::End,
             Read::Failed => self.failed_read(),
         }
-    }
-
-    /// Returns whether a read of the socket in `slot` is answered with [`Read::Wait`] without asking the system: the socket is silent, it is not
-    /// its turn, and its connection runs.
-    fn waits(&mut self, peers: &Slab<Peer>, slot: usize) -> bool
-        ensures traffic { traffic_of self.new ≡ traffic_of self.old }
-        ensures taken { result ≡ true → is_some (slice_index_or peers.now.slots slot None) ≡ true }
-    {
-        let Some(peer) = peers.get(slot).copied() else {
-            return false;
-        };
-        let Some(found) = named(&mut self.accepted, peer.socket) else {
-            return false;
-        };
-        learn_slot(&mut self.loud, found, slot);
-        found.ends.is_none() && self.rounds.passes(found.voice)
-    }
-
-    /// Returns the first slot at or after `from` whose socket has to be asked, or `end` if there is none.
-    fn first_asked(&mut self, peers: &Slab<Peer>, from: usize, end: usize) -> usize
-        requires { from ≤ end }
-        // The frame: what the sockets know is unchanged.
-        ensures traffic { traffic_of self.new ≡ traffic_of self.old }
-        // The slots before the result are taken.
-        ensures least { from ≤ result }
-        ensures most { result ≤ end }
-        ensures taken { (i : ℕ) → from ≤ i → i < result → is_some (slice_index_or peers.now.slots i None) ≡ true }
-    {
-        if self.loud.are_known() && !self.rounds.takes_turn() {
-            return first_free(peers, from, self.loud.next(from, end));
-        }
-        let mut slot = from;
-        while slot < end && self.waits(peers, slot) {
-            slot += 1;
-        }
-        slot
     }
 
     /// Returns whether `slot` needs no write now: it is empty, or no event has reported room at its socket and the socket is not due in this round. A
@@ -453,7 +433,7 @@ impl Sockets {
         }
     }
 
-    /// Updates the sockets that the events of the last rest name, so that they are asked at once. If there was an event, records that the others have nothing.
+    /// Updates the sockets that the fetched events name, so that they are asked at once. If there was an event, records that the others have nothing.
     fn hear(&mut self)
         ensures failures { self.new.failures ≡ self.old.failures }
         ensures counts { self.new.counts ≡ self.old.counts }
@@ -461,10 +441,9 @@ impl Sockets {
     {
         for event in &self.events {
             if event.token() == LISTENER {
-                self.voice = Voice::Speaking;
+                self.is_called = true;
             } else if let Some(accepted) = named(&mut self.accepted, event.token().0 as u64) {
-                accepted.voice = heard(event, accepted.voice);
-                note(&mut self.loud, accepted);
+                hear_event(&mut self.turns, place_in(accepted.name), event);
                 if accepted.full.is_some() && has_room(event) {
                     accepted.full = None;
                     accepted.has_room = true;
@@ -472,9 +451,7 @@ impl Sockets {
                 }
             }
         }
-        if !self.events.is_empty() {
-            self.rounds.note_named();
-        }
+        self.rounds.note_fetched(!self.events.is_empty());
     }
 }
 
@@ -496,7 +473,7 @@ impl Wire for Sockets {
     }
 
     fn pass_silent(&mut self, peers: &Slab<Peer>, from: usize, end: usize) -> usize {
-        self.first_asked(peers, from, end)
+        first_other(peers, from, self.turns.next_due(from, end))
     }
 
     fn pass_full(&mut self, peers: &Slab<Peer>, from: usize, end: usize) -> usize {
@@ -510,28 +487,33 @@ impl Wire for Sockets {
     }
 
     fn close(&mut self, socket: u64) {
-        if let Some(accepted) = named(&mut self.accepted, socket) {
-            self.loud.forget(accepted.slot);
+        if named(&mut self.accepted, socket).is_some() {
+            self.turns.leave(place_in(socket));
             self.accepted.try_remove(place_in(socket));
         }
     }
 
     fn welcome(&mut self, socket: u64) {
         if let Some(accepted) = named(&mut self.accepted, socket) {
-            begin_anew(&mut self.loud, accepted, None, false);
+            accepted.ends = None;
+            accepted.is_stranger = false;
+            self.turns.begin_anew(place_in(socket));
+            self.turns.watch(place_in(socket), false);
         }
     }
 
     fn farewell(&mut self, socket: u64) {
         let ends = self.watch.ends();
         if let Some(accepted) = named(&mut self.accepted, socket) {
-            begin_anew(&mut self.loud, accepted, ends, true);
+            accepted.ends = ends;
+            accepted.is_stranger = true;
+            self.turns.begin_anew(place_in(socket));
+            self.turns.watch(place_in(socket), ends.is_some());
         }
     }
 
     fn rest(&mut self) {
-        let longest = Duration::from_millis(self.rounds.rest_millis());
-        let _ = self.poll.poll(&mut self.events, Some(longest));
-        self.hear();
+        let longest = self.longest_rest();
+        self.fetch(longest);
     }
 }

@@ -18,7 +18,7 @@ ghost use Rattle.commands.specs.declared.picks.Pick.{Pick as Consumer};
 
 use crate::rounds::round::Round;
 use crate::rounds::sleepers::{Gone, Sleepers, find_gone};
-use crate::rounds::waiters::PlaceMarks;
+use crate::rounds::waiters::{Owner, PlaceMarks};
 use commands::{Core, Pick};
 use marks::{Flat, IndexSet, Over};
 use std::alloc::{AllocError, Global};
@@ -185,39 +185,33 @@ fn mark_round(awake: &mut PlaceMarks, round: &Round, place: usize)
     }
 }
 
-/// Removes the waiters of those consumers of `connection` that are gone from the round of the queue at index `queue`.
-fn leave_at(
-    rounds: &mut [Round],
-    awake: &mut PlaceMarks,
-    core: &Core,
-    queue: usize,
-    connection: u64,
-)
+/// Removes the waiters of those consumers of `owner` that are gone from the round of the queue at index `queue`.
+fn leave_at(rounds: &mut [Round], awake: &mut PlaceMarks, core: &Core, queue: usize, owner: Owner)
     // What the caller knows: the queue has a round, and the bits are right.
     requires within { queue < length rounds.old }
     requires marked { QueuesAreMarked rounds.old awake.old }
     // Waiters of existing consumers stay, and the order of those that are left is the same.
     ensures kept { KeepRounds core.now rounds.old rounds.new }
-    ensures here { LeaveLine core.now queue connection (round_at rounds.old queue) (round_at rounds.new queue) }
+    ensures here { LeaveLine core.now queue owner (round_at rounds.old queue) (round_at rounds.new queue) }
     // The frame: other rounds are unchanged, and the bits are right.
     ensures others { (i : ℕ) → (i ≡ queue → ⊥) → round_at rounds.new i ≡ round_at rounds.old i }
     ensures marked { QueuesAreMarked rounds.new awake.new }
 {
-    rounds[queue].leave(core, queue, connection);
+    rounds[queue].leave(core, queue, owner);
     mark_round(awake, &rounds[queue], queue);
 }
 
-/// Removes the waiters of those consumers of `connection` that are gone from the round of each queue in `named`, once, and empties the set.
+/// Removes the waiters of those consumers of `owner` that are gone from the round of each queue in `named`, once, and empties the set.
 fn leave_named(
     rounds: &mut [Round],
     awake: &mut PlaceMarks,
     named: &mut PlaceMarks,
     core: &Core,
-    connection: u64,
+    owner: Owner,
 )
     requires { QueuesAreMarked rounds.old awake.old }
     ensures kept { KeepRounds core.now rounds.old rounds.new }
-    ensures left { LeaveNamed core.now connection named.old rounds.old rounds.new }
+    ensures left { LeaveNamed core.now owner named.old rounds.old rounds.new }
     ensures marked { QueuesAreMarked rounds.new awake.new }
     ensures size { length named.new ≡ length named.old }
 {
@@ -227,7 +221,7 @@ fn leave_named(
             return;
         }
         named.clear(queue);
-        leave_at(rounds, awake, core, queue, connection);
+        leave_at(rounds, awake, core, queue, owner);
         next = queue + 1;
     }
 }
@@ -357,40 +351,36 @@ impl QueueRounds {
         self.rounds[queue].join(consumer)
     }
 
-    /// Removes the waiters of those consumers of `connection` that are gone: of one as it is listed, of several by a sweep over the rounds of their
+    /// Removes the waiters of those consumers of `owner` that are gone: of one as it is listed, of several by a sweep over the rounds of their
     /// queues. The order of the others is unchanged. Never allocates.
-    pub fn leave(&mut self, sleepers: &Sleepers, core: &Core, connection: u64)
-        requires { ListsItsWaiters connection (rounds_of self.old sleepers.now.entries) }
+    pub fn leave(&mut self, sleepers: &Sleepers, core: &Core, owner: Owner)
+        requires { ListsItsWaiters owner (rounds_of self.old sleepers.now.entries) }
         ensures kept { KeepRounds core.now self.old self.new }
-        ensures lines { LeaveLines core.now connection self.old self.new }
+        ensures lines { LeaveLines core.now owner self.old self.new }
         ensures len { length self.new ≡ length self.old }
     {
         let rounds = &mut self.rounds;
-        match find_gone(sleepers, connection, core, rounds.len(), &mut self.named) {
+        match find_gone(sleepers, owner, core, rounds.len(), &mut self.named) {
             Gone::Nobody => {}
             Gone::One(queue, consumer, place) => {
                 remove_at(rounds, &mut self.awake, queue, consumer, place)
             }
-            Gone::Several => leave_named(
-                rounds,
-                &mut self.awake,
-                &mut self.named,
-                core,
-                connection,
-            ),
+            Gone::Several => leave_named(rounds, &mut self.awake, &mut self.named, core, owner),
         }
     }
 
-    /// Wakes the waiter of `consumer`, if any, in the round of the queue at index `queue`. Looks at index `guess` first. Never allocates.
-    pub fn wake(&mut self, queue: usize, consumer: Pick, guess: usize)
+    /// Wakes the waiter of `consumer`, if any, in the round of the queue at index `queue`, and returns its index there. Looks at index `guess` first,
+    /// and returns it if there is none. Never allocates.
+    pub fn wake(&mut self, queue: usize, consumer: Pick, guess: usize) -> usize
         ensures woken { IsAsleep (round_at self.old queue) consumer → IsAwake (round_at self.new queue) consumer }
         ensures wakens { AllWaken self.old self.new }
         ensures len { length self.new ≡ length self.old }
     {
         if queue < self.rounds.len() {
             self.awake.set(queue);
-            self.rounds[queue].wake(consumer, guess);
+            return self.rounds[queue].wake(consumer, guess);
         }
+        guess
     }
 
     /// Moves each round of `old`, its waiters awake, to the index that `indices` has for it, if there is such a queue. Never allocates.

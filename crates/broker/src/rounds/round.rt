@@ -5,9 +5,8 @@
 //! whose bit is 1. If a waiter is added or removed, the bits of those behind it follow. If several are removed at once, all bits are set: a pick
 //! clears those of waiters that sleep.
 
-ghost use Rattle.std.specs.Prelude.{◌≡◌, ◌<◌, ◌≤◌, ◌+◌, ◌*◌, ◌⊎◌, ◌++◌, ◌∷◌, [], ℕ, true, false, None, IfSome, OnOk, length, count_by, filter, min};
+ghost use Rattle.std.specs.Prelude.{◌≡◌, ◌<◌, ◌≤◌, ◌+◌, ◌-◌, ◌*◌, ◌⊎◌, ◌++◌, ◌∷◌, [], ℕ, true, false, None, IfSome, OnOk, length, count_by, filter, min};
 ghost use Rattle.std.specs.Prelude.{slice_index_or, vec_capacity};
-ghost use Rattle.std.specs.List.{position_from};
 ghost use Rattle.model.specs.Topology.{IsIn};
 ghost use Rattle.marks.specs.Sets.{bit_of};
 ghost use Rattle.depot.specs.Store.{HasReady};
@@ -16,40 +15,60 @@ ghost use Rattle.commands.specs.Picked.{CannotTake, IsPickFrom};
 ghost use Rattle.commands.specs.declared.picks.Pick.{Pick as Consumer};
 ghost use Rattle.broker.specs.declared.rounds.waiters.Waiter.{Waiter as InRound};
 ghost use Rattle.broker.specs.Lines.{turned, AllDistinct};
-ghost use Rattle.broker.specs.Rounds.{round_of, picks, is_other, is_able, is_waiter_of, remains, has_remained, listing, AllAreNoted, FindsWaiter};
+ghost use Rattle.broker.specs.Rounds.{round_of, picks, is_other, is_able, remains, has_remained, listing, AllAreNoted, FindsWaiter, IsNotThere};
 ghost use Rattle.broker.specs.Rounds.{IsNoted, IsAwakeAt, IsAwake, IsAsleep, StaysAt, OthersStay, KeepsIn, KeepsRound, NoneAwake, NoneAwakePassed, ListsMore};
 ghost use Rattle.broker.specs.Rounds.{Wakens, Waiters, order, NoneInRound, GoesLast, LosesOne, LeaveLine, HasRoom};
 ghost use Rattle.broker.specs.Moving.{all_awake, AllAreAwake};
 
 use crate::rounds::finding::{Found, find, is_able, is_of};
 use crate::rounds::sleepers::{Sleepers, mark_waiter};
-use crate::rounds::waiters::{PlaceMarks, Waiter, is_same, make_room, mark_between, mark_if_fewer};
+use crate::rounds::waiters::{
+    Owner, PlaceMarks, Waiter, is_same, make_room, mark_between, mark_if_fewer,
+};
 use commands::{Core, Pick};
 use marks::{Flat, IndexSet, Over};
 use std::alloc::{AllocError, Global};
 use std::marker::Model;
 
-/// Returns the index of the first waiter of `consumer`, if it has one.
-fn search(waiters: &[Waiter], consumer: Pick) -> Option<usize>
-    ensures is { result ≡ position_from (is_waiter_of consumer) 0 waiters.now }
-    ensures within { IfSome result (λ i. i < length waiters.now) }
-    ensures there { IfSome result (λ i. (d : InRound) → (slice_index_or waiters.now i d).pick ≡ consumer) }
+/// Returns whether the waiter at index `place`, if there is one, is that of `consumer`.
+fn is_there(waiters: &[Waiter], consumer: Pick, place: usize) -> bool
+    ensures within { result ≡ true → place < length waiters.now }
+    ensures there { result ≡ true → (d : InRound) → (slice_index_or waiters.now place d).pick ≡ consumer }
+    ensures no { result ≡ false → IsNotThere consumer waiters.now place }
 {
-    waiters
-        .iter()
-        .position(|waiter| is_same(consumer, waiter.pick))
+    place < waiters.len() && is_same(consumer, waiters[place].pick)
 }
 
-/// Returns the index of the waiter of `consumer`. Looks at `guess` first.
+/// Returns the index `middle + away`, or `middle - 1 - away`, if the waiter there is that of `consumer`.
+fn near(waiters: &[Waiter], consumer: Pick, middle: usize, away: usize) -> Option<usize>
+    requires { middle ≤ length waiters.now }
+    ensures within { IfSome result (λ i. i < length waiters.now) }
+    ensures there { IfSome result (λ i. (d : InRound) → (slice_index_or waiters.now i d).pick ≡ consumer) }
+    ensures above { result ≡ None → IsNotThere consumer waiters.now (middle + away) }
+    ensures below { result ≡ None → away < middle → IsNotThere consumer waiters.now (middle - 1 - away) }
+{
+    if away < waiters.len() - middle && is_there(waiters, consumer, middle + away) {
+        return Some(middle + away);
+    }
+    if away < middle && is_there(waiters, consumer, middle - 1 - away) {
+        return Some(middle - 1 - away);
+    }
+    None
+}
+
+/// Returns the index of the waiter of `consumer`. Looks at `guess` first, and then further and further away from it.
 fn place_of(waiters: &[Waiter], consumer: Pick, guess: usize) -> Option<usize>
     ensures within { IfSome result (λ i. i < length waiters.now) }
     ensures there { IfSome result (λ i. (d : InRound) → (slice_index_or waiters.now i d).pick ≡ consumer) }
     ensures none { result ≡ None → (s : InRound) → IsIn s waiters.now → s.pick ≡ consumer → ⊥ }
 {
-    if guess < waiters.len() && is_same(consumer, waiters[guess].pick) {
-        return Some(guess);
+    let middle = guess.min(waiters.len());
+    for away in 0..waiters.len() {
+        if let Some(place) = near(waiters, consumer, middle, away) {
+            return Some(place);
+        }
     }
-    search(waiters, consumer)
+    None
 }
 
 /// Wakes each waiter.
@@ -61,28 +80,28 @@ fn wake_all_up(waiters: &mut [Waiter])
     }
 }
 
-/// Returns whether `consumer` is of another connection than `connection`, or exists and takes from the queue at index `queue`.
-fn remains(core: &Core, queue: usize, connection: u64, consumer: Pick) -> bool
-    ensures { result ≡ remains core.now queue connection consumer }
+/// Returns whether `consumer` is not the owner's, or exists and takes from the queue at index `queue`.
+fn remains(core: &Core, queue: usize, owner: Owner, consumer: Pick) -> bool
+    ensures { result ≡ remains core.now queue owner consumer }
 {
-    consumer.connection != connection || is_of(core, queue, consumer)
+    !owner.owns(consumer) || is_of(core, queue, consumer)
 }
 
-/// Removes the waiters of those consumers of `connection` that are gone or take from another queue than that at index `queue`.
-fn sweep(waiters: &mut Vec<Waiter>, core: &Core, queue: usize, connection: u64)
-    ensures waiters { waiters.new.items ≡ filter (has_remained core.now queue connection) waiters.old.items }
+/// Removes the waiters of those consumers of `owner` that are gone or take from another queue than that at index `queue`.
+fn sweep(waiters: &mut Vec<Waiter>, core: &Core, queue: usize, owner: Owner)
+    ensures waiters { waiters.new.items ≡ filter (has_remained core.now queue owner) waiters.old.items }
     ensures capacity { vec_capacity waiters.new ≡ vec_capacity waiters.old }
 {
-    waiters.retain(|waiter| remains(core, queue, connection, waiter.pick));
+    waiters.retain(|waiter| remains(core, queue, owner, waiter.pick));
 }
 
 /// Returns the number of waiters that `sweep` leaves.
-fn staying(waiters: &[Waiter], core: &Core, queue: usize, connection: u64) -> usize
-    ensures { result ≡ count_by (has_remained core.now queue connection) waiters.now }
+fn staying(waiters: &[Waiter], core: &Core, queue: usize, owner: Owner) -> usize
+    ensures { result ≡ count_by (has_remained core.now queue owner) waiters.now }
 {
     let mut count = 0;
     for waiter in waiters {
-        if remains(core, queue, connection, waiter.pick) {
+        if remains(core, queue, owner, waiter.pick) {
             count += 1;
         }
     }
@@ -127,18 +146,18 @@ fn remove_gone(
     next: &mut usize,
     core: &Core,
     queue: usize,
-    connection: u64,
+    owner: Owner,
 )
     requires { length waiters.old.items ≤ length awake.old * 64 }
     ensures room { length waiters.new.items ≤ length awake.new * 64 }
     ensures kept { KeepsRound core.now queue (round_of waiters.old.items awake.old) (round_of waiters.new.items awake.new) }
     ensures distinct { AllDistinct (picks waiters.old.items) → AllDistinct (picks waiters.new.items) }
-    ensures line { turned next.new (picks waiters.new.items) ≡ filter (remains core.now queue connection) (turned next.old (picks waiters.old.items)) }
+    ensures line { turned next.new (picks waiters.new.items) ≡ filter (remains core.now queue owner) (turned next.old (picks waiters.old.items)) }
 {
     let count = waiters.len();
     let before = (*next).min(count);
-    *next = staying(waiters.split_at(before).0, core, queue, connection);
-    sweep(waiters, core, queue, connection);
+    *next = staying(waiters.split_at(before).0, core, queue, owner);
+    sweep(waiters, core, queue, owner);
     mark_if_fewer(awake, count, waiters.len());
 }
 
@@ -390,10 +409,10 @@ impl Round {
         }
     }
 
-    /// Removes the waiters of those consumers of `connection` that are gone or take from another queue than that at index `queue`. Never allocates.
-    pub fn leave(&mut self, core: &Core, queue: usize, connection: u64)
+    /// Removes the waiters of those consumers of `owner` that are gone or take from another queue than that at index `queue`. Never allocates.
+    pub fn leave(&mut self, core: &Core, queue: usize, owner: Owner)
         ensures kept { KeepsRound core.now queue self.old self.new }
-        ensures line { LeaveLine core.now queue connection self.old self.new }
+        ensures line { LeaveLine core.now queue owner self.old self.new }
     {
         remove_gone(
             &mut self.waiters,
@@ -401,18 +420,22 @@ impl Round {
             &mut self.next,
             core,
             queue,
-            connection,
+            owner,
         );
     }
 
-    /// Wakes the waiter of `consumer`, if the round has one. Looks at index `guess` first.
-    pub fn wake(&mut self, consumer: Pick, guess: usize)
+    /// Wakes the waiter of `consumer`, if the round has one, and returns its index. Looks at index `guess` first, and returns it if there is none.
+    pub fn wake(&mut self, consumer: Pick, guess: usize) -> usize
         ensures woken { IsAsleep self.old consumer → IsAwake self.new consumer }
         ensures wakens { Wakens self.old self.new }
     {
-        if let Some(place) = place_of(&self.waiters, consumer, guess) {
-            self.waiters[place].asleep = false;
-            self.awake.set(place);
+        match place_of(&self.waiters, consumer, guess) {
+            Some(place) => {
+                self.waiters[place].asleep = false;
+                self.awake.set(place);
+                place
+            }
+            None => guess,
         }
     }
 

@@ -9,6 +9,7 @@ ghost use Rattle.std.specs.List.{AllWithin};
 ghost use Rattle.model.specs.Topology.{IsIn};
 ghost use Rattle.marks.specs.Sets.{bit_of};
 ghost use Rattle.commands.specs.State.{Kept, broker_of};
+ghost use Rattle.broker.specs.declared.rounds.waiters.Owner.{Owner as Owned};
 ghost use Rattle.broker.specs.Rounds.{is_listed_there, listing, listings_of, listings_on, listed_on, number_of, Listing, HasListRoom, CanListOn, CanList};
 ghost use Rattle.broker.specs.Rounds.{IsAsleepIn, IsListedOn, IsNotedOn, IsNoted, IsListed, HasNoList, NumbersRise, AreBelow, IsListedAt, MakesNoList};
 ghost use Rattle.broker.specs.Rounds.{NotesStay, ListsStay, SameListed, ListsOneMore, ListingsLeave, AddsListing, KeepLists, SleepMore, ListsMore};
@@ -317,7 +318,7 @@ pub(crate) fn mark_waiter(sleepers: &mut Sleepers, queue: usize, consumer: Pick,
 /// Removes all lists of `connection`, which is no longer running.
 pub(crate) fn forget_connection(sleepers: &mut Sleepers, connection: u64)
     ensures kept { (k : Kept) → (broker_of k).connection connection ≡ None → KeepLists k sleepers.old.entries sleepers.new.entries }
-    ensures left { (k : Kept) → ListingsLeave k connection sleepers.old.entries sleepers.new.entries }
+    ensures left { (k : Kept) (o : Owned) → o.connection ≡ connection → ListingsLeave k o sleepers.old.entries sleepers.new.entries }
     ensures gone { HasNoList sleepers.new.entries connection }
     ensures none { MakesNoList sleepers.old.entries sleepers.new.entries }
 {

@@ -27,6 +27,32 @@ pub(crate) struct Newcomer {
     pub consumer: Pick,
 }
 
+/// Whose consumers may have ended: those of a connection, or of one of its channels.
+#[derive(Clone, Copy, PartialEq, Eq, Debug, Drop)]
+pub(crate) struct Owner {
+    pub connection: u64,
+    /// The channel, or `None` for all channels of the connection.
+    pub channel: Option<u16>,
+}
+
+impl Owner {
+    ghost use Rattle.std.specs.Prelude.{◌≡◌};
+    ghost use Rattle.broker.specs.Rounds.{owns};
+
+    /// Returns whether `consumer` is the owner's.
+    pub fn owns(self, consumer: Pick) -> bool
+        ensures { result ≡ owns self consumer.connection consumer.channel }
+    {
+        if consumer.connection != self.connection {
+            return false;
+        }
+        match self.channel {
+            Some(number) => consumer.channel == number,
+            None => true,
+        }
+    }
+}
+
 /// Returns whether the two are the same consumer.
 pub(crate) fn is_same(one: Pick, other: Pick) -> bool
     ensures { result ≡ is_consumer one other }

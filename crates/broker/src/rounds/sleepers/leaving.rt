@@ -1,14 +1,14 @@
-//! Finds the consumers of a connection that are gone, and removes their listings.
+//! Finds the consumers of a connection, or of one of its channels, that are gone, and removes their listings.
 
-ghost use Rattle.std.specs.Prelude.{◌≡◌, ◌<◌, ◌≤◌, ◌*◌, ℕ, length, filter, vec_capacity};
+ghost use Rattle.std.specs.Prelude.{◌≡◌, ◌<◌, ◌≤◌, ◌*◌, ℕ, true, false, None, Some, length, filter, vec_capacity};
 ghost use Rattle.model.specs.Topology.{IsIn};
 ghost use Rattle.marks.specs.Sets.{bit_of};
 ghost use Rattle.broker.specs.declared.rounds.sleepers.leaving.Gone.TheVariants.{Nobody};
-ghost use Rattle.broker.specs.Rounds.{is_listed_there, listings_of, listings_on, Listing, IsListedOnAny, IsListedUnder, AddsGone};
+ghost use Rattle.broker.specs.Rounds.{is_listed_there, is_number, listings_of, listings_on, Listing, IsListedOnAny, IsListedUnder, AddsGone};
 ghost use Rattle.broker.specs.Rounds.{KeepsListings, KeepListingsOn, KeepLists, ListingsLeave, MakesNoList};
 
 use crate::rounds::sleepers::{ChannelSleepers, ConnectionSleepers, Listed, Sleepers};
-use crate::rounds::waiters::{PlaceMarks, mark_if_fewer};
+use crate::rounds::waiters::{Owner, PlaceMarks, mark_if_fewer};
 use commands::{Core, Pick};
 use marks::IndexSet;
 
@@ -109,52 +109,109 @@ fn leave_each(channels: &mut [ChannelSleepers], core: &Core)
     }
 }
 
-impl ConnectionSleepers {
-    /// Returns those of its consumers that are gone. If several are, their queues' indices below `count` are added to `named`.
-    fn find_gone(&self, core: &Core, count: usize, named: &mut PlaceMarks) -> Gone
-        requires { count ≤ length named.old * 64 }
-        ensures { AddsGone core.now (IsListedOnAny self.now) count Nobody named.old result named.new }
-    {
-        let mut gone = Gone::Nobody;
-        for channel in &self.channels {
-            gone = channel.add_gone(core, count, named, gone);
-        }
-        gone
-    }
-
-    /// Removes the listings whose consumer is gone. Never allocates.
-    fn leave(&mut self, core: &Core)
-        ensures all { (h : ℕ) → (listings_on self.new h).all ≡ filter (is_listed_there core.now) (listings_on self.old h).all }
-        ensures kept { KeepListingsOn core.now self.old self.new }
-    {
-        leave_each(&mut self.channels, core);
+/// Removes the listings whose consumer is gone from the list of channel `number`.
+fn leave_one(channels: &mut [ChannelSleepers], core: &Core, number: u16)
+    ensures here { (listings_on channels.new number).all ≡ filter (is_listed_there core.now) (listings_on channels.old number).all }
+    ensures others { (h : ℕ) → (h ≡ number → ⊥) → listings_on channels.new h ≡ listings_on channels.old h }
+    ensures kept { KeepListingsOn core.now channels.old channels.new }
+{
+    let at = number as usize;
+    if at < channels.len() {
+        channels[at].leave(core);
     }
 }
 
-/// Returns the consumers of `connection` that are gone. If several are, their queues' indices below `count` are added to `named`.
-pub(crate) fn find_gone(
-    sleepers: &Sleepers,
-    connection: u64,
+/// Returns those of the consumers of all `channels` that are gone. If several are, their queues' indices below `count` are added to `named`.
+fn find_each(
+    channels: &[ChannelSleepers],
     core: &Core,
     count: usize,
     named: &mut PlaceMarks,
 ) -> Gone
     requires { count ≤ length named.old * 64 }
-    ensures { AddsGone core.now (IsListedUnder sleepers.now.entries connection) count Nobody named.old result named.new }
+    ensures { AddsGone core.now (IsListedOnAny None channels.now) count Nobody named.old result named.new }
 {
-    match sleepers.get(&connection) {
-        Some(channels) => channels.find_gone(core, count, named),
+    let mut gone = Gone::Nobody;
+    for channel in channels {
+        gone = channel.add_gone(core, count, named, gone);
+    }
+    gone
+}
+
+/// Returns those of the consumers of channel `number` that are gone. If several are, their queues' indices below `count` are added to `named`.
+fn find_one(
+    channels: &[ChannelSleepers],
+    core: &Core,
+    number: u16,
+    count: usize,
+    named: &mut PlaceMarks,
+) -> Gone
+    requires { count ≤ length named.old * 64 }
+    ensures { AddsGone core.now (IsListedOnAny (Some number) channels.now) count Nobody named.old result named.new }
+{
+    let at = number as usize;
+    if at >= channels.len() {
+        return Gone::Nobody;
+    }
+    channels[at].add_gone(core, count, named, Gone::Nobody)
+}
+
+impl ConnectionSleepers {
+    /// Returns those of its consumers on `channel`, or on all channels if that is `None`, that are gone. If several are, their queues' indices below
+    /// `count` are added to `named`.
+    fn find_gone(
+        &self,
+        core: &Core,
+        channel: Option<u16>,
+        count: usize,
+        named: &mut PlaceMarks,
+    ) -> Gone
+        requires { count ≤ length named.old * 64 }
+        ensures { AddsGone core.now (IsListedOnAny channel self.now) count Nobody named.old result named.new }
+    {
+        match channel {
+            Some(number) => find_one(&self.channels, core, number, count, named),
+            None => find_each(&self.channels, core, count, named),
+        }
+    }
+
+    /// Removes the listings on `channel`, or on all channels if that is `None`, whose consumer is gone. Never allocates.
+    fn leave(&mut self, core: &Core, channel: Option<u16>)
+        ensures all { (h : ℕ) → is_number channel h ≡ true → (listings_on self.new h).all ≡ filter (is_listed_there core.now) (listings_on self.old h).all }
+        ensures others { (h : ℕ) → is_number channel h ≡ false → (listings_on self.new h).all ≡ (listings_on self.old h).all }
+        ensures kept { KeepListingsOn core.now self.old self.new }
+    {
+        match channel {
+            Some(number) => leave_one(&mut self.channels, core, number),
+            None => leave_each(&mut self.channels, core),
+        }
+    }
+}
+
+/// Returns the consumers of `owner` that are gone. If several are, their queues' indices below `count` are added to `named`.
+pub(crate) fn find_gone(
+    sleepers: &Sleepers,
+    owner: Owner,
+    core: &Core,
+    count: usize,
+    named: &mut PlaceMarks,
+) -> Gone
+    requires { count ≤ length named.old * 64 }
+    ensures { AddsGone core.now (IsListedUnder sleepers.now.entries owner) count Nobody named.old result named.new }
+{
+    match sleepers.get(&owner.connection) {
+        Some(channels) => channels.find_gone(core, owner.channel, count, named),
         None => Gone::Nobody,
     }
 }
 
-/// Removes the listings of those consumers of `connection` that are gone. Never allocates.
-pub(crate) fn leave_lists(sleepers: &mut Sleepers, core: &Core, connection: u64)
+/// Removes the listings of those consumers of `owner` that are gone. Never allocates.
+pub(crate) fn leave_lists(sleepers: &mut Sleepers, core: &Core, owner: Owner)
     ensures kept { KeepLists core.now sleepers.old.entries sleepers.new.entries }
-    ensures left { ListingsLeave core.now connection sleepers.old.entries sleepers.new.entries }
+    ensures left { ListingsLeave core.now owner sleepers.old.entries sleepers.new.entries }
     ensures none { MakesNoList sleepers.old.entries sleepers.new.entries }
 {
-    if let Some(channels) = sleepers.get_mut(&connection) {
-        channels.leave(core);
+    if let Some(channels) = sleepers.get_mut(&owner.connection) {
+        channels.leave(core, owner.channel);
     }
 }

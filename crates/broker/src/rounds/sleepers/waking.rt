@@ -10,21 +10,23 @@ use crate::rounds::waiters::PlaceMarks;
 use marks::IndexSet;
 
 impl Listed {
-    /// Wakes the listed waiter.
-    fn wake(&self, rounds: &mut QueueRounds)
-        ensures woken { IsWoken rounds.old rounds.new self.now }
+    /// Wakes the listed waiter, and remembers its index in the round.
+    fn wake(&mut self, rounds: &mut QueueRounds)
+        ensures same { self.new ≡ self.old }
+        ensures woken { IsWoken rounds.old rounds.new self.old }
         ensures wakens { AllWaken rounds.old rounds.new }
         ensures len { length rounds.new ≡ length rounds.old }
     {
-        rounds.wake(self.queue, self.consumer, self.place);
+        self.place = rounds.wake(self.queue, self.consumer, self.place);
     }
 }
 
 /// Wakes the waiters of the listings that are marked as sleeping, and clears the marks.
-fn wake_listed(listed: &[Listed], asleep: &mut PlaceMarks, rounds: &mut QueueRounds)
-    requires { length listed.now ≤ length asleep.old * 64 }
+fn wake_listed(listed: &mut [Listed], asleep: &mut PlaceMarks, rounds: &mut QueueRounds)
+    requires { length listed.old ≤ length asleep.old * 64 }
     ensures size { length asleep.new ≡ length asleep.old }
-    ensures woken { WakesListed (listings_of listed.now asleep.old) rounds.old rounds.new }
+    ensures same { listed.new ≡ listed.old }
+    ensures woken { WakesListed (listings_of listed.old asleep.old) rounds.old rounds.new }
     ensures wakens { AllWaken rounds.old rounds.new }
     ensures len { length rounds.new ≡ length rounds.old }
 {
@@ -47,7 +49,7 @@ impl ChannelSleepers {
         ensures wakens { AllWaken rounds.old rounds.new }
         ensures len { length rounds.new ≡ length rounds.old }
     {
-        wake_listed(&self.listed, &mut self.asleep, rounds);
+        wake_listed(&mut self.listed, &mut self.asleep, rounds);
     }
 }
 

@@ -47,6 +47,7 @@ returns-in-Ok c =
       whole = subst (λ (k : Option Event). IfSome k (λ e. brings_message e ≡ true → IsWhole c.perform.new.spares)) (sym c.in-Some.is) c.in-Ok.ensures.whole;
       after = subst (λ (k : Option Event). IfSome k (λ e. c.allowance_after-allowance.result ≡ allowance_after e)) (sym c.in-Some.is) c.allowance_after-allowance.ensures;
       last = tt;
+      spare = tt;
       large = subst (λ (k : Option Event). IfSome k (λ e. brings_message e ≡ false → KeepsLarge (room_wanted e) l.output.bytes c.args.spares.now c.perform.new.spares)) (sym c.in-Some.is)
           (λ quiet reply none many.
           let same = c.perform.ensures.kept quiet many in
@@ -54,8 +55,13 @@ returns-in-Ok c =
           (c.make_room.ensures.large (c.room_wanted-wanted.ensures ∙ reply) none (subst (λ (s : SpareCounts). 3 < s.contents) same many)));
     }
 
+pub returns-in-Err-perform-clause-spare : goal.returns-in-Err-perform-clause-spare
+returns-in-Err-perform-clause-spare c =
+    let back = c.take_back-in-Err-perform.ensures in
+    taken_few c.make_room.new.output 16 8 c.perform.new.spares c.take_back-in-Err-perform.new.self back.back back.same c.in-Err-perform.ensures.spare
+
 pub returns-in-Err-perform-clause-last : goal.returns-in-Err-perform-clause-last
 returns-in-Err-perform-clause-last c =
     let back = c.take_back-in-Err-perform.ensures in
     subst (λ (k : Option Event). IfSome k (λ e. brings_message e ≡ false → AreAtMost 9 3 c.take_back-in-Err-perform.new.self)) (sym c.in-Some.is)
-    (λ quiet. taken_few c.make_room.new.output c.perform.new.spares c.take_back-in-Err-perform.new.self back.back back.same (c.in-Err-perform.ensures.last quiet))
+    (λ quiet. taken_few c.make_room.new.output 8 2 c.perform.new.spares c.take_back-in-Err-perform.new.self back.back back.same (c.in-Err-perform.ensures.last quiet))

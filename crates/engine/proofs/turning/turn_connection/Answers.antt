@@ -36,5 +36,6 @@ returns-in-Ok c =
       number = kept.1;
       topology = did.topology;
       turns = ok_map result _ _ (λ t one. next_leaves (wire_in false old) r b left old mid new mid.kept t refl refl h one did.turn did.topology) did.ok;
+      spare = did.spare;
       broker_kept = did.broker_kept;
     }

@@ -1,8 +1,8 @@
-use Rattle.broker.proofs.Names.{◌∙◌, ℕ, sym, ap, subst, Rounds, IsServing, ReportsEnd, ReportsConsumers, Kept, Ends, connection_of_event, WithTurn, with_turn, NobodyIsPutBack}
+use Rattle.broker.proofs.Names.{◌∙◌, ℕ, sym, ap, subst, Rounds, IsServing, ReportsEnd, ReportsConsumers, Kept, Ends, Owner, connection_of_event, WithTurn, with_turn, NobodyIsPutBack}
 use Rattle.commands.specs.State.{broker_of}
 use Rattle.broker.proofs.Outcomes.{on_err}
 use Rattle.broker.proofs.Joined.{holds}
-use Rattle.broker.proofs.Staying.{own_same, listed_same}
+use Rattle.broker.proofs.Staying.{AllOthersStay, own_same, listed_same, owner_connection, reported_stay}
 use Rattle.broker.proofs.Stepped.{goes, serving_on, round_then, has_ended, own_held, serving_held, lists_waiters, own_left_then, serving_left}
 use Rattle.broker.proofs.Turning.{same_turns, none_back, round_left, waiters_own}
 use Rattle.broker.proofs.brokers.Broker.step.Goals as goal
@@ -46,14 +46,14 @@ pub leave-requires-clause-ended : goal.leave-requires-clause-ended
 leave-requires-clause-ended c =
     let old : Kept = c.self.inside.core in
     let new : Kept = c.step.new.self in
-    has_ended c.connection_of.result c.in_ok-acted.acted.ends (broker_of old) (broker_of new)
-    (subst (λ (d : ℕ). ReportsEnd d c.in_ok-acted.acted.ends (broker_of old) (broker_of new)) (sym c.connection_of.ensures) c.in_ok-acted.ensures.ended)
+    has_ended c.owner_of-owner.result.connection c.in_ok-acted.acted.ends (broker_of old) (broker_of new)
+    (subst (λ (d : ℕ). ReportsEnd d c.in_ok-acted.acted.ends (broker_of old) (broker_of new)) (sym (ap (λ (o : Owner). o.connection) c.owner_of-owner.ensures ∙ owner_connection c.args.event.now c.in_ok-acted.acted.ends)) c.in_ok-acted.ensures.ended)
 
 pub leave-requires-clause-listed : goal.leave-requires-clause-listed
 leave-requires-clause-listed c =
     lists_waiters c.self.inside.core c.self.inside.rounds c.wake_for.new.self c.expect_next.new.self c.args.event.now c.self.invariant c.wake_for.ensures.kept c.wake_for.ensures.noted c.wake_for.ensures.none c.wake_for.ensures.on c.expect_next.ensures.kept c.expect_next.ensures.noted c.expect_next.ensures.running c.expect_next.ensures.on c.wake_for.ensures.same c.expect_next.ensures.same
     c.brokers_stay_agreed.ensures.acts c.consumers_are_made.ensures c.step.new.self c.join.new.self c.in_ok-newcomer.newcomer _ _ c.in_ok-acted.ensures.ok c.step.ensures.topology c.wake_for.ensures.woken c.expect_next.ensures.wakens c.in_ok-newcomer.ensures.expected c.join.ensures.joined c.join.ensures.kept c.join.ensures.noted c.join.ensures.listed c.join.ensures.none c.join.ensures.len
-    c.connection_of.result c.join.ensures.adds
+    c.owner_of-owner.result c.join.ensures.adds
 
 pub invariant_of-self-in_default : goal.invariant_of-self-in_default
 invariant_of-self-in_default c =
@@ -61,8 +61,9 @@ invariant_of-self-in_default c =
     let new : Kept = c.step.new.self in
     serving_left c.self.inside.core c.self.inside.rounds c.wake_for.new.self c.expect_next.new.self c.args.event.now c.self.invariant c.wake_for.ensures.kept c.wake_for.ensures.noted c.wake_for.ensures.none c.wake_for.ensures.on c.expect_next.ensures.kept c.expect_next.ensures.noted c.expect_next.ensures.running c.expect_next.ensures.on c.wake_for.ensures.same c.expect_next.ensures.same
     c.brokers_stay_agreed.ensures.acts c.consumers_are_made.ensures c.step.new.self c.join.new.self c.in_ok-newcomer.newcomer _ _ c.in_ok-acted.ensures.ok c.step.ensures.topology c.wake_for.ensures.woken c.expect_next.ensures.wakens c.in_ok-newcomer.ensures.expected c.join.ensures.joined c.join.ensures.kept c.join.ensures.noted c.join.ensures.listed c.join.ensures.none c.join.ensures.len
-    c.connection_of.result c.connection_of.ensures c.leave.new.self c.join.ensures.adds c.leave.ensures.lines c.in_ok-acted.acted.ends
-    (subst (λ (d : ℕ). ReportsEnd d c.in_ok-acted.acted.ends (broker_of old) (broker_of new)) (sym c.connection_of.ensures) c.in_ok-acted.ensures.ended)
+    c.owner_of-owner.result (subst (λ (o : Owner). AllOthersStay o (broker_of old) (broker_of new)) (sym c.owner_of-owner.ensures) (reported_stay c.args.event.now c.in_ok-acted.acted.ends (broker_of old) (broker_of new) c.in_ok-acted.ensures.stay))
+    c.leave.new.self c.join.ensures.adds c.leave.ensures.lines c.in_ok-acted.acted.ends
+    (subst (λ (d : ℕ). ReportsEnd d c.in_ok-acted.acted.ends (broker_of old) (broker_of new)) (sym (ap (λ (o : Owner). o.connection) c.owner_of-owner.ensures ∙ owner_connection c.args.event.now c.in_ok-acted.acted.ends)) c.in_ok-acted.ensures.ended)
     c.leave.ensures.kept c.leave.ensures.noted c.leave.ensures.gone c.leave.ensures.none c.leave.ensures.left c.leave.ensures.len
 
 -- all go on as before
@@ -111,8 +112,8 @@ returns-in_default-clause-later c =
     (none_back old new before left c.self.inside.turn c.self.inside.turn c.step.ensures.topology (holds old before c.self.invariant) c.self.invariant.own
     (own_left_then c.self.inside.core c.self.inside.rounds c.wake_for.new.self c.expect_next.new.self c.args.event.now c.self.invariant c.wake_for.ensures.kept c.wake_for.ensures.noted c.wake_for.ensures.none c.wake_for.ensures.on c.expect_next.ensures.kept c.expect_next.ensures.noted c.expect_next.ensures.running c.expect_next.ensures.on c.wake_for.ensures.same c.expect_next.ensures.same
     c.brokers_stay_agreed.ensures.acts c.consumers_are_made.ensures c.step.new.self c.join.new.self c.in_ok-newcomer.newcomer _ _ c.in_ok-acted.ensures.ok c.step.ensures.topology c.wake_for.ensures.woken c.expect_next.ensures.wakens c.in_ok-newcomer.ensures.expected c.join.ensures.joined c.join.ensures.kept c.join.ensures.noted c.join.ensures.listed c.join.ensures.none c.join.ensures.len
-    c.connection_of.result c.connection_of.ensures left c.join.ensures.adds c.leave.ensures.lines)
-    (round_left new c.connection_of.result before.rounds after.rounds left.rounds
+    c.owner_of-owner.result (subst (λ (o : Owner). AllOthersStay o (broker_of old) (broker_of new)) (sym c.owner_of-owner.ensures) (reported_stay c.args.event.now c.in_ok-acted.acted.ends (broker_of old) (broker_of new) c.in_ok-acted.ensures.stay)) left c.join.ensures.adds c.leave.ensures.lines)
+    (round_left new c.owner_of-owner.result before.rounds after.rounds left.rounds
     (round_then c.self.inside.core c.self.inside.rounds c.wake_for.new.self c.expect_next.new.self c.args.event.now c.self.invariant c.wake_for.ensures.kept c.wake_for.ensures.noted c.wake_for.ensures.none c.wake_for.ensures.on c.expect_next.ensures.kept c.expect_next.ensures.noted c.expect_next.ensures.running c.expect_next.ensures.on c.wake_for.ensures.same c.expect_next.ensures.same new after c.join.ensures.adds) c.leave.ensures.lines)
     (c.leave.ensures.next ∙ c.join.ensures.next ∙ on.next))
 

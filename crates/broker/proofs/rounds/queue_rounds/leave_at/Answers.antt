@@ -12,8 +12,8 @@ returns-clause-kept c =
 pub returns-clause-here : goal.returns-clause-here
 returns-clause-here c =
     let none : Waiters = (record { waiters = []; marks = []; next = 0; capacity = 0 }) in
-    subst (λ (r : Waiters). LeaveLine c.args.core.now c.args.queue c.args.connection (round_at c.args.rounds.now c.args.queue) r) (sym (get_or-set_same c.args.rounds.now c.args.queue c.leave.new.self none c.requires.within))
-    (subst (λ (r : Waiters). LeaveLine c.args.core.now c.args.queue c.args.connection r c.leave.new.self) (sym (same_default c.args.rounds.now c.args.queue none c.index-rounds-queue.result c.requires.within)) c.leave.ensures.line)
+    subst (λ (r : Waiters). LeaveLine c.args.core.now c.args.queue c.args.owner (round_at c.args.rounds.now c.args.queue) r) (sym (get_or-set_same c.args.rounds.now c.args.queue c.leave.new.self none c.requires.within))
+    (subst (λ (r : Waiters). LeaveLine c.args.core.now c.args.queue c.args.owner r c.leave.new.self) (sym (same_default c.args.rounds.now c.args.queue none c.index-rounds-queue.result c.requires.within)) c.leave.ensures.line)
 
 pub returns-clause-marked : goal.returns-clause-marked
 returns-clause-marked c =

@@ -8,7 +8,7 @@ invariant-named l = record {
   size : length l.named ≡ length l.fn.named;
   marked : QueuesAreMarked l.rounds l.awake;
   kept : KeepRounds l.core l.fn.rounds l.rounds;
-  left : (i : ℕ) → i < l.next → LeavesIfNamed l.core l.connection l.fn.named l.fn.rounds l.rounds i;
+  left : (i : ℕ) → i < l.next → LeavesIfNamed l.core l.owner l.fn.named l.fn.rounds l.rounds i;
   behind : (i : ℕ) → l.next ≤ i → bit_of l.named i ≡ bit_of l.fn.named i;
   same : (i : ℕ) → l.next ≤ i → round_at l.rounds i ≡ round_at l.fn.rounds i;
 }

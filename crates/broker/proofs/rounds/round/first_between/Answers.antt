@@ -1,4 +1,4 @@
-use Rattle.broker.proofs.Names.{◌∙◌, get_or, false, sym, subst, arith, same_default, IsPickFrom, Waiter, round_of, listing, FindsWaiter}
+use Rattle.broker.proofs.Names.{◌∙◌, get_or, sym, subst, arith, same_default, IsPickFrom, Waiter, round_of, listing, FindsWaiter}
 use Rattle.broker.proofs.Sleepers.{more_on}
 use Rattle.broker.proofs.Found.{able_found, none_found}
 use Rattle.broker.proofs.Picks.{no_waiter}

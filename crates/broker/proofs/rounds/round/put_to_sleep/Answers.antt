@@ -1,4 +1,4 @@
-use Rattle.broker.proofs.Names.{◌∙◌, get_or, false, refl, sym, inr, false≢true, same_default, asleep_waiter}
+use Rattle.broker.proofs.Names.{◌∙◌, get_or, refl, sym, inr, false≢true, same_default, asleep_waiter}
 use Rattle.broker.proofs.Picks.{no_waiter, picks_set}
 use Rattle.broker.proofs.Sleeping.{rested, set_less}
 use Rattle.broker.proofs.rounds.round.put_to_sleep.Goals as goal

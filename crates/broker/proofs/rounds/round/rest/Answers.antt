@@ -1,4 +1,4 @@
-use Rattle.broker.proofs.Names.{◌∙◌, get_or, sym, ap, subst, false, false≢true, same_default, Found, is_able, FindsWaiter}
+use Rattle.broker.proofs.Names.{◌∙◌, get_or, sym, ap, subst, false≢true, same_default, Found, is_able, FindsWaiter}
 use Rattle.broker.proofs.Picks.{no_waiter}
 use Rattle.broker.proofs.Sleeping.{passed_over, set_less}
 use Rattle.broker.proofs.Takers.{of_has}

@@ -1,11 +1,10 @@
-use Rattle.std.proofs.Common.{◌≡◌, ◌<◌, ◌+◌, ◌-◌, ◌∙◌, ℕ, zero, suc, List, [], ◌∷◌, true, Option, Some, None, refl, sym, ap, subst, drop, arith, ◌⊎◌, inl, inr}
+use Rattle.std.proofs.Common.{◌≡◌, ◌<◌, ◌+◌, ◌-◌, ◌∙◌, ℕ, zero, suc, List, [], ◌∷◌, true, Option, Some, None, refl, ap, drop, arith, ◌⊎◌, inl, inr}
 use Rattle.std.proofs.lemmas.Bool.{false≢true}
 use Rattle.std.proofs.lemmas.List.{get_or-drop}
 use Rattle.std.specs.Prelude.{is_some, slice_index_or}
-use Rattle.serving.specs.Wire.{Accepted, AllWait, Nothing_got, AddsCalls, Traffic, least_room}
+use Rattle.serving.specs.Wire.{Accepted, AllWait, Nothing_got, AddsCalls, least_room}
 use Rattle.serving.specs.declared.peers.Peer.{Peer}
 use Rattle.sockets.specs.Counts.{traffic_with}
-use Rattle.sockets.specs.Traffic.{traffic_of}
 use Rattle.sockets.specs.declared.counts.Count.{Count}
 use Rattle.sockets.proofs.sockets.SocketsWire.pass_silent.Goals as goal
 
@@ -29,9 +28,9 @@ all_wait failures given counts (suc n) (Some p ∷ ps) taken =
 pub returns-clause-traffic : goal.returns-clause-traffic
 returns-clause-traffic c =
     let old = c.args.self.now in
-    let same = c.first_asked.ensures in
+    let same = c.first_other.ensures in
     let ps = c.args.peers.now.slots in
     let from = c.args.from in
-    let taken : (i : ℕ) → i < c.first_asked.result - from → is_some (slice_index_or (drop from ps) i None) ≡ true =
+    let taken : (i : ℕ) → i < c.first_other.result - from → is_some (slice_index_or (drop from ps) i None) ≡ true =
     λ i lt. ap is_some (get_or-drop from ps i None) ∙ same.taken (from + i) (omega arith) (omega (arith, lt)) in
-    subst (λ (t : Traffic). AllWait (c.first_asked.result - from) (drop from ps) (traffic_of old) t) (sym same.traffic) (all_wait old.failures old.given old.counts.items (c.first_asked.result - from) (drop from ps) taken)
+    all_wait old.failures old.given old.counts.items (c.first_other.result - from) (drop from ps) taken

@@ -1,5 +1,4 @@
-use Rattle.broker.proofs.Names.{◌∙◌, ◌<◌, List, length, get_or, set, refl, sym, ap, subst, arith, rules, length-set, get_or-set_same, same_default, AllDistinct, Pick, Waiter, Waiters, asleep_waiter, awake_waiter, picks, IsAwake, IsAsleep}
-use Rattle.std.proofs.Common.{◌≡◌}
+use Rattle.broker.proofs.Names.{◌∙◌, ◌<◌, List, length, get_or, refl, sym, ap, subst, arith, rules, length-set, get_or-set_same, same_default, AllDistinct, Pick, Waiter, Waiters, asleep_waiter, awake_waiter, picks, IsAwake, IsAsleep}
 use Rattle.broker.proofs.Picks.{picks_set}
 use Rattle.broker.proofs.Sleeping.{one_woken}
 use Rattle.broker.proofs.rounds.round.Round.wake.Goals as goal
@@ -34,8 +33,8 @@ returns-in-Some-clause-wakens c =
       next = ap (λ (r : Waiters). r.next) c.self.view_is;
     }
 
-pub returns-in_default-clause-woken : goal.returns-in_default-clause-woken
-returns-in_default-clause-woken c = λ i. absurd (c.in_default.ensures.none refl (asleep_waiter c.args.consumer) (search rules) refl)
+pub returns-in-None-clause-woken : goal.returns-in-None-clause-woken
+returns-in-None-clause-woken c = λ i. absurd (c.in-None.ensures.none refl (asleep_waiter c.args.consumer) (search rules) refl)
 
 pub invariant_of-self : goal.invariant_of-self
 invariant_of-self c =

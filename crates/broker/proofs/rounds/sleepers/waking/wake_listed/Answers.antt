@@ -1,4 +1,4 @@
-use Rattle.broker.proofs.Names.{◌∙◌, ◌+◌, ℕ, inl, inr, sym, ap, subst, arith, get_or, leb_tells, listings_of, Listings, IsWoken}
+use Rattle.broker.proofs.Names.{◌∙◌, ◌+◌, ℕ, List, length, inl, inr, sym, ap, subst, arith, get_or, set, set-get_or, leb_tells, listings_of, Listing, Listings, IsWoken}
 use Rattle.std.proofs.Common.{◌≡◌}
 use Rattle.broker.proofs.Listed.{woken_gap}
 use Rattle.broker.proofs.Sleeping.{waken_on, woken_still, woken_one}
@@ -14,6 +14,7 @@ marked-preserved c =
     let was = c.marked.invariant.size in
     let least = c.in-Some.ensures.some.least in
     record {
+      same = ap (λ (l : Listing). set c.marked.listed c.in-Some.at l) c.wake.ensures.same ∙ set-get_or c.marked.listed c.in-Some.at _ ∙ c.marked.invariant.same;
       size = omega (arith, size, was);
       len = c.wake.ensures.len ∙ c.marked.invariant.len;
       wakens = λ q. waken_on _ _ _ (c.marked.invariant.wakens q) (c.wake.ensures.wakens q);
@@ -27,7 +28,8 @@ marked-preserved c =
             let here : i ≡ c.in-Some.at = omega (arith, lt, gt) in
             let one = c.index-listed-at.result in
             woken_one old mid new m c.marked.invariant.wakens
-            (subst (IsWoken mid new) (c.index-listed-at.is ∙ ap (λ (n : ℕ). get_or c.args.listed.now n one) (sym here) ∙ at.there one) c.wake.ensures.woken) c.wake.ensures.wakens
+            (subst (IsWoken mid new) (ap (λ (ls : List Listing). get_or ls c.in-Some.at one) c.marked.invariant.same ∙ ap (λ (n : ℕ). get_or c.args.listed.now n one) (sym here) ∙ at.there one) c.wake.ensures.woken)
+            c.wake.ensures.wakens
       ];
     }
 
@@ -35,8 +37,9 @@ pub returns-then-at-listed-clause-woken : goal.returns-then-at-listed-clause-wok
 returns-then-at-listed-clause-woken c = λ m slept.
     let past = c.if-at-listed.true in
     let lt = slept.1.within in
+    let long = ap (λ (ls : List Listing). length ls) c.marked.invariant.same in
     woken_gap (listings_of c.args.listed.now c.args.asleep.now) c.marked.asleep c.args.rounds.now c.marked.rounds c.marked.next c.in-Some.at c.marked.invariant.woken c.marked.invariant.behind c.in-Some.ensures.some.before
-    slept.0 m (omega (arith, past, lt)) slept.1
+    slept.0 m (omega (arith, past, lt, long)) slept.1
 
 pub returns-clause-woken : goal.returns-clause-woken
 returns-clause-woken c = λ m slept.

@@ -1,12 +1,10 @@
 use Rattle.std.proofs.Common.{◌≡◌, ◌<◌, ◌≤◌, ◌-◌, ℕ, true, None}
 use Rattle.std.specs.Prelude.{is_some, slice_index_or}
-use Rattle.sockets.specs.Traffic.{traffic_of}
-use Rattle.sockets.proofs.sockets.Sockets.first_asked.Given as goal
+use Rattle.sockets.proofs.sockets.first_other.Given as goal
 
 -- the slots that were passed by are taken
 abbrev pub invariant-loop-slot : goal.invariant-loop-slot
 invariant-loop-slot l = record {
-  traffic : traffic_of l.self ≡ traffic_of l.fn.self;
   least : l.from ≤ l.slot;
   most : l.slot ≤ l.end;
   taken : (i : ℕ) → l.from ≤ i → i < l.slot → is_some (slice_index_or l.peers.slots i None) ≡ true;

@@ -1,17 +1,16 @@
-use Rattle.broker.proofs.Names.{◌∙◌, ◌<◌, ◌≤◌, ◌+◌, ℕ, List, [], length, get_or, inl, inr, sym, subst, arith, leb_tells, same_default, IsIn, Nobody, Listing, Listings, listings_of, listings_on, IsListedOnAny}
+use Rattle.broker.proofs.Names.{◌∙◌, ◌<◌, ◌+◌, ℕ, List, [], None, length, inl, inr, refl, sym, subst, arith, leb_tells, same_default, IsIn, Nobody, Listing, Listings, listings_of, listings_on, IsListedOnAny}
 use Rattle.std.proofs.Common.{◌≡◌}
 use Rattle.broker.proofs.Listed.{past_end}
 use Rattle.broker.proofs.Leaving.{adds_then, adds_as}
-use Rattle.broker.proofs.rounds.sleepers.ConnectionSleepers.find_gone.Goals as goal
+use Rattle.broker.proofs.rounds.sleepers.leaving.find_each.Goals as goal
 
 pub loop-channel-preserved : goal.loop-channel-preserved
 loop-channel-preserved c =
-    let all = c.args.self.now in
+    let all = c.args.channels.now in
     let at = c.loop-channel.channel-index in
     let one = c.channel-item.result in
-    let same = c.deref-channel-items.ensures.value ∙ c.self.view_is in
     let here : listings_on all at ≡ one =
-    same_default all at (listings_of [] []) one (subst (λ (xs : List Listings). at < length xs) same c.loop-channel-test.true) ∙ sym (subst (λ (xs : List Listings). one ≡ get_or xs at one) same c.channel-item.is) in
+    same_default all at (listings_of [] []) one c.loop-channel-test.true ∙ sym c.channel-item.is in
     adds_then c.args.core.now c.args.count (λ (m : Listing). (h : ℕ) × (h < at) × IsIn m (listings_on all h).all) (λ (m : Listing). IsIn m one.all) (λ (m : Listing). (h : ℕ) × (h < at + 1) × IsIn m (listings_on all h).all)
     Nobody c.loop-channel.gone c.add_gone-gone.result c.args.named.now c.loop-channel.named c.add_gone-gone.new.named
     (λ m i. (i.0, let lt = i.1 in omega (arith, lt), i.2))
@@ -28,13 +27,12 @@ loop-channel-preserved c =
 
 pub returns : goal.returns
 returns c =
-    let all = c.args.self.now in
+    let all = c.args.channels.now in
     let at = c.loop-channel.channel-index in
-    let same = c.deref-channel-items.ensures.value ∙ c.self.view_is in
-    let done = subst (λ (xs : List Listings). length xs ≤ at) same c.loop-channel-test.false in
-    adds_as c.args.core.now c.args.count (λ (m : Listing). (h : ℕ) × (h < at) × IsIn m (listings_on all h).all) (IsListedOnAny all) Nobody c.loop-channel.gone c.args.named.now c.loop-channel.named (λ m i. (i.0, i.2))
+    let done = c.loop-channel-test.false in
+    adds_as c.args.core.now c.args.count (λ (m : Listing). (h : ℕ) × (h < at) × IsIn m (listings_on all h).all) (IsListedOnAny None all) Nobody c.loop-channel.gone c.args.named.now c.loop-channel.named (λ m i. (i.0, refl, i.2))
     (λ m i. elim (leb_tells (i.0 + 1) (length all)) [
-      | inl a ↦ let le = a.1 in (i.0, omega (arith, le, done), i.1)
-      | inr a ↦ let gt = a.1 in absurd (subst (λ (ls : List Listing). IsIn m ls) (past_end all i.0 (λ lt. omega (arith, lt, gt))) i.1)
+      | inl a ↦ let le = a.1 in (i.0, omega (arith, le, done), i.2)
+      | inr a ↦ let gt = a.1 in absurd (subst (λ (ls : List Listing). IsIn m ls) (past_end all i.0 (λ lt. omega (arith, lt, gt))) i.2)
     ])
     c.loop-channel.invariant
