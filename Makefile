@@ -24,7 +24,7 @@ help:
 	@echo "  make beside    compares what warrenctl says of files with what the program says                      half a minute"
 	@echo "  make around    tries warren with a RabbitMQ of its own and with other programs of Debian     10 minutes"
 	@echo "                 some of it: make around ONLY='ci takeover', of $(AROUND);"
-	@echo "                 by an installed program, which is taken as it is: make around WARREN=/usr/bin/warren"
+	@echo "                 by installed programs, which are taken as they are: make around WARREN=/usr/bin/warren WARRENCTL=/usr/bin/warrenctl"
 	@echo "  make manual    makes the manual pages, the completions and the shop's pictures anew"
 	@echo "  make install   puts the proved program and warrenctl below $(PREFIX), with manual pages and completions; make uninstall removes them"
 	@echo "  make package   makes a Debian package of the proved program, and prints its SHA-256"
@@ -140,12 +140,14 @@ DEBIAN = gcc man-db zsh rabbitmq-server haproxy stunnel4 openssl prometheus pyth
 DEBIAN += php-amqplib php-cli librabbitmq-client-java default-jdk-headless golang-go golang-github-rabbitmq-amqp091-go-dev
 AROUND = clean reload deploy metrics parts shovel rabbit agree exports ci takeover unmodified
 ONLY = $(AROUND)
+WARRENCTL = out/warrenctl
 
 test-packages:
 	@echo "apt-get install --no-install-recommends $(DEBIAN)"
 
-around: warren
-	@python3 -m dev.around "$(WARREN)" $(ONLY)
+# by the one file of warrenctl, in a folder that has no part of it
+around: warren warrenctl
+	@python3 -m dev.around "$(WARREN)" "$(WARRENCTL)" $(ONLY)
 
 # one file, which Python 3.9 or later runs anywhere
 warrenctl:

@@ -1,21 +1,26 @@
-"""Tries the program with a RabbitMQ and with other programs of Debian: python3 -m dev.around WARREN [PART ..]; without a part, all of them.
+"""Tries the program and the one file of warrenctl with a RabbitMQ and other programs of Debian: python3 -m dev.around WARREN WARRENCTL [PART ..]
 
-A part whose packages are not installed says so in one line, and passes. Status: 0 all passed; 1 a part failed; 3 the command line is refused.
+Without a part all are tried. Each runs in a folder of its own that has the examples and no part of warrenctl, so that they take it from the file
+WARRENCTL; `clean` makes a release, and leaves the repository with that. A part whose packages are not installed says so in one line, and passes.
+Status: 0 all passed; 1 a part failed; 3 the command line is refused.
 """
 
 import os
 import subprocess
 import sys
+import tempfile
 
 from dev import ROOT
+from dev.beds import one_file
 from warrenctl.cli.run import DONE, run
 from warrenctl.cli.words import Words
+from warrenctl.fault import Fault
 
 FAILED = 1
-# each part: what runs it, before the program; those of the third list take no program
+# each part: what runs it, before the program; those of the last list take no program
+RELEASED = {"clean": "dev.clean"}
 SCRIPTS = {"deploy": "examples/deploy/run"}
 MODULES = {
-    "clean": ["dev.clean"],
     "reload": ["examples.reload.run"],
     "metrics": ["examples.metrics.run"],
     "parts": ["warrenctl.tests.with_warren.split", "examples.parts.run"],
@@ -29,19 +34,29 @@ ALONE = {
     "rabbit": ["dev.tests.with_rabbitmq"],
     "exports": [f"warrenctl.tests.with_rabbitmq.{it}" for it in ("convert", "limits", "stays")],
 }
-PARTS = (*SCRIPTS, *MODULES, *ALONE)
+PARTS = (*RELEASED, *SCRIPTS, *MODULES, *ALONE)
 
 
-def commands(part, warren):
+def commands(part, warren, folder):
+    """Returns what a part runs in this folder."""
     if part in SCRIPTS:
-        return [[os.path.join(ROOT, SCRIPTS[part]), warren]]
+        return [[os.path.join(folder, SCRIPTS[part]), warren]]
     words = [warren] if part in MODULES else []
-    return [[sys.executable, "-m", it, *words] for it in MODULES.get(part) or ALONE[part]]
+    return [one_file.command(it, *words) for it in MODULES.get(part) or ALONE[part]]
+
+
+def is_passed(part, warren, warrenctl, folder):
+    """Runs a part, and returns whether it passed."""
+    if part in RELEASED:
+        return subprocess.run([sys.executable, "-m", RELEASED[part], warren], cwd=ROOT).returncode == 0
+    environment = one_file.environment(warrenctl)
+    return all([subprocess.run(it, cwd=folder, env=environment).returncode == 0 for it in commands(part, warren, folder)])
 
 
 def words():
     parser = Words("around", __doc__, None, "python3 -m dev.around")
     parser.add_argument("warren", help="the program")
+    parser.add_argument("warrenctl", help="the one file of warrenctl")
     parser.add_argument("parts", nargs="*", metavar="PART", help=", ".join(PARTS))
     given = parser.parse_args()
     unknown = next((it for it in given.parts if it not in PARTS), None)
@@ -51,13 +66,17 @@ def words():
 
 
 def main(given):
+    warren, warrenctl = (os.path.abspath(it) for it in (given.warren, given.warrenctl))
+    if not os.access(warrenctl, os.X_OK) or os.path.isdir(warrenctl):
+        raise Fault(f"{given.warrenctl} is no program; `make warrenctl` makes out/warrenctl")
     failed = []
-    for part in given.parts or PARTS:
-        print(f"{part}:", flush=True)
-        for command in commands(part, os.path.abspath(given.warren)):
-            if subprocess.run(command, cwd=ROOT).returncode:
+    with tempfile.TemporaryDirectory(prefix="around-") as folder:
+        one_file.lay_out(folder)
+        for part in given.parts or PARTS:
+            print(f"{part}:", flush=True)
+            if not is_passed(part, warren, warrenctl, folder):
                 failed.append(part)
-    print("failed: " + ", ".join(dict.fromkeys(failed)) if failed else "all passed")
+    print("failed: " + ", ".join(failed) if failed else "all passed")
     return FAILED if failed else DONE
 
 

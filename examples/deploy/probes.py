@@ -12,6 +12,8 @@ import sys
 
 HERE = os.path.dirname(os.path.abspath(__file__))
 ROOT = os.path.join(HERE, "../..")
+# the one file, if the environment names it; that of this repository
+WARRENCTL = [os.environ["WARRENCTL"]] if os.environ.get("WARRENCTL") else ["-m", "warrenctl"]
 
 
 def text_of(name):
@@ -45,7 +47,7 @@ def main(port, password):
         program, *words = (here(it, port, password) for it in command)
         if os.path.basename(program) != "warrenctl":
             raise SystemExit(f"{name}: it runs {program}")
-        done = subprocess.run([sys.executable, "-m", "warrenctl", *words], cwd=ROOT, stdin=subprocess.DEVNULL, capture_output=True, text=True, timeout=60)
+        done = subprocess.run([sys.executable, *WARRENCTL, *words], cwd=ROOT, stdin=subprocess.DEVNULL, capture_output=True, text=True, timeout=60)
         print(f"{name}: status {done.returncode}", flush=True)
 
 
