@@ -182,11 +182,36 @@ class Reloads(unittest.TestCase):
             self.assertEqual(self.leads_to(), "old")
 
     def test_it_is_not_in_force(self):
+        """The link is put back, unless it is to be left."""
         new = self.folder("new", definitions(["shop", "news"], ["audit"]))
+        kept = os.path.join(self.top, "kept")
+        os.mkdir(kept)
+        why = "after 0.5 seconds; the broker's standard error says why"
         with Following(self.link, delay=None) as server:
-            told = "current leads to new, which is not in force after 1 seconds; the broker's standard error says why, and `reload current old` goes back"
-            self.assertEqual(self.look(server, new, "--seconds", "1"), (1, "", told))
-        self.assertEqual(self.leads_to(), "new")
+            told = f"new is not in force {why}; current leads to old again"
+            self.assertEqual(self.look(server, new, "--seconds", "0.5", "--kept", kept), (3, "", told))
+            self.assertEqual(self.leads_to(), "old")
+            told = f"current leads to new, which is not in force {why}, and `reload current old` goes back"
+            self.assertEqual(self.look(server, new, "--seconds", "0.5", "--leave"), (1, "", told))
+        self.assertEqual((self.leads_to(), os.listdir(kept)), ("new", []))
+
+    def test_a_copy_of_what_is_in_force(self):
+        """It is for the owner of its folder, whoever runs this, and in the place of the one before."""
+        kept = os.path.join(self.top, "kept")
+        os.makedirs(os.path.join(kept, "last"))
+        owner = (12, 34) if os.geteuid() == 0 else (os.getuid(), os.getgid())
+        for it in (self.top, kept, os.path.join(kept, "last")):
+            os.chown(it, *owner)
+        new = self.folder("new", definitions(["shop", "news"], ["audit"]))
+        with Following(self.link) as server:
+            self.assertEqual(self.look(server, new, "--kept", kept)[0], 0)
+        made = os.path.join(kept, "last")
+        self.assertEqual((os.listdir(kept), sorted(os.listdir(made))), (["last"], ["certificates.json", "definitions.json", "guarantees.json"]))
+        for name, mode in ((made, 0o700), *((os.path.join(made, it), 0o600) for it in os.listdir(made))):
+            status = os.stat(name)
+            self.assertEqual((status.st_uid, status.st_gid, stat.S_IMODE(status.st_mode)), (*owner, mode), name)
+        with open(os.path.join(made, "definitions.json"), encoding="utf-8") as file:
+            self.assertEqual(json.load(file), definitions(["shop", "news"], ["audit"]))
 
     def test_another_broker(self):
         new = self.folder("new", definitions(["shop", "news"], ["audit"]))
@@ -238,6 +263,8 @@ class Reloads(unittest.TestCase):
         self.assertEqual(refused(self.top + "/nowhere"), "nowhere is no folder")
         self.assertEqual(refused(new, "--look", "127.0.0.1"), "127.0.0.1: a user and a host are required, as in till@127.0.0.1:5672")
         self.assertIn("--seconds", refused(new, "--seconds", "nan"))
+        self.assertIn("--kept needs --look", refused(new, "--kept", self.top))
+        self.assertEqual(refused(new, "--kept", self.top + "/nowhere", "--look", "till@127.0.0.1:1"), "nowhere is no folder")
         os.rename(self.program, self.program + ".away")
         self.assertEqual(refused(new), "program: No such file or directory")
         os.rename(self.program + ".away", self.program)

@@ -21,7 +21,7 @@ _warrenctl() {
         ping) options='-h --help --password-file --hello --tls --seconds --within' files='--password-file' values='--seconds|--within' places='' ;;
         drain) options='-h --help --password-file --append' files='--password-file' values='' places='3' ;;
         fill) options='-h --help --password-file --queue --as-sent' files='--password-file' values='--queue' places='2' ;;
-        reload) options='-h --help --look --password-file --mark --seconds --warren' files='--password-file|--warren' values='--look|--seconds' places='1|2' ;;
+        reload) options='-h --help --look --password-file --mark --seconds --leave --kept --warren' files='--password-file|--kept|--warren' values='--look|--seconds' places='1|2' ;;
         close) options='-h --help --look --password-file --seconds' files='--password-file' values='--look|--seconds' places='1' ;;
         open) options='-h --help --look --password-file --seconds' files='--password-file' values='--look|--seconds' places='1' ;;
         metrics) options='-h --help --password-file --listen --errors --hand-on' files='--password-file|--errors' values='--listen' places='2' ;;

@@ -1,8 +1,10 @@
 """Folders with the three files of a broker, and the link to the one in force."""
 
+import contextlib
 import hashlib
 import os
 import re
+import shutil
 import subprocess
 import sys
 import tempfile
@@ -12,6 +14,8 @@ from warrenctl.files.definitions_file import read, replace
 from warrenctl.files.writing import write
 
 NAMES = ("definitions.json", "guarantees.json", "certificates.json")
+# the copy of files in force, in the folder of a unit (examples/deploy/files)
+LAST, NEXT = "last", "next"
 MARK = re.compile(r"reload\.[0-9a-f]{12}")
 MEANINGS = {1: "a guarantee does not hold, or a certificate has a fault", 2: "a guarantee is undecided"}
 
@@ -86,3 +90,34 @@ def swap(link, new):
         os.unlink(other)
     os.symlink(target, other)
     os.replace(other, link)
+
+
+@contextlib.contextmanager
+def as_owner_of(folder):
+    """Writes as the owner of a folder, so that nothing in it can lead root's writes elsewhere; what is made is for that owner alone."""
+    owner, before, mask = os.stat(folder), (os.geteuid(), os.getegid()), os.umask(0o077)
+    try:
+        os.setegid(owner.st_gid)
+        os.seteuid(owner.st_uid)
+        yield
+    finally:
+        os.seteuid(before[0])
+        os.setegid(before[1])
+        os.umask(mask)
+
+
+def keep(folder, kept):
+    """Puts the three files in the place of a unit's copy of those in force."""
+    last, made = (os.path.join(kept, it) for it in (LAST, NEXT))
+    texts = {}
+    for place, name in enumerate(NAMES):
+        with open(path_in(folder, place), "rb") as file:
+            texts[name] = file.read()
+    with as_owner_of(kept):
+        shutil.rmtree(made, ignore_errors=True)
+        os.mkdir(made)
+        for name, text in texts.items():
+            with open(os.path.join(made, name), "wb") as file:
+                file.write(text)
+        shutil.rmtree(last, ignore_errors=True)
+        os.rename(made, last)
