@@ -163,10 +163,11 @@ PROGRAMS = $(BOTH:%=bin/%)
 install: warren warrenctl
 	@install -D "$(WARREN)" "$(DESTDIR)$(PREFIX)/bin/warren"
 	@install -D out/warrenctl "$(DESTDIR)$(PREFIX)/bin/warrenctl"
+	@install -D examples/deploy/files "$(DESTDIR)$(PREFIX)/lib/warren/files"
 	@for it in $(INSTALLED); do install -D -m 644 "$${it%:*}" "$(DESTDIR)$(PREFIX)/$${it#*:}" || exit; done
 
 uninstall:
-	@for it in $(PROGRAMS) $(INSTALLED); do rm -f "$(DESTDIR)$(PREFIX)/$${it#*:}" || exit; done
+	@for it in $(PROGRAMS) lib/warren/files $(INSTALLED); do rm -f "$(DESTDIR)$(PREFIX)/$${it#*:}" || exit; done
 
 # a server doesn't grow while messages and consumers come and go
 growth: warren

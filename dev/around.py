@@ -21,6 +21,7 @@ FAILED = 1
 RELEASED = {"clean": "dev.clean"}
 SCRIPTS = {"deploy": "examples/deploy/run"}
 MODULES = {
+    "deploy": ["examples.deploy.ends"],
     "reload": ["examples.reload.run"],
     "metrics": ["examples.metrics.run"],
     "parts": ["warrenctl.tests.with_warren.split", "examples.parts.run"],
@@ -34,15 +35,14 @@ ALONE = {
     "rabbit": ["dev.tests.with_rabbitmq"],
     "exports": [f"warrenctl.tests.with_rabbitmq.{it}" for it in ("convert", "limits", "stays")],
 }
-PARTS = (*RELEASED, *SCRIPTS, *MODULES, *ALONE)
+PARTS = (*RELEASED, *MODULES, *ALONE)
 
 
 def commands(part, warren, folder):
     """Returns what a part runs in this folder."""
-    if part in SCRIPTS:
-        return [[os.path.join(folder, SCRIPTS[part]), warren]]
+    scripts = [[os.path.join(folder, SCRIPTS[part]), warren]] if part in SCRIPTS else []
     words = [warren] if part in MODULES else []
-    return [one_file.command(it, *words) for it in MODULES.get(part) or ALONE[part]]
+    return scripts + [one_file.command(it, *words) for it in MODULES.get(part) or ALONE[part]]
 
 
 def is_passed(part, warren, warrenctl, folder):

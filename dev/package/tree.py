@@ -28,7 +28,8 @@ ABOUT = """message broker for AMQP 0-9-1 whose routing is certified
  for a stop loses all messages."""
 SCRIPTS = ("postinst", "prerm", "postrm")
 DEFAULTS = "etc/default/warren"
-CONFIGURATION = (*(f"{FIRST}/{it}" for it in FILES), DEFAULTS)
+NEEDRESTART = "etc/needrestart/conf.d/warren.conf"
+CONFIGURATION = (*(f"{FIRST}/{it}" for it in FILES), DEFAULTS, NEEDRESTART)
 UNITS = [f"examples/deploy/{it}" for it in ("warren.service", "warren@.service", "warren-front.service", "warren-ping.service", "warren-ping.timer")]
 UNITS.append("examples/metrics/warren-metrics.service")
 # where the pages and completions of a program go in a package
@@ -105,7 +106,7 @@ def stripped(program):
 
 def unit_of(data):
     """The unit of the repository for a program of a package, without the remarks at its top."""
-    return data[re.search(rb"^\[Unit\]$", data, re.MULTILINE).start() :].replace(b"/usr/local/bin/", b"/usr/bin/")
+    return data[re.search(rb"^\[Unit\]$", data, re.MULTILINE).start() :].replace(b"/usr/local/", b"/usr/")
 
 
 def with_live_links(text, page, there):
@@ -176,6 +177,8 @@ def lay_out(tree, program, top):
     for name, text in FILES.items():
         put(tree, f"{FIRST}/{name}", text.encode(), 0o640)
     put(tree, DEFAULTS, contents(os.path.join(HERE, "files/default")))
+    put(tree, "usr/lib/warren/files", contents(os.path.join(top, "examples/deploy/files")), 0o755)
+    put(tree, NEEDRESTART, contents(os.path.join(top, "examples/deploy/needrestart.conf")))
 
 
 def libraries_of(program):

@@ -45,7 +45,8 @@ class Folder(unittest.TestCase):
         self.assertEqual(self.run_here(sys.executable, "-c", f"import warrenctl; warrenctl.__path__.append({one_file.TESTS!r})\n{lines}"), "")
 
     def test_commands(self):
-        self.assertEqual(around.commands("deploy", "/warren", "/bed"), [["/bed/examples/deploy/run", "/warren"]])
+        script, module = around.commands("deploy", "/warren", "/bed")
+        self.assertEqual((script, module[-2:]), (["/bed/examples/deploy/run", "/warren"], ["examples.deploy.ends", "/warren"]))
         self.assertEqual([it[-2:] for it in around.commands("agree", "/warren", "/bed")], [["dev.agree", "/warren"]])
         self.assertEqual([it[-1] for it in around.commands("exports", "/warren", "/bed")], around.ALONE["exports"])
 

@@ -24,10 +24,10 @@ with open(os.path.join(ROOT, "CHANGELOG.md"), encoding="utf-8") as changelog:
     VERSION = re.search(r"^## ([0-9][0-9.]*) ", changelog.read(), re.MULTILINE).group(1)
 
 PATHS = {
-    "etc/default/warren": 0o644, "etc/warren/first/certificates.json": 0o640, "etc/warren/first/definitions.json": 0o640, "etc/warren/first/guarantees.json": 0o640,
+    "etc/default/warren": 0o644, "etc/needrestart/conf.d/warren.conf": 0o644, "etc/warren/first/certificates.json": 0o640, "etc/warren/first/definitions.json": 0o640, "etc/warren/first/guarantees.json": 0o640,
     "lib/systemd/system/warren.service": 0o644, "lib/systemd/system/warren@.service": 0o644, "lib/systemd/system/warren-front.service": 0o644,
     "lib/systemd/system/warren-metrics.service": 0o644, "lib/systemd/system/warren-ping.service": 0o644, "lib/systemd/system/warren-ping.timer": 0o644,
-    "usr/bin/warren": 0o755, "usr/bin/warrenctl": 0o755,
+    "usr/bin/warren": 0o755, "usr/bin/warrenctl": 0o755, "usr/lib/warren/files": 0o755,
     "usr/share/bash-completion/completions/warren": 0o644, "usr/share/bash-completion/completions/warrenctl": 0o644,
     "usr/share/man/man1/warren.1.gz": 0o644, "usr/share/man/man1/warrenctl.1.gz": 0o644,
     "usr/share/zsh/vendor-completions/_warren": 0o644, "usr/share/zsh/vendor-completions/_warrenctl": 0o644,
@@ -59,10 +59,14 @@ test ! -e /usr/bin/warren
 test -L /etc/warren/current
 test -e /etc/default/warren
 dpkg --force-unsafe-io --no-triggers -i new.deb
+mkdir -p /var/lib/warren/last /var/lib/warren-mine/last /var/lib/warren-mine/other
 dpkg --no-triggers --purge warren
 test ! -e /etc/default/warren
 test ! -L /etc/warren/current
 test -d /etc/warren/mine
+test ! -e /var/lib/warren
+test -e /var/lib/warren-mine/other
+test ! -e /var/lib/warren-mine/last
 rm -r /etc/warren
 dpkg --force-unsafe-io --no-triggers -i new.deb
 test "$(readlink /etc/warren/current)" = first
@@ -130,7 +134,7 @@ class Packages(unittest.TestCase):
         unit = contents(tree + "/lib/systemd/system/warren.service").decode()
         self.assertIn(" --listen ${LISTEN} --reload ${RELOAD}\n", unit)
         self.assertIn("\nEnvironmentFile=-/etc/default/warren\n", unit)
-        self.assertIn("\nExecStart=/usr/bin/warren serve /etc/warren/current/definitions.json ", unit)
+        self.assertIn("\nExecStart=/usr/lib/warren/files serve /etc/warren/current /var/lib/warren ", unit)
         self.assertEqual(set(re.findall(r"^(\w+)=", contents(tree + "/etc/default/warren").decode(), re.MULTILINE)), set(re.findall(r"\$\{(\w+)\}", unit)))
         self.assertEqual(sorted(contents(tree + "/DEBIAN/conffiles").decode().split()), sorted("/" + it for it in PATHS if it.startswith("etc/")))
 
@@ -195,7 +199,7 @@ class Packages(unittest.TestCase):
         for it in UNITS:
             paths.append(os.path.join(tree, os.path.basename(it).replace("@.", "@one.")))
             with open(paths[-1], "wb") as file:
-                file.write(re.sub(rb"/usr/bin/warren(ctl)?\b", b"/bin/true", unit_of(contents(os.path.join(ROOT, it)))))
+                file.write(re.sub(rb"/usr/(bin/warren(ctl)?|lib/warren/files)\b", b"/bin/true", unit_of(contents(os.path.join(ROOT, it)))))
         done = subprocess.run(["systemd-analyze", "verify", *paths], capture_output=True, text=True)
         self.assertEqual((done.returncode, done.stderr), (0, ""))
         for it in (path for path in paths if path.endswith(".service")):
