@@ -150,7 +150,8 @@ class WhatMayEndIt(unittest.TestCase):
         """Its check logs in nowhere; its program has less address space than Kubernetes gives memory, and no core."""
         image, kubernetes = text_of("Containerfile"), text_of("kubernetes.yml")
         check = json.loads(re.search(r"^HEALTHCHECK .* CMD (\[.*\])$", image, re.MULTILINE).group(1))
-        self.assertEqual(check[:3], ["warrenctl", "ping", "--hello"])
+        probe = json.loads(re.search(r"^ +command: (\[.*\])$", kubernetes, re.MULTILINE).group(1))
+        self.assertEqual((check, probe), (["warrenctl", "ping", "--hello", "127.0.0.1:5672"],) * 2)
         space = int(re.search(r"^ENV ADDRESS_SPACE=(\d+)$", image, re.MULTILINE).group(1))
         asked = int(re.search(r"name: ADDRESS_SPACE\n *value: \"(\d+)\"", kubernetes).group(1))
         requests, limits = (int(it) << 30 for it in re.findall(r"memory: (\d+)Gi", kubernetes))

@@ -249,7 +249,7 @@ def _judge_permissions(file):
 
 
 def _judge_plain(file, called, entry, members, known):
-    """What stands against an exchange and a queue alike: arguments, other members, auto-delete."""
+    """Judges what exchanges and queues have alike: arguments, other members, auto-delete."""
     if not isinstance(entry, dict):
         return {}
     arguments, wrong, others = _arguments(entry, known)

@@ -15,7 +15,7 @@ def _differences(wanted, there):
 
 class DefinitionsFile:
     def __init__(self, name, note):
-        """Reads the file, and raises what stands against it. `note` takes a line if it can't be read later: then it stays as it was."""
+        """Reads the file, and raises what is wrong with it. `note` takes a line if it can't be read later: then it stays as it was."""
         self._name, self._note = name, note
         self._seen = self._stamp()
         self._take(read_definitions(name))
