@@ -1,19 +1,13 @@
-"""The program warren: where it is, and which version it is."""
+"""The program warren: where it is."""
 
-import contextlib
 import glob
 import os
-import re
 import shutil
-import subprocess
 import sys
 
 # in the repository, a program that was made there comes before the one on the path
 ROOT = os.path.dirname(os.path.dirname(os.path.abspath(__file__)))
 UNPROVED, PROVED = (os.path.join(ROOT, it) for it in ("out/try/warren", "crates/warren/out/warren"))
-# seconds in which a program says its version
-ANSWERS = 20
-VERSION = re.compile(r"warren ([0-9][0-9.]*)\n")
 
 
 def is_stale(program):
@@ -33,12 +27,3 @@ def program_here():
 def program_of(given):
     """Returns the program that a command line names, or the one that is here; nothing with `--alone`."""
     return None if given.alone else given.warren or program_here()
-
-
-def version_of(path):
-    """The version that a program of warren tells, such as "0.1.0"; nothing if it is another program. The status is that of a refused command line."""
-    with contextlib.suppress(subprocess.TimeoutExpired):
-        done = subprocess.run([os.path.abspath(path), "--version"], stdin=subprocess.DEVNULL, stdout=subprocess.PIPE, stderr=subprocess.STDOUT, timeout=ANSWERS)
-        found = VERSION.fullmatch(done.stdout.decode(errors="replace"))
-        return found and found.group(1)
-    return None

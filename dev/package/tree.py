@@ -7,8 +7,8 @@ import subprocess
 import tempfile
 
 from dev import archive
+from dev.program import version_of
 from warrenctl.fault import Fault
-from warrenctl.program import version_of
 
 HERE = os.path.dirname(os.path.abspath(__file__))
 SHARE = "usr/share/warren"

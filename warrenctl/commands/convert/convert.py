@@ -8,24 +8,9 @@ from collections import defaultdict, namedtuple
 from warrenctl.commands.convert import still
 from warrenctl.commands.convert.policies import EXCHANGES, OF_QUEUES, OPERATOR_POLICY, lesser, matched_by_type, read_policies
 from warrenctl.files.causes import (
-    BINDING,
-    EMPTY_ARRAYS,
-    ENTRIES,
-    EXCHANGE,
-    EXCHANGE_ARGUMENTS,
-    LENGTH_LIMITS,
-    MOST_NUMBER,
-    PERMISSION,
-    QUEUE,
-    QUEUE_ARGUMENTS,
-    TYPES,
-    is_of,
-    name_of,
-    quoted,
-    wrong_hash,
-    wrong_name,
-    wrong_pattern,
-)
+    BINDING, EMPTY_ARRAYS, ENTRIES, EXCHANGE, EXCHANGE_ARGUMENTS, LENGTH_LIMITS, MOST_NUMBER, PERMISSION, QUEUE, QUEUE_ARGUMENTS, TYPES, is_of,
+    name_of, quoted, wrong_hash, wrong_name, wrong_pattern,
+)  # fmt: skip
 
 # how much a change of meaning weighs: who may do what, messages that no longer come to where they came, all else
 RIGHTS, LOST, REST = range(3)
