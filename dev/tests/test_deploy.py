@@ -111,27 +111,30 @@ class Served(unittest.TestCase):
         status, folder, said = self.serve()
         self.assertEqual((status, folder, said.splitlines()[-1]), (0, "current", "warren's files: no copy of current is kept"))
 
+    def follow(self, listening, behind=lambda: None):
+        """Follows the files of the link, and has the socket listen a second later."""
+        with self.run_files("follow", self.link, self.kept, f"127.0.0.1:{listening.getsockname()[1]}") as running:
+            self.assertRaises(subprocess.TimeoutExpired, running.wait, 1)
+            behind()
+            listening.listen()
+            self.assertEqual(running.wait(30), 0)
+
     def test_the_files_are_followed_again(self):
-        """Once it listens it looks at the files of the link, as if it had never been ended."""
+        """Once it listens it looks at the files of the link, as if it had never been ended; systemd begins to follow before the files were judged."""
+        now = os.path.join(self.kept, "now")
         self.assertEqual(self.serve()[0], 0)
         self.put("wrong")
-        self.assertEqual(self.serve()[1], "kept/now")
-        now = os.path.join(self.kept, "now")
         with socket.socket() as listening:
             listening.bind(("127.0.0.1", 0))
-            port = listening.getsockname()[1]
-            with self.run_files("follow", self.link, self.kept, f"127.0.0.1:{port}") as running:
-                self.assertRaises(subprocess.TimeoutExpired, running.wait, 1)
-                self.assertEqual(os.readlink(now), "last")
-                listening.listen()
-                self.assertEqual(running.wait(30), 0)
+            self.follow(listening, lambda: self.assertEqual((self.serve()[1], os.readlink(now)), ("kept/now", "last")))
         self.assertEqual(os.readlink(now), self.link)
-        # the next start doesn't take the link for the copy, and a follow without one is over at once
+        # the next start doesn't take the link for the copy, and one on accepted files has none
         self.assertEqual((self.serve()[1], os.readlink(now)), ("kept/now", "last"))
         self.put("good")
-        self.assertEqual(self.serve()[1], "current")
-        with self.run_files("follow", self.link, self.kept, "127.0.0.1:1") as running:
-            self.assertEqual(running.wait(30), 0)
+        with socket.socket() as listening:
+            listening.bind(("127.0.0.1", 0))
+            self.follow(listening, self.serve)
+        self.assertFalse(os.path.lexists(now))
 
 
 class WhatMayEndIt(unittest.TestCase):

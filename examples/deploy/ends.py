@@ -119,7 +119,10 @@ def of_the_limit(warren, folder):
     port = free_ports(1)[0]
     running = subprocess.Popen([*command, "--listen", f"{LOOPBACK}:{port}"], env={**os.environ, "ADDRESS_SPACE": str(SPACE)}, stdout=subprocess.DEVNULL)
     try:
-        yield wanted("the image's command serves", until(lambda: published(port, 1) == 1))
+        serves = until(lambda: published(port, 1) == 1 or running.poll() is not None) and running.poll() is None
+        yield wanted("the image's command serves", serves, running.poll())
+        if not serves:
+            return
         count = published(port, ENOUGH)
         yield wanted("a publisher is cut off before the memory is used up", 0 < count < ENOUGH, count)
         with Client(LOOPBACK, port, USER, USER) as client:
