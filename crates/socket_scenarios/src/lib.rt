@@ -31,6 +31,7 @@ pub fn run_all(sums: &mut Sums, rt: &HostRuntime) -> io::Result<()> {
         silent::a_full_socket_takes_more_once_its_client_reads(rt, alloc);
         beside::a_socket_with_room_is_written_to_beside_one_that_speaks(rt, alloc);
         patience::a_socket_that_is_not_welcomed_is_ended(rt, alloc);
+        patience::a_silent_socket_is_ended_in_the_round_after_its_time(rt, alloc);
         farewells::a_socket_that_was_bidden_farewell_is_ended(rt, alloc);
         farewells::a_full_socket_that_was_bidden_farewell_is_ended(rt, alloc);
         rests::a_rest_in_which_nothing_comes_waits_and_ends(rt, alloc);

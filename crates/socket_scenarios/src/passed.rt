@@ -17,7 +17,7 @@ const PATIENCE: u32 = 100;
 const TURNS: u32 = 16;
 
 /// Returns the slots of two sockets, in this order.
-fn two_slots(alloc: Global, first: u64, second: u64) -> Result<Slab<Peer>, Unmet> {
+pub(crate) fn two_slots(alloc: Global, first: u64, second: u64) -> Result<Slab<Peer>, Unmet> {
     let mut peers = Slab::new(alloc);
     for socket in [first, second] {
         let peer = Peer {

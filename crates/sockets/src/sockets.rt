@@ -233,6 +233,7 @@ impl Sockets {
         let name = self.given * PLACES + place;
         set_up(&self.poll, &mut stream, name).ok()?;
         let ends = self.watch.ends();
+        self.watch.expect(ends);
         let accepted = Accepted {
             name,
             stream,
@@ -243,7 +244,6 @@ impl Sockets {
         };
         self.accepted.insert_reserved(accepted);
         self.turns.enter(place as usize);
-        self.turns.watch(place as usize, ends.is_some());
         self.given += 1;
         Some(name)
     }
@@ -269,9 +269,28 @@ impl Sockets {
         if self.rounds.fetches(self.turns.is_pressed()) {
             self.fetch(0);
         }
+        self.watch.look();
+        self.end_late();
         self.rounds.begin();
         self.turns.begin(self.rounds.number());
-        self.watch.look();
+    }
+
+    /// Has each socket whose time is over asked in each round from now on: the next read or write of it fails. Looks at none before the first is due.
+    fn end_late(&mut self)
+        ensures failures { self.new.failures ≡ self.old.failures }
+        ensures counts { self.new.counts ≡ self.old.counts }
+        ensures given { self.new.given ≡ self.old.given }
+    {
+        if !self.watch.looks() {
+            return;
+        }
+        for (index, accepted) in &self.accepted {
+            if self.watch.is_over(accepted.ends) {
+                self.turns.end(index);
+            } else {
+                self.watch.expect(accepted.ends);
+            }
+        }
     }
 
     /// Fetches the events of all sockets, and waits at most `millis` milliseconds for one.
@@ -498,7 +517,6 @@ impl Wire for Sockets {
             accepted.ends = None;
             accepted.is_stranger = false;
             self.turns.begin_anew(place_in(socket));
-            self.turns.watch(place_in(socket), false);
         }
     }
 
@@ -507,8 +525,8 @@ impl Wire for Sockets {
         if let Some(accepted) = named(&mut self.accepted, socket) {
             accepted.ends = ends;
             accepted.is_stranger = true;
+            self.watch.expect(ends);
             self.turns.begin_anew(place_in(socket));
-            self.turns.watch(place_in(socket), ends.is_some());
         }
     }
 

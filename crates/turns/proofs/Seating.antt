@@ -1,5 +1,5 @@
 -- A socket whose voice changes stays in the set of its voice.
-use Rattle.std.proofs.Common.{◌≡◌, ◌<◌, ◌∙◌, ◌⊎◌, inl, inr, arith, not, ℕ, zero, suc, List, Bool, true, false, cond, length, get_or, replicate, refl, sym, ap}
+use Rattle.std.proofs.Common.{◌≡◌, ◌<◌, ◌∙◌, ◌⊎◌, inl, inr, arith, not, ℕ, zero, suc, List, Bool, true, false, cond, length, replicate, refl, sym, ap}
 use Rattle.std.specs.Prelude.{slice_set}
 use Rattle.std.proofs.lemmas.Bool.{cases_eq, false≢true}
 use Rattle.std.proofs.lemmas.List.{get_or-set_same, get_or-set_other}

@@ -51,8 +51,6 @@ pub struct Turns {
     silent: Ring,
     /// The sockets that have their turn in this round.
     picked: SocketSet,
-    /// The sockets whose time is limited.
-    watched: SocketSet,
     /// The number of this round.
     round: u64,
 }
@@ -83,7 +81,6 @@ impl Turns {
             recent: Ring::new(alloc)?,
             silent: Ring::new(alloc)?,
             picked: SocketSet::new(alloc)?,
-            watched: SocketSet::new(alloc)?,
             round: 0,
         })
     }
@@ -145,29 +142,15 @@ impl Turns {
         self.speaking.contains(index) || self.picked.contains(index)
     }
 
-    /// Returns the first index at or after `from` whose socket is asked in this round, or `end` if there is none before it. In each 16th round it also
-    /// stops at sockets whose time is limited.
+    /// Returns the first index at or after `from` whose socket is asked in this round, or `end` if there is none before it.
     pub fn next_due(&self, from: usize, end: usize) -> usize
         requires { from ≤ end }
         ensures least { from ≤ result }
         ensures most { result ≤ end }
         ensures passed { (i : ℕ) → from ≤ i → i < result → IsDue self.now i → ⊥ }
     {
-        let watched = self.next_watched(from, end);
-        let speaking = first_before(&self.speaking, from, watched);
+        let speaking = first_before(&self.speaking, from, end);
         first_before(&self.picked, from, speaking)
-    }
-
-    /// Returns the first index at or after `from` whose socket's time is limited, or `end` if there is none before it, or this round looks for none.
-    fn next_watched(&self, from: usize, end: usize) -> usize
-        requires { from ≤ end }
-        ensures least { from ≤ result }
-        ensures most { result ≤ end }
-    {
-        if self.round % SURE != 0 {
-            return end;
-        }
-        first_before(&self.watched, from, end)
     }
 
     /// A socket is accepted, and gets this index, with nothing of an earlier socket that had it.
@@ -182,18 +165,10 @@ impl Turns {
     pub fn leave(&mut self, index: usize)
         ensures { index < 4096 → self.new.voices ≡ slice_set self.old.voices index voices.Gone }
     {
-        self.watched.put(index, false);
         self.seat(index, Voice::Gone);
     }
 
-    /// Records whether the time of the socket is limited.
-    pub fn watch(&mut self, index: usize, is_limited: bool)
-        ensures { self.new ≡ self.old }
-    {
-        self.watched.put(index, is_limited);
-    }
-
-    /// The peer of the socket has ended it, by an event.
+    /// The peer of the socket has ended it, by an event, or its time is over.
     pub fn end(&mut self, index: usize)
         ensures { index < 4096 → self.new.voices ≡ slice_set self.old.voices index voices.Ending }
     {

@@ -10,7 +10,7 @@ pub enum Voice {
     Gone,
     /// It may have something, and is asked in each round: it was just accepted, or an event named it.
     Speaking,
-    /// Its peer has ended it. It is asked in each round until the end is read, since no later event reports that again.
+    /// Its peer has ended it, or its time is over. It is asked in each round until the end is read, since no later event reports that again.
     Ending,
     /// Its last read filled the buffer with commands, so it may have more.
     Greedy,

@@ -1,4 +1,4 @@
-use Rattle.std.proofs.Common.{◌≤◌, ◌<◌, ℕ, arith, subst, sym}
+use Rattle.std.proofs.Common.{arith, subst, sym}
 use Rattle.turns.specs.Turns.{IsDue, Seats}
 use Rattle.turns.proofs.Seating.{none_due}
 use Rattle.turns.proofs.turns.Turns.next_due.Goals as goal
