@@ -38,6 +38,10 @@ impl<W: Wire> Wire for Watched<W> {
         self.sockets.read(socket, buffer)
     }
 
+    fn note_part(&mut self, socket: u64) {
+        self.sockets.note_part(socket);
+    }
+
     fn write(&mut self, socket: u64, bytes: &[u8]) -> Write {
         let written = self.sockets.write(socket, bytes);
         if let Write::Took(count) = written {

@@ -2,7 +2,8 @@
 //!
 //! All clients wait for a round to end, so a round has to be short even if a client floods. A read is offered as many bytes as the slot's share of
 //! the round's commands would take, by the size of the commands at its last read. A slot is greedy if its last read got all bytes that it was
-//! offered, or if more than [`BURST`] commands came since its last read that got less; any other slot is modest. Modest slots share [`COMMANDS`].
+//! offered, with a command among them, or if more than [`BURST`] commands came since its last read that got less; any other slot is modest. So a part
+//! of a large content doesn't make a slot greedy. Modest slots share [`COMMANDS`].
 //! Greedy slots share [`BESIDE_COMMANDS`] if a modest slot gave bytes in the last [`BESIDE_ROUNDS`] rounds, so that the modest one waits for short
 //! rounds only, and otherwise [`ALONE_COMMANDS`], so that fewer rounds are needed. A consumer is offered more for its acknowledgements, so that they
 //! don't make it greedy. A connection whose messages enter queues that lag is offered less. Only the bounds are promised.
@@ -53,7 +54,7 @@ struct Offer {
     runs: bool,
     /// The number of commands that came since its last read that got less than it was offered.
     burst: usize,
-    /// Whether its last read got all bytes that it was offered, or ended a burst of more than [`BURST`] commands.
+    /// Whether its last read got all bytes that it was offered, with a command among them, or ended a burst of more than [`BURST`] commands.
     is_greedy: bool,
 }
 
@@ -204,7 +205,7 @@ impl Offers {
             let old = self.offers[slot];
             let is_full = heard.bytes >= heard.room;
             let burst = old.burst.saturating_add(heard.turns);
-            let is_greedy = is_full || burst > BURST;
+            let is_greedy = (is_full && heard.turns > 0) || burst > BURST;
             self.offers[slot] = Offer {
                 room: room_after(old.room, heard.has_filled),
                 size: heard.bytes / heard.turns.max(1),

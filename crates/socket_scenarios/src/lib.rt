@@ -22,6 +22,7 @@ pub fn run_all(sums: &mut Sums, rt: &HostRuntime) -> io::Result<()> {
         shares::each_client_is_read_soon(alloc);
         silent::bytes_between_a_read_and_a_rest_are_told_by_it(rt, alloc);
         silent::a_full_read_is_followed_by_another(rt, alloc);
+        silent::a_part_of_a_content_is_followed_by_the_next(rt, alloc);
         silent::an_end_behind_the_last_bytes_is_read(rt, alloc);
         silent::a_rest_tells_of_one_among_many(rt, alloc);
         silent::sockets_are_read_soon_without_a_rest(rt, alloc);

@@ -300,3 +300,45 @@ pub(crate) fn a_full_socket_takes_more_once_its_client_reads<N: Net>(
     }
     Err(Unmet::Claim("a rest reports room"))
 }
+
+/// Returns whether each of these sockets gives bytes in one round that fill the buffer.
+fn are_all_read(sockets: &mut Sockets, each: [u64; 3]) -> bool {
+    let mut buffer = [0u8; 16];
+    let mut are_full = true;
+    sockets.accept();
+    for socket in each {
+        let is_full = matches!(sockets.read(socket, &mut buffer), Read::Got(16));
+        are_full = are_full & is_full;
+    }
+    are_full
+}
+
+/// Returns whether a socket whose last read got a part of a content, which filled the buffer, is read in the next round, beside two that have more, too.
+fn is_part_followed<N: Net>(net: &N, alloc: Global) -> Result<bool, Unmet> {
+    let mut sockets = listening(net, alloc)?;
+    let (mut content, first) = met(net, &mut sockets)?;
+    let (mut greedy, second) = met(net, &mut sockets)?;
+    let (mut other, third) = met(net, &mut sockets)?;
+    let bytes = [0u8; 64];
+    value_of("write_all", content.write_all(bytes.as_slice()))?;
+    value_of("write_all", greedy.write_all(bytes.as_slice()))?;
+    value_of("write_all", other.write_all(bytes.as_slice()))?;
+    for socket in [first, second, third] {
+        sockets.welcome(socket);
+    }
+    sockets.rest();
+    if !are_all_read(&mut sockets, [first, second, third]) {
+        return Ok(false);
+    }
+    sockets.note_part(first);
+    Ok(matches!(round(&mut sockets, first), Read::Got(16)))
+}
+
+/// A part of a content is followed by the next in each round, whoever else has more. On a busy machine bytes may come late once.
+pub(crate) fn a_part_of_a_content_is_followed_by_the_next<N: Net>(
+    net: &N,
+    alloc: Global,
+) -> Result<(), Unmet> {
+    let is_so = is_part_followed(net, alloc)? || is_part_followed(net, alloc)?;
+    expect("the next part is read in the next round", is_so)
+}

@@ -34,9 +34,6 @@ const MOST_GIVEN: u64 = u64::MAX / PLACES - 1;
 /// The seconds that a client has to log in, and to answer a close.
 const PATIENCE: u64 = 30;
 
-/// A read that gets so many bytes is taken for a part of a large content: a server offers them only where its share of commands takes more.
-const LARGEST: usize = 65_536;
-
 /// The most milliseconds that a rest lasts.
 const LONGEST_REST: u64 = 100;
 
@@ -378,9 +375,6 @@ impl Sockets {
         match read_answer(accepted.stream.read(buffer), room) {
             Read::Got(count) => {
                 self.turns.hear(index, count >= room, accepted.is_stranger);
-                if count >= LARGEST {
-                    self.turns.note_part(index);
-                }
                 Read::Got(count)
             }
             Read::Wait => {
@@ -489,6 +483,12 @@ impl Wire for Sockets {
         let answer = self.read_from(socket, buffer);
         count_read(&mut self.counts, socket, answer);
         answer
+    }
+
+    fn note_part(&mut self, socket: u64) {
+        if named(&mut self.accepted, socket).is_some() {
+            self.turns.note_part(place_in(socket));
+        }
     }
 
     fn pass_silent(&mut self, peers: &Slab<Peer>, from: usize, end: usize) -> usize {

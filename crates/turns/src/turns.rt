@@ -195,7 +195,7 @@ impl Turns {
         }
     }
 
-    /// The bytes that filled the last read of the socket were a part of a large content, so it isn't greedy.
+    /// The bytes that filled the last read of the socket were a part of one content, so it isn't greedy.
     pub fn note_part(&mut self, index: usize) {
         if let Voice::Greedy = self.voice(index) {
             self.seat(index, Voice::Content);

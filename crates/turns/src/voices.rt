@@ -16,7 +16,7 @@ pub enum Voice {
     Greedy,
     /// Its last read filled the buffer, and its client has not logged in.
     Stranger,
-    /// Its last read filled the buffer with a part of a large content.
+    /// Its last read filled the buffer with a part of one content.
     Content,
     /// It has nothing, and gave bytes in the last 256 rounds.
     Recent,
