@@ -1,5 +1,5 @@
 -- A slot that is marked as full holds a connection that is paused, and what comes for other connections leaves it so.
-use Rattle.serving.proofs.Names.{◌≡◌, ◌≢◌, ◌≤◌, ◌<◌, ◌+◌, ◌⊎◌, ◌++◌, ℕ, suc, zero, List, [], ◌∷◌, Bool, true, false, Option, Some, None, length, drop, sym, ap, subst, ◌∙◌, inl, inr, slice_set, slice_index_or, arith, false≢true, cases_eq, lt-ltb, ltb-true, same_Some, nat_le, nat_lt, if◌then◌else◌, count_by, is_some, cond, To_read, Happening, World, Wire, Same, Delivers, is_over, is_gone, is_awake, is_paused, is_past_bound, has_output, At, Filled, OthersStay, IsFit, StaysOrFrees, IsMarkedAt, HasEnded, read_of, Peer, get_or-set_other}
+use Rattle.serving.proofs.Names.{◌≡◌, ◌≢◌, ◌≤◌, ◌<◌, ◌+◌, ◌⊎◌, ◌++◌, ℕ, suc, zero, List, [], ◌∷◌, Bool, true, false, Option, Some, None, length, sym, ap, subst, ◌∙◌, inl, inr, slice_set, slice_index_or, arith, false≢true, cases_eq, lt-ltb, ltb-true, same_Some, nat_le, nat_lt, To_read, Happening, World, Wire, Same, Delivers, is_over, is_gone, is_awake, is_paused, is_past_bound, has_output, At, Filled, OthersStay, IsFit, StaysOrFrees, IsMarkedAt, HasEnded, read_of, Peer, get_or-set_other, if◌then◌else◌}
 use Rattle.std.proofs.Common.{not, length-append}
 use Rattle.model.specs.Spelling.{spelling}
 use Rattle.serving.specs.Quiet.{AreFull}
@@ -7,7 +7,6 @@ use Rattle.serving.proofs.Others.{StaysFor, others_stay, same_stays}
 use Rattle.std.proofs.lemmas.Bool.{and_parts, and_right, not-true, not_from_true}
 use Rattle.serving.proofs.Turning.{output_stands}
 use Rattle.serving.proofs.Quieting.{marked_now, not_paused}
-use Rattle.serving.proofs.Seating.{taken_from}
 
 -- ---- one connection
 
@@ -127,21 +126,6 @@ pub full_unread : (w : World) (ps : List (Option Peer)) (i : ℕ) (fs : List Boo
 full_unread w ps i fs full m =
     let was = full i m in
     ap (read_of w) was.1 ∙ ap (λ (x : Bool). if x then To_read was.0.socket ∷ [] else []) (paused_waits w was.0.connection was.2)
-
--- marked slots are taken
-pub full_taken : (w : World) (ps : List (Option Peer)) (fs : List Bool) → AreFull w ps fs → (i n : ℕ) → ((k : ℕ) → i ≤ k → k < i + n → IsMarkedAt fs k) → count_by is_some (drop i ps) ≡ n + count_by is_some (drop (i + n) ps)
-full_taken w ps fs full i zero marked =
-    let none : i ≡ i + 0 = omega arith in
-    let same = ap (λ (k : ℕ). count_by is_some (drop k ps)) none in
-    omega (arith, same)
-full_taken w ps fs full i (suc n) marked =
-    let here = taken_from ps i in
-    let was = full i (marked i (omega arith) (omega arith)) in
-    let one : ◌≡◌ {A = ℕ} (cond (is_some (slice_index_or ps i None)) 1 0) 1 = ap (λ (o : Option Peer). cond (is_some o) 1 0) was.1 in
-    let rest = full_taken w ps fs full (i + 1) n (λ k le lt. marked k (omega (arith, le)) (omega (arith, lt))) in
-    let next : i + 1 + n ≡ i + suc n = omega arith in
-    let same = ap (λ (k : ℕ). count_by is_some (drop k ps)) next in
-    omega (arith, here, one, rest, same)
 
 -- a slot that is marked is one of the marks
 pub marked_within : (fs : List Bool) (i : ℕ) → IsMarkedAt fs i → i < length fs

@@ -1,5 +1,5 @@
 -- Slots for which the wire answers itself that their sockets take nothing: what is asked of it so is what they are due.
-use Rattle.serving.proofs.Names.{◌≡◌, ◌≤◌, ◌<◌, ◌+◌, ◌-◌, ◌⊎◌, ◌++◌, ◌∙◌, ℕ, suc, zero, List, [], ◌∷◌, Bool, false, Option, Some, None, length, drop, flat_map, refl, sym, ap, subst, inl, inr, arith, cases_lt, append_assoc, lt-ltb, ltb-false, nat_lt, if◌then◌else◌, count_by, is_some, World, Ask, To_write, At, Served, Serves, served, Traffic, AreQuiet, IsMarkedAt, IsNextLoud, HasEnded, read_of, write_of, Peer, Lacks, get_or-drop}
+use Rattle.serving.proofs.Names.{◌≡◌, ◌≤◌, ◌<◌, ◌+◌, ◌-◌, ◌⊎◌, ◌++◌, ◌∙◌, ℕ, suc, zero, List, [], ◌∷◌, Bool, false, Option, Some, None, length, drop, flat_map, refl, sym, ap, subst, inl, inr, arith, cases_lt, append_assoc, lt-ltb, ltb-false, nat_lt, World, Ask, To_write, At, Served, Serves, served, Traffic, AreQuiet, IsMarkedAt, IsNextLoud, HasEnded, read_of, write_of, Peer, Lacks, get_or-drop, if◌then◌else◌}
 use Rattle.std.proofs.Common.{drop-drop}
 use Rattle.serving.specs.Rounds.{outputs}
 use Rattle.serving.specs.Quiet.{AreFull}
@@ -7,7 +7,7 @@ use Rattle.serving.specs.Wire.{NoneTakes, TakesNothing}
 use Rattle.serving.proofs.Deeds.{gave_nothing}
 use Rattle.serving.proofs.Onward.{serves_not, serves_then}
 use Rattle.serving.proofs.Quieting.{marked_ended}
-use Rattle.serving.proofs.Fullness.{full_ended, full_taken, full_unread}
+use Rattle.serving.proofs.Fullness.{full_ended, full_unread}
 use Rattle.serving.proofs.Loudness.{PassedBy, due_to, later_to}
 use Rattle.serving.proofs.Waiting.{Passes}
 
@@ -152,29 +152,16 @@ passed_on w start now i j asked due traffic after le p later so_far =
 -- ---- reads
 
 -- a pass over all slots goes on behind full ones
-pub passes_full : {L : Lacks} (start : Served) (w : World) (now : List (Option Peer)) (fs : List Bool) (i j left : ℕ) (traffic : Traffic) (acted : Bool) → AreFull w now fs → IsNextLoud fs i j → Passes L start w now traffic i left acted
-    → Passes L start w now traffic j (left - (j - i)) acted
-passes_full start w now fs i j left traffic acted full next p =
+pub passes_full : {L : Lacks} (start : Served) (w : World) (now : List (Option Peer)) (fs : List Bool) (i j : ℕ) (traffic : Traffic) (acted : Bool) → AreFull w now fs → IsNextLoud fs i j → Passes L start w now traffic i acted
+    → Passes L start w now traffic j acted
+passes_full start w now fs i j traffic acted full next p =
     let least = next.least in
     let n : j ≡ i + (j - i) = omega (arith, least) in
     let behind : drop j now ≡ drop j start.peers = later_to start.peers now i j (j - i) n p.later in
-    let taken = full_taken w now fs full i (j - i) (λ k ge lt. next.before k ge (omega (arith, lt, least))) in
-    let same = ap (λ (k : ℕ). count_by is_some (drop k now)) n in
-    let was = p.left in
     let unread : flat_map (read_of w) (drop i now) ≡ flat_map (read_of w) (drop j now) = due_to (read_of w) refl now i j (j - i) n (λ k ge lt. full_unread w now k fs full (next.before k ge lt)) in
     record {
       later = behind;
       asked = p.asked;
       serves = p.serves;
       so_far = ap (λ (z : List Ask). p.asked ++ z) (sym (ap (flat_map (read_of w)) behind) ∙ sym unread ∙ ap (flat_map (read_of w)) p.later) ∙ p.so_far;
-      left = omega (arith, taken, same, was);
     }
-
--- at most as many slots are full as are left
-pub full_left : {L : Lacks} (start : Served) (w : World) (now : List (Option Peer)) (fs : List Bool) (i j left : ℕ) (traffic : Traffic) (acted : Bool) → AreFull w now fs → IsNextLoud fs i j → Passes L start w now traffic i left acted → j - i ≤ left
-full_left start w now fs i j left traffic acted full next p =
-    let least = next.least in
-    let n : j ≡ i + (j - i) = omega (arith, least) in
-    let taken = full_taken w now fs full i (j - i) (λ k ge lt. next.before k ge (omega (arith, lt, least))) in
-    let was = p.left in
-    omega (arith, taken, was)

@@ -1,5 +1,5 @@
 -- If a connection can be opened a slot is free: each taken slot has a connection of its own that is not gone.
-use Rattle.serving.proofs.Names.{◌≡◌, ◌≢◌, ◌≤◌, ◌<◌, ◌+◌, ◌-◌, ◌++◌, ℕ, zero, suc, List, [], ◌∷◌, length, Bool, true, false, cond, Option, Some, None, refl, sym, ap, ◌∙◌, ◌⊎◌, inl, inr, drop, flat_map, count_by, slice_index_or, arith, false≢true, cases_eq, leb-true, le-leb, lt-leb, ltb-true, eqb-true, eq-eqb, ne_eqb, is_some, nat_le, nat_lt, ◌==◌, ◌&&◌, if◌then◌else◌, World, count_open, is_gone, can_open, Ask, At, IsFit, HasEnded, Peer}
+use Rattle.serving.proofs.Names.{◌≡◌, ◌≢◌, ◌≤◌, ◌<◌, ◌+◌, ℕ, zero, suc, List, [], ◌∷◌, Bool, true, false, cond, Option, Some, None, refl, sym, ap, ◌∙◌, ◌⊎◌, inl, inr, count_by, slice_index_or, arith, false≢true, cases_eq, leb-true, le-leb, lt-leb, ltb-true, eqb-true, eq-eqb, ne_eqb, is_some, nat_le, nat_lt, ◌==◌, ◌&&◌, World, count_open, is_gone, can_open, At, IsFit, HasEnded, Peer, if◌then◌else◌}
 use Rattle.std.proofs.lemmas.List.Recursion.{is_count_by}
 
 -- ---- how many slots pass a test
@@ -135,46 +135,3 @@ slot_left w ps fit ended can =
     let few : count_open w w.given < 1024 = ltb-true (count_open w w.given) 1024 (both_first (nat_lt (count_open w w.given) 1024) _ can) in
     let same = tally_counts is_some ps in
     omega (arith, all, in_slots, few, same)
-
--- ---- how many are taken from a slot on
-
-tally_from : (ps : List (Option Peer)) (i : ℕ) → tally is_some (drop i ps) ≡ cond (is_some (slice_index_or ps i None)) 1 0 + tally is_some (drop (suc i) ps)
-tally_from [] zero = refl
-tally_from [] (suc i) = refl
-tally_from (None ∷ ps) zero = omega arith
-tally_from (Some p ∷ ps) zero = refl
-tally_from (o ∷ ps) (suc i) = tally_from ps i
-
-pub taken_from : (ps : List (Option Peer)) (i : ℕ) → count_by is_some (drop i ps) ≡ cond (is_some (slice_index_or ps i None)) 1 0 + count_by is_some (drop (i + 1) ps)
-taken_from ps i =
-    let next : suc i ≡ i + 1 = omega arith in
-    sym (tally_counts is_some (drop i ps)) ∙ tally_from ps i
-    ∙ ap (λ (n : ℕ). cond (is_some (slice_index_or ps i None)) 1 0 + n) (tally_counts is_some (drop (suc i) ps))
-    ∙ ap (λ (k : ℕ). cond (is_some (slice_index_or ps i None)) 1 0 + count_by is_some (drop k ps)) next
-
-tally_within : (ps : List (Option Peer)) (i : ℕ) → 0 < tally is_some (drop i ps) → i < length ps
-tally_within [] zero some = absurd (omega (arith, some))
-tally_within [] (suc i) some = absurd (omega (arith, some))
-tally_within (o ∷ ps) zero some = omega arith
-tally_within (o ∷ ps) (suc i) some = let lt = tally_within ps i some in omega (arith, lt)
-
--- a slot from which on some are taken is one of them
-pub taken_within : (ps : List (Option Peer)) (i left : ℕ) → count_by is_some (drop i ps) ≡ left → 0 < left → i < length ps
-taken_within ps i left is some = let same = tally_counts is_some (drop i ps) in tally_within ps i (omega (arith, same, is, some))
-
--- how many are left behind a slot that has this many
-pub left_behind : (ps qs : List (Option Peer)) (i left n : ℕ) → n ≡ cond (is_some (slice_index_or ps i None)) 1 0 → drop (i + 1) qs ≡ drop (i + 1) ps → count_by is_some (drop i ps) ≡ left
-    → count_by is_some (drop (i + 1) qs) ≡ left - n
-left_behind ps qs i left n is later was =
-    let taken = taken_from ps i in
-    let behind : count_by is_some (drop (i + 1) qs) ≡ count_by is_some (drop (i + 1) ps) = ap (count_by is_some) later in
-    omega (arith, taken, behind, was, is)
-
-due_of_none : (f : Option Peer → List Ask) → f None ≡ [] → (ps : List (Option Peer)) → tally is_some ps ≡ 0 → flat_map f ps ≡ []
-due_of_none f e [] none = refl
-due_of_none f e (None ∷ ps) none = ap (λ (z : List Ask). z ++ flat_map f ps) e ∙ due_of_none f e ps none
-due_of_none f e (Some p ∷ ps) none = absurd (omega (arith, none))
-
--- of slots of which none is taken nothing is due
-pub none_due : (f : Option Peer → List Ask) → f None ≡ [] → (ps : List (Option Peer)) → count_by is_some ps ≡ 0 → flat_map f ps ≡ []
-none_due f e ps none = due_of_none f e ps (tally_counts is_some ps ∙ none)

@@ -119,11 +119,11 @@ pub record AddsCalls (old : Traffic) (more : List Call) (new : Traffic) : Type 0
 abbrev pub least_room : ℕ
 least_room = 16
 
--- the first n of these slots are taken, and a read of each one's socket, in order, got nothing
+-- a read of the socket in each taken one of the first n of these slots, in order, got nothing
 abbrev pub AllWait : ℕ → List (Option Peer) → Traffic → Traffic → Type 0
 AllWait zero ps old new = new ≡ old
-AllWait (suc n) [] old new = ⊥
-AllWait (suc n) (None ∷ ps) old new = ⊥
+AllWait (suc n) [] old new = new ≡ old
+AllWait (suc n) (None ∷ ps) old new = AllWait n ps old new
 AllWait (suc n) (Some p ∷ ps) old new = (mid : Traffic) × AddsCalls old (Nothing_got p.socket least_room ∷ []) mid × AllWait n ps mid new
 
 -- socket `s` was offered these bytes and took none; without bytes it was not asked

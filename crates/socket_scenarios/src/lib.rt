@@ -27,6 +27,7 @@ pub fn run_all(sums: &mut Sums, rt: &HostRuntime) -> io::Result<()> {
         silent::a_rest_tells_of_one_among_many(rt, alloc);
         silent::sockets_are_read_soon_without_a_rest(rt, alloc);
         passed::silent_sockets_are_passed_by_up_to_one_that_speaks(rt, alloc);
+        passed::slots_that_hold_other_sockets_are_not_passed_by(rt, alloc);
         passed::full_sockets_are_passed_by_up_to_one_with_room(rt, alloc);
         listening::sockets_listen_at_the_address_that_is_asked_for(rt, alloc);
         silent::a_full_socket_takes_more_once_its_client_reads(rt, alloc);

@@ -95,6 +95,26 @@ pub(crate) fn silent_sockets_are_passed_by_up_to_one_that_speaks<N: Net>(
     Ok(())
 }
 
+/// If the slots hold sockets of other indices, none is passed by: each is asked.
+pub(crate) fn slots_that_hold_other_sockets_are_not_passed_by<N: Net>(
+    net: &N,
+    alloc: Global,
+) -> Result<(), Unmet> {
+    let mut sockets = listening(net, alloc)?;
+    let (_one, first) = met(net, &mut sockets)?;
+    let (_other, second) = met(net, &mut sockets)?;
+    let peers = two_slots(alloc, second, first)?;
+    let mut buffer = [0u8; 16];
+    for _ in 0..3 {
+        sockets.accept();
+        let place = sockets.pass_silent(&peers, 0, 2);
+        expect_number("the slot that is asked next", place as u64, 0)?;
+        sockets.read(second, &mut buffer);
+        sockets.read(first, &mut buffer);
+    }
+    Ok(())
+}
+
 /// Expects that in some round the first socket, which is full, is skipped and the second is not, and that the second takes bytes.
 fn expect_taken_by_second(
     sockets: &mut Sockets,

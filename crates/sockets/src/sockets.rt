@@ -1,6 +1,6 @@
 //! A listening socket and those that it accepted, all non-blocking.
 
-ghost use Rattle.std.specs.Prelude.{◌≡◌, ◌≤◌, ◌<◌, ◌+◌, ◌*◌, ℕ, None, is_some, length, slice_index_or, true};
+ghost use Rattle.std.specs.Prelude.{◌≡◌, ◌≤◌, ◌<◌, ◌+◌, ◌*◌, ℕ, None, length};
 ghost use Rattle.serving.specs.Answered.{accept_call, read_call, write_call};
 ghost use Rattle.serving.specs.declared.wire.Accept.TheVariants as accept;
 ghost use Rattle.serving.specs.declared.wire.Read.TheVariants as read;
@@ -78,6 +78,8 @@ pub struct Sockets {
     watch: Watch,
     /// Whether an event named the listening socket, so that a client may be waiting to be accepted.
     is_called: bool,
+    /// Whether a slot was seen that holds a socket of another index: since then each slot is asked.
+    is_askew: bool,
     failures: u64,
     /// The bytes that each socket gave and took, by the index in their names.
     counts: Vec<Option<Count>>,
@@ -97,27 +99,11 @@ fn hear_event(turns: &mut Turns, index: usize, event: &Event) {
     }
 }
 
-/// Returns the first slot at or after `from` that is free, or whose socket has another index than the slot: at most `end`.
-fn first_other(peers: &Slab<Peer>, from: usize, end: usize) -> usize
-    requires { from ≤ end }
-    ensures least { from ≤ result }
-    ensures most { result ≤ end }
-    ensures taken { (i : ℕ) → from ≤ i → i < result → is_some (slice_index_or peers.now.slots i None) ≡ true }
-{
-    let mut slot = from;
-    while slot < end && is_own(peers, slot) {
-        slot += 1;
-    }
-    slot
-}
-
-/// Returns whether a slot is taken, by a socket whose index is the slot.
-fn is_own(peers: &Slab<Peer>, slot: usize) -> bool
-    ensures { result ≡ true → is_some (slice_index_or peers.now.slots slot None) ≡ true }
-{
+/// Returns whether a slot is free, or holds the socket whose index it is.
+fn is_own(peers: &Slab<Peer>, slot: usize) -> bool {
     match peers.get(slot) {
         Some(peer) => place_in(peer.socket) == slot,
-        None => false,
+        None => true,
     }
 }
 
@@ -145,7 +131,7 @@ fn set_up(poll: &Poll, stream: &mut TcpStream, name: u64) -> io::Result<()> {
 }
 
 impl Sockets {
-    ghost use Rattle.std.specs.Prelude.{◌≡◌, ◌+◌, ◌≤◌, ◌<◌, ◌*◌, ℕ, List, Some, None, length, IfOk, IfSome, cond, is_some, slice_index_or, true};
+    ghost use Rattle.std.specs.Prelude.{◌≡◌, ◌+◌, ◌≤◌, ◌<◌, ◌*◌, ℕ, List, Some, None, length, IfOk, IfSome, cond};
     ghost use Rattle.std.specs.Duration.{as_nanos};
     ghost use Rattle.turns.specs.Turns.{HasMore, voice_at};
     ghost use Rattle.sockets.specs.Traffic.{patience_of, seen, traffic_of};
@@ -165,6 +151,7 @@ impl Sockets {
             turns: Turns::new(alloc)?,
             watch: Watch::none(),
             is_called: true,
+            is_askew: false,
             failures: 0,
             counts: vec![in alloc; None; PLACES as usize]?,
         })
@@ -386,6 +373,20 @@ impl Sockets {
         }
     }
 
+    /// Returns the first slot at or after `from` whose socket has to be asked for bytes, or `end` if there is none. That is the next index that is due, as
+    /// long as each slot that was returned held the socket of its index. A slot that got a new socket is returned in that round, so none is missed.
+    fn first_asked(&mut self, peers: &Slab<Peer>, from: usize, end: usize) -> usize
+        requires { from ≤ end }
+        // The frame: what the sockets know is unchanged.
+        ensures traffic { traffic_of self.new ≡ traffic_of self.old }
+        ensures least { from ≤ result }
+        ensures most { result ≤ end }
+    {
+        let next = self.turns.next_due(from, end);
+        self.is_askew = self.is_askew | !is_own(peers, next);
+        if self.is_askew { from } else { next }
+    }
+
     /// Returns whether `slot` needs no write now: it is empty, or no event has reported room at its socket and the socket is not due in this round. A
     /// socket that isn't full is never due.
     fn stays_full(&mut self, peers: &Slab<Peer>, slot: usize) -> bool
@@ -492,7 +493,7 @@ impl Wire for Sockets {
     }
 
     fn pass_silent(&mut self, peers: &Slab<Peer>, from: usize, end: usize) -> usize {
-        first_other(peers, from, self.turns.next_due(from, end))
+        self.first_asked(peers, from, end)
     }
 
     fn pass_full(&mut self, peers: &Slab<Peer>, from: usize, end: usize) -> usize {

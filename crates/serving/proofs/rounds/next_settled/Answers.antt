@@ -1,4 +1,4 @@
-use Rattle.serving.proofs.Names.{◌≤◌, ◌<◌, ◌⊎◌, ◌∙◌, ℕ, inl, inr, sym, ap, arith, cases_eq, cases_lt, false, false≢true, slice_index_or, IsMarkedAt}
+use Rattle.serving.proofs.Names.{◌∙◌, ℕ, inl, inr, sym, ap, arith, cases_eq, cases_lt, false, false≢true, slice_index_or, IsMarkedAt}
 use Rattle.serving.proofs.Fullness.{marked_within}
 use Rattle.serving.proofs.rounds.next_settled.Goals as goal
 

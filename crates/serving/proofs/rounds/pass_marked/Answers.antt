@@ -1,4 +1,3 @@
-use Rattle.serving.proofs.Names.{◌≤◌, arith}
 use Rattle.serving.specs.Rounds.{outputs}
 use Rattle.serving.proofs.Passing.{passes_ended, passes_run}
 use Rattle.serving.proofs.rounds.pass_marked.Goals as goal
