@@ -123,8 +123,8 @@ went_one a b d os does = (d ∷ [], os, (b, os, [], sym (append-nil os), does, (
 went : {L : Lacks} (a b : Served) (xs : List Ask) (p : Bool) → Serves L a xs p b → Went L a b
 went a b xs p s = (s.deeds, s.occurrences, s.story)
 
-went_pumps : {L : Lacks} (n : ℕ) (a b : Served) (p : Bool) → PumpsUp L n a p b → Went L a b
-went_pumps n a b p s = (s.deeds, s.occurrences, s.story)
+went_pumps : {L : Lacks} (n enough : ℕ) (a b : Served) (p : Bool) → PumpsUp L n enough a p b → Went L a b
+went_pumps n enough a b p s = (s.deeds, s.occurrences, s.story)
 
 went_rests : (L : Lacks) (v w : Served) (acted : Bool) → RestsUnless v acted w → Went L v w
 went_rests L v w true e = subst (λ (z : Served). Went L v z) (sym e) (went v v [] false (serves_not v))
@@ -139,7 +139,7 @@ went_round {L = L} a b r =
     reads_and_pumps : Went L a r.goes.pumped
     reads_and_pumps =
         let g = r.goes in
-        went_then L a g.heard g.pumped (went_then L a g.met g.heard (went a g.met _ _ g.accepts) (went g.met g.heard _ _ g.reads)) (went_pumps _ g.heard g.pumped _ g.pumps)
+        went_then L a g.heard g.pumped (went_then L a g.met g.heard (went a g.met _ _ g.accepts) (went g.met g.heard _ _ g.reads)) (went_pumps _ _ g.heard g.pumped _ g.pumps)
 
 pub went_rounds : (L : Lacks) (n : ℕ) (a b : Served) → Rounds L n a b → Went L a b
 went_rounds L zero a b e = subst (λ (z : Served). Went L a z) (sym e) (went a a [] false (serves_not a))

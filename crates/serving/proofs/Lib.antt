@@ -3,6 +3,7 @@ pub mod Turning
 pub mod Onward
 pub mod Deeds
 pub mod Pumping
+pub mod Growing
 pub mod Staying
 pub mod Others
 pub mod Fits

@@ -20,8 +20,8 @@ pub use Rattle.serving.specs.Coming.{Attempt, Attempts, Brings, FallsShort, IsWh
 pub use Rattle.serving.specs.Fit.{OthersStay, IsFit, StaysOrFrees, most_peers}
 pub use Rattle.serving.specs.Joined.{AreBeginnings, AreCounted, AreJoined, IsJoined, all_met, amount_for, count_of, got_of, is_end_of, is_loss_of, is_short_for, met_by, piece_for, written_to}
 pub use Rattle.serving.specs.Quiet.{AreLoud, AreQuiet, AreInSlots, IsMarkedAt, IsNextLoud, IsOther, IsQuiet, IsServerKept, Wakes, loud_bit}
-pub use Rattle.serving.specs.Rounds.{HasEnded, IsRound, RestsUnless, Rounds, most_pumps, read_of, reads_due, write_of, writes_due}
-pub use Rattle.serving.specs.Story.{ArePumps, At, Deed, DoesDeed, Enters, Filled, Gave, Gave_nothing, Gave_partly, Gave_up, Heard, Heard_end, Heard_nothing, Heard_partly, IsFront, IsOffer, Leaves, Closed_gone, MayTurnAway, Met, Met_no_one, Passage, Paused, Pump_refused, Pumped_nothing, PumpsOnce, PumpsUp, Reload_decided, Reload_undecided, Served, Serves, Stays, Story, Table, TakesIn, Turned_away, attempts, calls, greeting, is_done, is_pump, is_unasked, passage_between, passage_of, served}
+pub use Rattle.serving.specs.Rounds.{HasEnded, IsRound, RestsUnless, Rounds, enough_output, most_pumps, read_of, reads_due, write_of, writes_due}
+pub use Rattle.serving.specs.Story.{ArePumps, At, Deed, DoesDeed, Enters, Filled, Gave, Gave_nothing, Gave_partly, Gave_up, Heard, Heard_end, Heard_nothing, Heard_partly, IsFront, IsOffer, Leaves, Closed_gone, MayTurnAway, Met, Met_no_one, Passage, Paused, Pump_refused, Pumped_nothing, PumpsOnce, PumpsUp, Reload_decided, Reload_undecided, Served, Serves, Stays, Story, Table, TakesIn, Turned_away, attempts, grown_bytes, calls, grown, greeting, is_done, is_pump, is_unasked, passage_between, passage_of, served}
 pub use Rattle.serving.specs.Whole.{GoesOn, IsOf, IsServed, TakesOn, arrivals_of, arrived, seen_after, seen_of}
 pub use Rattle.serving.specs.Wire.{Accept_failed, Accepted, Ask, Call, Closed, Follows, Got, IsFresh, Not_accepted, Nothing_got, Nothing_taken, Farewell, Read_ended, Read_failed, Rested, AddsCalls, To_accept, To_read, To_write, Traffic, Took, Totals, Welcomed, Write_failed, ask, asks, is_failed, no_bytes, total_after, totals_after, with_got, with_taken}
 pub use Rattle.serving.specs.declared.peers.Peer.{Peer}

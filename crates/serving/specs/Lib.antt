@@ -2,6 +2,7 @@ pub mod Wire
 pub mod Answered
 pub mod Coming
 pub mod Story
+pub mod Load
 pub mod Fit
 pub mod Quiet
 pub mod Rounds

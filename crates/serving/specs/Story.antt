@@ -1,6 +1,6 @@
 -- What a server does (own): its calls of the wire with their answers, the arrivals at the machine that these become, its pumps, and reloads.
 use Rattle.std.specs.Prelude.{◌≡◌, ◌≢◌, ◌≤◌, ◌+◌, ℕ, zero, suc, List, [], ◌∷◌, ◌++◌, length, take, flat_map}
-use Rattle.std.specs.Prelude.{Bool, true, false, Option, Some, None, slice_index_or, slice_set, if◌then◌else◌, MatchBool}
+use Rattle.std.specs.Prelude.{Bool, true, false, Option, Some, None, slice_index_or, slice_set, if◌then◌else◌, MatchBool, nat_lt, sum_by}
 use Rattle.std.specs.List.{list_any}
 use Rattle.model.specs.State.{Config}
 use Rattle.model.specs.History.{Occurrence}
@@ -263,24 +263,39 @@ pub record PumpsOnce (L : Lacks) (old : Served) (acted : Bool) (new : Served) : 
   pub pump : is_pump deed ≡ true
   pub done : is_done deed ≡ acted
 
--- at most `n` pumps, and fewer only if the last one delivered nothing: no delivery could be made, or an allocation failed
-abbrev pub ArePumps : ℕ → List Deed → Type 0
-ArePumps zero deeds = deeds ≡ []
-ArePumps (suc n) [] = ⊥
-ArePumps (suc n) (d ∷ ds) = (is_pump d ≡ true) × MatchBool (is_done d) (ArePumps n ds) (ds ≡ [])
+-- how many bytes of output connection `c` has
+abbrev pub output_length : World → ℕ → ℕ
+output_length w c = length (w.wire c).output
 
--- At most `most` pumps, and whether they delivered anything.
-pub record PumpsUp (L : Lacks) (most : ℕ) (old : Served) (acted : Bool) (new : Served) : Type 0 where
+-- the length of the output of a slot's connection, if it is longer in `new` than in `old`; otherwise 0
+abbrev pub grown : World → World → Option Peer → ℕ
+grown old new None = 0
+grown old new (Some p) = if nat_lt (output_length old p.connection) (output_length new p.connection) then output_length new p.connection else 0
+
+-- how many bytes wait in `new` for the connections in these slots whose outputs are longer than in `old`; after pumps, those that got deliveries
+abbrev pub grown_bytes : World → World → List (Option Peer) → ℕ
+grown_bytes old new ps = sum_by (grown old new) ps
+
+-- at most `n` pumps, and fewer only if the last one delivered nothing (no delivery could be made, or an allocation failed), or if `waiting` is at least
+-- `enough`
+abbrev pub ArePumps : ℕ → ℕ → ℕ → List Deed → Type 0
+ArePumps enough waiting zero deeds = deeds ≡ []
+ArePumps enough waiting (suc n) [] = enough ≤ waiting
+ArePumps enough waiting (suc n) (d ∷ ds) = (is_pump d ≡ true) × MatchBool (is_done d) (ArePumps enough waiting n ds) (ds ≡ [])
+
+-- At most `most` pumps, and fewer only if the last one delivered nothing, or if `enough` bytes wait for connections that they delivered to. `acted` is
+-- whether they delivered anything.
+pub record PumpsUp (L : Lacks) (most enough : ℕ) (old : Served) (acted : Bool) (new : Served) : Type 0 where
   pub deeds : List Deed
   pub occurrences : List Occurrence
   pub story : Story L old deeds occurrences new
-  pub pumps : ArePumps most deeds
+  pub pumps : ArePumps enough (grown_bytes old.world new.world old.peers) most deeds
   pub done : list_any is_done deeds ≡ acted
 
 -- one pump of the machine; the peers and what the wire knows, whatever they are, stay the same
 abbrev pub MachinePumpsOnce : Lacks → World → Bool → World → Type 0
 MachinePumpsOnce L old acted new = (ps : List (Option Peer)) (traffic : Traffic) → PumpsOnce L (served old ps traffic) acted (served new ps traffic)
 
--- at most `most` pumps of the machine; the peers and what the wire knows, whatever they are, stay the same
-abbrev pub MachinePumpsUp : Lacks → ℕ → World → Bool → World → Type 0
-MachinePumpsUp L most old acted new = (ps : List (Option Peer)) (traffic : Traffic) → PumpsUp L most (served old ps traffic) acted (served new ps traffic)
+-- `PumpsUp` by pumps of the machine, with these peers; what the wire knows, whatever it is, stays the same
+abbrev pub MachinePumpsUp : Lacks → ℕ → ℕ → List (Option Peer) → World → Bool → World → Type 0
+MachinePumpsUp L most enough ps old acted new = (traffic : Traffic) → PumpsUp L most enough (served old ps traffic) acted (served new ps traffic)

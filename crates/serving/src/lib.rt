@@ -5,6 +5,7 @@
 //! with their answers, so the contracts say which arrivals at the machine the answers became.
 #![tactic(auto)]
 
+mod load;
 mod offers;
 mod peers;
 mod quiet;

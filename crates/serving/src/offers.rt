@@ -8,10 +8,10 @@
 //! rounds only, and otherwise [`ALONE_COMMANDS`], so that fewer rounds are needed. A consumer is offered more for its acknowledgements, so that they
 //! don't make it greedy. A connection whose messages enter queues that lag is offered less. Only the bounds are promised.
 
-ghost use Rattle.std.specs.Prelude.{◌≤◌};
+ghost use Rattle.std.specs.Prelude.{◌≡◌, ◌≤◌};
 ghost use Rattle.serving.specs.Story.{IsOffer, read_room};
 
-use crate::peers::SLOTS;
+use crate::load::Load;
 use std::alloc::{AllocError, Global};
 
 /// The least offer, in bytes.
@@ -130,16 +130,19 @@ pub(crate) struct Offers {
     modest: Share,
     /// The number of rounds since a modest slot gave bytes and stayed modest.
     alone: usize,
+    /// The output of the connections to which this round has delivered.
+    pub(crate) load: Load,
 }
 
 impl Offers {
-    /// Makes the offers of slots that were not read yet. Fails only if an allocation fails.
-    pub(crate) fn new(alloc: Global) -> Result<Offers, AllocError> {
+    /// Makes the offers of `slots` slots that were not read yet. Fails only if an allocation fails.
+    pub(crate) fn new(alloc: Global, slots: usize) -> Result<Offers, AllocError> {
         Ok(Offers {
-            offers: vec![in alloc; FIRST; SLOTS]?,
+            offers: vec![in alloc; FIRST; slots]?,
             greedy: Share::new(BESIDE_COMMANDS),
             modest: Share::new(COMMANDS),
             alone: 0,
+            load: Load::new(alloc, slots)?,
         })
     }
 
@@ -158,7 +161,9 @@ impl Offers {
     }
 
     /// Counts a delivery to `slot`.
-    pub(crate) fn deliver(&mut self, slot: usize) {
+    pub(crate) fn deliver(&mut self, slot: usize)
+        ensures { self.new.load ≡ self.old.load }
+    {
         if slot < self.offers.len() {
             let offer = self.offers[slot];
             self.offers[slot] = Offer {

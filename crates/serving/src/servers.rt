@@ -70,7 +70,7 @@ impl<M: Machine> Server<M> {
         let peers = Slab::with_capacity(alloc, SLOTS)?;
         let quiet = Quiet::new(alloc, peers.capacity())?;
         let full = SlotMarks::none(alloc, peers.capacity())?;
-        let offers = Offers::new(alloc)?;
+        let offers = Offers::new(alloc, peers.capacity())?;
         Ok(Server {
             machine,
             peers,

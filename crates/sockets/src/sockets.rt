@@ -34,6 +34,9 @@ const MOST_GIVEN: u64 = u64::MAX / PLACES - 1;
 /// The seconds that a client has to log in, and to answer a close.
 const PATIENCE: u64 = 30;
 
+/// The most bytes of an output that the system is offered in a round, so that the others are served in between.
+const MOST_WRITTEN: usize = 262_144;
+
 /// The most milliseconds that a rest lasts.
 const LONGEST_REST: u64 = 100;
 
@@ -421,7 +424,8 @@ impl Sockets {
         slot
     }
 
-    /// Writes to `socket` if the system is to be asked about it in this round; otherwise returns `Wait`. Fails if the socket's time is over.
+    /// Writes up to 262,144 bytes to `socket` if the system is to be asked about it in this round; otherwise returns `Wait`. Fails if the socket's time
+    /// is over.
     fn write_to(&mut self, socket: u64, bytes: &[u8]) -> Write
         ensures failures { (s : ℕ) → self.new.failures ≡ self.old.failures + fails (write_call s result bytes.now) }
         ensures counts { self.new.counts ≡ self.old.counts }
@@ -437,8 +441,9 @@ impl Sockets {
         if !self.rounds.asks_write(accepted.full) {
             return Write::Wait;
         }
-        let answer = write_answer(accepted.stream.write(bytes));
-        accepted.full = self.rounds.after_write(answer, bytes.len());
+        let offered = &bytes[..bytes.len().min(MOST_WRITTEN)];
+        let answer = write_answer(accepted.stream.write(offered));
+        accepted.full = self.rounds.after_write(answer, offered.len());
         accepted.has_room = false;
         match answer {
             Write::Took(count) => Write::Took(count),

@@ -25,7 +25,7 @@ returns g c =
     let heard = served (world c.read_all-has_heard.new.machine) c.read_all-has_heard.new.peers.slots (traffic c.read_all-has_heard.new.wire) in
     let pumped = served (world c.pump_all-has_pumped.new.machine) heard.peers heard.traffic in
     let settled = served (world c.settle_all-has_settled.new.machine) c.settle_all-has_settled.new.peers.slots (traffic c.settle_all-has_settled.new.wire) in
-    let pumps = c.pump_all-has_pumped.ensures.pumps heard.peers heard.traffic in
+    let pumps = c.pump_all-has_pumped.ensures.pumps heard.traffic in
     let capacity = c.settle_all-has_settled.ensures.capacity ∙ c.read_all-has_heard.ensures.capacity ∙ c.accept_one-has_met.ensures.capacity in
     record {
       settled = record {
