@@ -3,6 +3,8 @@
 Each PROGRAM is a `warren`, given as a path or as NAME=PATH. Instructions of the system's calls are not counted, so other work on the machine
 changes no figure. Each load is run with few messages and with many, and the difference is divided by the difference of their numbers:
 neither the start of the server nor a login is in a figure. Wants Debian's package `valgrind`, and takes about a minute for each program.
+
+--hold FILE takes the loads of FILE, a JSON object with a figure for each, and fails if a program takes over a tenth more than one of them.
 """
 
 import argparse
@@ -23,8 +25,10 @@ HERE = os.path.dirname(os.path.realpath(__file__))
 sys.dont_write_bytecode = True
 
 
-STATUSES = "Status: 0 all loads were counted; 1 a server does not start; 3 the command line is refused, or valgrind is not here."
-NOT_STARTED = 1
+STATUSES = "Status: 0 all loads were counted; 1 a server does not start; 2 a load is over its figure; 3 the command line is refused, or valgrind is not here."
+NOT_STARTED, OVER = 1, 2
+# how much more than its figure a load may take
+SLACK = 1.1
 
 # messages of the two runs of a load, and how many publishes wait for their acks
 FEW, MORE, WINDOW = 1_000, 6_000, 100
@@ -171,9 +175,35 @@ def of_message(program, folder, files, run):
     return (more - few) / (MORE - FEW)
 
 
+def count_all(programs, loads, figures):
+    """Prints a line for each load, and returns the names of those that are over their figures."""
+    over = []
+    with tempfile.TemporaryDirectory() as folder:
+        files = written_files(folder)
+        for name, run, without in loads:
+            counts = [of_message(path, folder, files, run) - (of_message(path, folder, files, without) if without else 0) for _, path in programs]
+            is_over = name in figures and max(counts) > SLACK * figures[name]
+            over += [name] * is_over
+            print(f"{name:44}" + "".join(f"{it:12,.0f}" for it in counts) + f"   over {figures.get(name, 0):,}" * is_over, flush=True)
+    return over
+
+
+def figures_of(parser, name):
+    """Returns the figures of a file. It is refused if one of them is none of a load."""
+    try:
+        with open(name, encoding="utf-8") as file:
+            figures = json.load(file)
+    except (OSError, ValueError) as error:
+        parser.error(f"{name}: {error}")
+    for it in set(figures) - {load for load, _, _ in LOADS}:
+        parser.error(f"{name}: no load is called {it}")
+    return figures
+
+
 def parsed():
     parser = Words("instructions", __doc__, STATUSES, "python3 -m examples.load.instructions", formatter_class=argparse.RawDescriptionHelpFormatter)
     parser.add_argument("programs", nargs="+", metavar="PROGRAM", help="a path to a program `warren`, or NAME=PATH")
+    parser.add_argument("--hold", metavar="FILE", help="take the loads of this file alone, and fail if one is over its figure")
     given = parser.parse_args()
     named = [it.rpartition("=")[::2] for it in given.programs]
     for _, path in named:
@@ -181,18 +211,17 @@ def parsed():
             parser.error(f"{path} is no program")
     if shutil.which("valgrind") is None:
         parser.error("valgrind is not here: apt-get install valgrind")
-    return [(name or os.path.basename(path), os.path.realpath(path)) for name, path in named]
+    figures = figures_of(parser, given.hold) if given.hold else {}
+    return [(name or os.path.basename(path), os.path.realpath(path)) for name, path in named], figures
 
 
 def main():
-    programs = parsed()
+    programs, figures = parsed()
     print(f"{'instructions a message':44}" + "".join(f"{name:>12}" for name, _ in programs), flush=True)
-    with tempfile.TemporaryDirectory() as folder:
-        files = written_files(folder)
-        for name, run, without in LOADS:
-            counts = [of_message(path, folder, files, run) - (of_message(path, folder, files, without) if without else 0) for _, path in programs]
-            print(f"{name:44}" + "".join(f"{it:12,.0f}" for it in counts), flush=True)
-    return 0
+    over = count_all(programs, [load for load in LOADS if not figures or load[0] in figures], figures)
+    if over:
+        print(f"over a tenth more than its figure: {', '.join(over)}")
+    return OVER if over else 0
 
 
 def ended():
