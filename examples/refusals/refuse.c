@@ -4,6 +4,7 @@
                           going to memory, and the parent compares it with PATH.out, PATH.err and REFUSE_STATUS, which the
                           program left without a refusal. Then the parent goes on to the next growth.
    REFUSE_LATER=1         another child has each later growth refused too
+   REFUSE_TWICE=1         the growth behind the refused one is refused too
    REFUSE_AGAIN=1         the last line of the output, which begins with "again:", may differ: its numbers are added up
    REFUSE_FILE=PATH       a file that the program writes: a child that ends for want of memory must have written none,
                           and may have printed all before
@@ -32,7 +33,7 @@
 
 extern void *__libc_malloc(size_t), *__libc_realloc(void *, size_t), *__libc_calloc(size_t, size_t);
 
-static int forks, is_child, later, again, accepted;
+static int forks, is_child, later, again, twice, more, accepted;
 static long growths, same, memory, other, sums[SUMS], refuse_at, fail_at, calls;
 static char expected_out[OUT], expected_err[1 << 16], made_out[OUT], made_err[1 << 16];
 static long expected_out_len, expected_err_len;
@@ -79,6 +80,7 @@ __attribute__((constructor)) static void begin(void) {
     expected_err_len = slurp(path, "err", expected_err, sizeof expected_err - 1);
     expected_status = number("REFUSE_STATUS");
     later = number("REFUSE_LATER");
+    twice = number("REFUSE_TWICE");
     again = number("REFUSE_AGAIN");
     written_file = getenv("REFUSE_FILE");
     out_file = memfd_create("out", 0);
@@ -138,6 +140,7 @@ static void judge(int all, int status) {
     int outs = again ? is_same_but_for_the_counts(out) : out == expected_out_len && !memcmp(made_out, expected_out, out);
     if (code == expected_status && errs && outs) same++;
     else if (again && code == 4 && !out && !err) memory++; /* its input could not be read */
+    else if (again && twice && code == 1 && !out) memory++; /* what is none of its calls failed, and once more as it began again */
     else if (!again && code == 4 && (out == 0 || (written_file && outs)) && err == 15 && !memcmp(made_err, "warren: memory\n", 15) && has_written_nothing()) memory++;
     else {
         other++;
@@ -157,6 +160,7 @@ static int try_child(int all) {
     if (child == 0) {
         is_child = 1;
         later = all;
+        more = twice;
         signal(SIGALRM, SIG_DFL);
         alarm(SECONDS);
         reopen();
@@ -172,7 +176,7 @@ static int try_child(int all) {
 
 /* Whether this growth is refused. */
 static int is_refused(void) {
-    if (is_child) return later;
+    if (is_child) return later || (more > 0 && more--);
     if (forks) {
         int tries_later = later;
         growths++;
