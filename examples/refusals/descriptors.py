@@ -2,7 +2,7 @@
 
     python3 -m examples.refusals.descriptors WARREN
 
-While as many sockets are open as the server has descriptors, each look at the files tells `no descriptor is free`. Once they are closed no look
+While as many sockets are open as the server has descriptors, a look at the files tells `no descriptor is free`. Once they are closed no look
 tells anything, files that were replaced meanwhile are in force, and a client is served."""
 
 import os
@@ -80,7 +80,7 @@ def main():
         finally:
             server.kill()
             server.wait()
-    print("descriptors: " + (", ".join(wrong) or "each look without one told so, and none with them told anything"))
+    print("descriptors: " + (", ".join(wrong) or "a look without one told so, and none with them told anything"))
     sys.exit(1 if wrong else 0)
 
 

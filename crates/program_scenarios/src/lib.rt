@@ -4,6 +4,7 @@
 //! replaced between looks; and the files and the sockets of the machine.
 #![tactic(auto)]
 
+mod clocks;
 mod disk;
 mod filing;
 mod long_files;
@@ -28,7 +29,8 @@ pub fn run_all(sums: &mut Sums, rt: &HostRuntime) -> io::Result<()> {
         services::serve_tells_that_it_cannot_listen(rt, alloc);
         services::serve_ends_where_its_address_is_not_taken(rt, alloc);
         looks::files_that_are_replaced_are_put_in_force(alloc);
-        looks::files_that_do_not_fit_are_told_at_each_look(alloc);
+        looks::files_that_do_not_fit_are_told_once(alloc);
+        looks::files_that_do_not_fit_are_told_again_after_a_minute(alloc);
         looks::looks_whose_lines_are_not_taken_have_status_four(alloc);
         looks::a_message_that_could_come_where_it_is_forbidden_is_told(alloc);
         programs::a_file_that_is_written_is_read_back(rt);

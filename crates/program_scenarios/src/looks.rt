@@ -2,6 +2,7 @@
 
 ghost use Rattle.std.specs.Prelude.{⊤};
 
+use crate::clocks::Ticking;
 use crate::disk::{read_bytes, words_of};
 use memory_wire::{Client, MemoryWire};
 use reload_loop::program_with_sockets;
@@ -262,11 +263,12 @@ fn answer(alloc: Global, old: u64) -> Result<Vec<u8>, AllocError> {
     Ok(answer)
 }
 
-/// Serves the client over the files `versions`, with `err` as standard error, and returns the status. Checks that the definitions were read `reads` times,
-/// and that the first `old` publishes reached `audit`, and those after them `stock`.
+/// Serves the client over the files `versions`, with looks `step` seconds apart and `err` as standard error, and returns the status. Checks that the
+/// definitions were read `reads` times, and that the first `old` publishes reached `audit`, and those after them `stock`.
 fn serve_over<E: Write>(
     alloc: Global,
     versions: &'static [Version],
+    step: u64,
     reads: u64,
     old: u64,
     err: &mut E,
@@ -275,6 +277,7 @@ fn serve_over<E: Write>(
         wire: Some(wire(alloc)?),
     };
     let mut files = Replaced { versions, reads: 0 };
+    let mut clock = Ticking::by(step);
     let mut out: Vec<u8> = Vec::new(alloc);
     let words = words_of(alloc, WORDS)?;
     let ended = program_with_sockets(
@@ -282,6 +285,7 @@ fn serve_over<E: Write>(
         words.as_slice(),
         &mut listener,
         &mut files,
+        &mut clock,
         &mut out,
         err,
     );
@@ -299,7 +303,7 @@ fn serve_over<E: Write>(
 /// Checks that valid files are put in force at the first look, and that looks that find the same files do nothing.
 pub(crate) fn files_that_are_replaced_are_put_in_force(alloc: Global) -> Result<(), Unmet> {
     let mut err: Vec<u8> = Vec::new(alloc);
-    let status = serve_over(alloc, &[STARTED], READS_OF_OTHERS, 1, &mut err)?;
+    let status = serve_over(alloc, &[STARTED], 60, READS_OF_OTHERS, 1, &mut err)?;
     expect_number("the status", u64::from(status), 0)?;
     expect("nothing is reported", err.is_empty())
 }
@@ -331,20 +335,38 @@ const READS_IN_THE_END: u64 = 14;
 /// The number of publishes before the sixth look, which is after the twelfth round.
 const BEFORE_THE_SIXTH: u64 = 11;
 
-/// Checks that each look at files that are refused reports that in one line, and that the client is served by what was in force before.
-pub(crate) fn files_that_do_not_fit_are_told_at_each_look(alloc: Global) -> Result<(), Unmet> {
+/// Serves the client over [`FITTING_IN_THE_END`], with looks `step` seconds apart, and checks that `lines` is what is reported. The client is served by
+/// what was in force before.
+fn expect_told(alloc: Global, step: u64, lines: &[u8]) -> Result<(), Unmet> {
     let mut err: Vec<u8> = Vec::new(alloc);
     let status = serve_over(
         alloc,
         FITTING_IN_THE_END,
+        step,
         READS_IN_THE_END,
         BEFORE_THE_SIXTH,
         &mut err,
     )?;
     expect_number("the status", u64::from(status), 0)?;
-    expect_bytes(
-        "what is reported",
-        err.as_slice(),
+    expect_bytes("what is reported", err.as_slice(), lines)
+}
+
+/// Checks that files that are refused are reported in one line, and that looks that find the same files within a minute report nothing.
+pub(crate) fn files_that_do_not_fit_are_told_once(alloc: Global) -> Result<(), Unmet> {
+    expect_told(
+        alloc,
+        59,
+        b"warren: definitions: refused 1\nwarren: certificate 1: fault 5\nwarren: reload refused in-use \"audit\"\n",
+    )
+}
+
+/// Checks that a look that finds the same files a minute after the line about them reports them again.
+pub(crate) fn files_that_do_not_fit_are_told_again_after_a_minute(
+    alloc: Global,
+) -> Result<(), Unmet> {
+    expect_told(
+        alloc,
+        60,
         b"warren: definitions: refused 1\nwarren: definitions: refused 1\nwarren: certificate 1: fault 5\nwarren: reload refused in-use \"audit\"\nwarren: reload refused in-use \"audit\"\n",
     )
 }
@@ -354,6 +376,7 @@ pub(crate) fn looks_whose_lines_are_not_taken_have_status_four(alloc: Global) ->
     let status = serve_over(
         alloc,
         FITTING_IN_THE_END,
+        0,
         READS_IN_THE_END,
         BEFORE_THE_SIXTH,
         &mut Closed,
@@ -380,6 +403,7 @@ pub(crate) fn a_message_that_could_come_where_it_is_forbidden_is_told(
     let status = serve_over(
         alloc,
         FITTING_AT_THE_SECOND,
+        0,
         READS_FROM_THE_SECOND,
         BEFORE_THE_SECOND,
         &mut err,

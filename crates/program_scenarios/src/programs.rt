@@ -1,6 +1,6 @@
 //! Runs the program over the files and the sockets of the machine: files in the folder of the run, and sockets of 127.0.0.1.
 
-use reload_loop::{Disk, System, program_with_sockets};
+use reload_loop::{Disk, MachineClock, System, program_with_sockets};
 use scenario_parts::{Unmet, expect, expect_bytes, expect_number, value_of};
 use server::{Files as _, Unread};
 use std::alloc::Global;
@@ -22,7 +22,16 @@ fn run(rt: &HostRuntime, words: &[&str]) -> Outcome {
     let mut err: Vec<u8> = Vec::new(alloc);
     let mut files = Disk { rt };
     let mut system = System { rt };
-    let ended = program_with_sockets(alloc, words, &mut system, &mut files, &mut out, &mut err);
+    let mut clock = MachineClock::start(rt);
+    let ended = program_with_sockets(
+        alloc,
+        words,
+        &mut system,
+        &mut files,
+        &mut clock,
+        &mut out,
+        &mut err,
+    );
     Outcome {
         status: ended.status,
         out,

@@ -2,6 +2,7 @@
 
 ghost use Rattle.std.specs.Prelude.{⊤};
 
+use crate::clocks::Ticking;
 use crate::disk::{ScenarioDisk, words_of};
 use reload_loop::program_with_sockets;
 use scenario_parts::{
@@ -76,6 +77,7 @@ fn serve<'a, N: Net, O: Write>(
         asked: 0,
     };
     let mut disk = ScenarioDisk { script: b"[" };
+    let mut clock = Ticking::by(0);
     let mut err: Vec<u8> = Vec::new(alloc);
     let line = value_of(
         "format",
@@ -89,6 +91,7 @@ fn serve<'a, N: Net, O: Write>(
         words.as_slice(),
         &mut listener,
         &mut disk,
+        &mut clock,
         out,
         &mut err,
     );

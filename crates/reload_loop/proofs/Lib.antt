@@ -1,3 +1,4 @@
 pub mod Imports
 pub mod Outcomes
 pub mod Reloading
+pub mod Telling

@@ -3,3 +3,4 @@ pub mod Looks
 pub mod Program
 pub mod ServesOn
 pub mod Snapshots
+pub mod Telling

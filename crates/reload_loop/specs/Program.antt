@@ -19,7 +19,7 @@ use Rattle.server.specs.Program.{IsInForceBy, RunsAs, out_of_memory}
 use Rattle.server.specs.Clients.{CanCome, EndsUnserved, IsTurns, Openings, ServeEnds, service_state}
 use Rattle.reload_loop.specs.declared.program.ReloadArguments.{ReloadArguments}
 use Rattle.reload_loop.specs.Snapshots.{Snap, IsReadFrom, known_in}
-use Rattle.reload_loop.specs.ServesOn.{ServesOn, between_rounds}
+use Rattle.reload_loop.specs.ServesOn.{ServesTelling, between_rounds}
 
 -- the names of the files of `serve`
 abbrev pub names_in : ServeArguments → FileNames
@@ -49,8 +49,8 @@ pub record IsEvery (text : Text) (every : ℕ) : Type 0 where
       → every ≡ digits_value 10 (without_leading_plus text)
 
 -- Clients were served by a broker started from the files as they were first read, for the given number of rounds, after the address was
--- reported. Between rounds there were looks at the files.
-pub record ServesReloading (holds : Text → Known) (names : FileNames) (turns : Option Text)
+-- reported. Between rounds there were looks at the files, at times that the clock gave.
+pub record ServesReloading (gives : ℕ → Type 0) (holds : Text → Known) (names : FileNames) (turns : Option Text)
     (every : Text) (may : Openings) (out err : OutputStream) (end : Served) (whole : Bool) : Type 0 where
   pub first : Snap
   pub read : IsReadFrom holds names first
@@ -65,20 +65,21 @@ pub record ServesReloading (holds : Text → Known) (names : FileNames) (turns :
   pub step : ℕ
   pub stepped : IsEvery every step
   pub last : Snap
-  pub serves : ServesOn holds names step count (between_rounds (served (new_world force) [] start) first said true) (between_rounds end last err.after whole)
+  pub serves : ServesTelling gives holds names step count (between_rounds (served (new_world force) [] start) first None said true)
+      (between_rounds end last None err.after whole)
   -- all that arrived at the broker, reloads included, and certified delivery's promises of it
   pub kept : IsServed MayAllocate force start end
 
 -- How `serve --reload` ends: with the server as it is at the end, if clients could connect,
 -- and a status that says whether each line of a look was taken whole.
-pub data ReloadsEnd (holds : Text → Known) (names : FileNames) (turns : Option Text) (every : Text)
+pub data ReloadsEnd (gives : ℕ → Type 0) (holds : Text → Known) (names : FileNames) (turns : Option Text) (every : Text)
     (Unasked : Type 0) (may : Openings) (out err : OutputStream) : Option Served → ℕ → Type 0 where
   unserved : {status : ℕ} (first : Snap) → IsReadFrom holds names first
       → EndsUnserved (known_in names first) names.definitions names.guarantees names.certificates
       Unasked may out err status
-      → ReloadsEnd holds names turns every Unasked may out err None status
-  reloading : {end : Served} {whole : Bool} → ServesReloading holds names turns every may out err end whole
-      → ReloadsEnd holds names turns every Unasked may out err (Some end) (status_after whole 0)
+      → ReloadsEnd gives holds names turns every Unasked may out err None status
+  reloading : {end : Served} {whole : Bool} → ServesReloading gives holds names turns every may out err end whole
+      → ReloadsEnd gives holds names turns every Unasked may out err (Some end) (status_after whole 0)
 
 -- the names of the files of `serve --reload`
 abbrev pub names_reloaded : ReloadArguments → FileNames
@@ -90,33 +91,35 @@ openings_for listens listener asked = listens listener asked.arguments.listen.no
 
 -- If a service is returned, clients were served as `asked`, with looks at the files, and the status says whether each line of a look was taken whole.
 -- A function before one state or two says what is known in it: of files, of a listener, of standard output, of standard error, and of sockets.
-abbrev pub ReloadSome : {F L O E W : Type 0} → (F → Text → Known) → F → ReloadArguments → (L → Text → Openings) → L
+abbrev pub IfServed : {F L O E W : Type 0} → (ℕ → Type 0) → (F → Text → Known) → F → ReloadArguments → (L → Text → Openings) → L
     → (O → Option Text) → O → O → (E → Option Text) → E → E → (W → Traffic) → Ended W → Type 0
-ReloadSome holds files asked listens listener sees out out' reads err err' past ended = IfSome ended.service (λ service.
-    (whole : Bool) × ServesReloading (holds files) (names_reloaded asked) (file_named asked.arguments.turns) asked.every.now
+IfServed gives holds files asked listens listener sees out out' reads err err' past ended = IfSome ended.service (λ service.
+    (whole : Bool) × ServesReloading gives (holds files) (names_reloaded asked) (file_named asked.arguments.turns) asked.every.now
     (openings_for listens listener asked) (gain sees out out') (gain reads err err') (service_state past service) whole
     × (ended.status ≡ status_after whole 0))
 
 -- if no service is returned, no client was served
-abbrev pub ReloadNone : {F L O E W : Type 0} → (F → Text → Known) → F → ReloadArguments → (L → Text → Openings) → L → L
+abbrev pub IfUnserved : {F L O E W : Type 0} → (ℕ → Type 0) → (F → Text → Known) → F → ReloadArguments → (L → Text → Openings) → L → L
     → (O → Option Text) → O → O → (E → Option Text) → E → E → Ended W → Type 0
-ReloadNone holds files asked listens listener listener' sees out out' reads err err' ended = IfNone ended.service (
-    ReloadsEnd (holds files) (names_reloaded asked) (file_named asked.arguments.turns) asked.every.now (listener' ≡ listener)
+IfUnserved gives holds files asked listens listener listener' sees out out' reads err err' ended = IfNone ended.service (
+    ReloadsEnd gives (holds files) (names_reloaded asked) (file_named asked.arguments.turns) asked.every.now (listener' ≡ listener)
     (openings_for listens listener asked) (gain sees out out') (gain reads err err') None ended.status)
 
 -- How a call ends that can open sockets; `may` has the outcomes that opening them at an address may have, and `Unasked` says that none were asked for.
-pub data RunsWithSockets (words : List Text) (before after : Text → Known) (Unasked : Type 0)
+-- `gives` says which times the clock may give.
+pub data RunsWithSockets (gives : ℕ → Type 0) (words : List Text) (before after : Text → Known) (Unasked : Type 0)
     (may : Text → Openings) (out err : OutputStream) : Option Served → ℕ → Type 0 where
   -- it ends as `program` does, without sockets; if the words ask to serve, it does so only because an allocation failed before they were read
   without : {status : ℕ} → RunsAs words before after out err status → Unasked
       → ((names : FileNames) (listen : Text) (turns every : Option Text) → AsksToServe words names listen turns every → TriesPut err out_of_memory 4 status)
-      → RunsWithSockets words before after Unasked may out err None status
+      → RunsWithSockets gives words before after Unasked may out err None status
   -- the words ask to serve, and not to read the files again
   serves : {end : Option Served} {status : ℕ} (names : FileNames) (listen : Text) (turns : Option Text)
       → AsksToServe words names listen turns None → AreKept before after
       → ServeEnds before names.definitions names.guarantees names.certificates turns Unasked (may listen) out err end status
-      → RunsWithSockets words before after Unasked may out err end status
+      → RunsWithSockets gives words before after Unasked may out err end status
   -- the words ask to serve, and to read the files again
   reloads : {end : Option Served} {status : ℕ} (names : FileNames) (listen every : Text) (turns : Option Text)
       → AsksToServe words names listen turns (Some every) → AreKept before after
-      → ReloadsEnd before names turns every Unasked (may listen) out err end status → RunsWithSockets words before after Unasked may out err end status
+      → ReloadsEnd gives before names turns every Unasked (may listen) out err end status
+      → RunsWithSockets gives words before after Unasked may out err end status

@@ -2,8 +2,10 @@
 //! the sockets of the machine. Start at [`program_with_sockets`].
 #![tactic(auto)]
 
+mod clock;
 mod disk;
 mod found;
+mod lines;
 mod looking;
 mod program;
 mod reporting;
@@ -11,6 +13,7 @@ mod serving_on;
 mod snapshots;
 mod system;
 
+pub use clock::{Clock, MachineClock};
 pub use disk::Disk;
 pub use program::program_with_sockets;
 pub use serving_on::serve_and_reload;

@@ -6,8 +6,9 @@ ghost use Rattle.server.specs.Files.{AreKept};
 ghost use Rattle.server.specs.Stated.{file_named};
 ghost use Rattle.server.specs.Clients.{service_state};
 ghost use Rattle.server.specs.Streams.{gain, status_after};
-ghost use Rattle.reload_loop.specs.Program.{IsEvery, IsNotServe, ReloadNone, ReloadSome, RunsWithSockets, asked_by};
+ghost use Rattle.reload_loop.specs.Program.{IfServed, IfUnserved, IsEvery, IsNotServe, RunsWithSockets, asked_by};
 
+use crate::clock::Clock;
 use crate::serving_on::serve_and_reload;
 use crate::snapshots::{Names, Reading, Snapshot};
 use command_line::{Asked, command};
@@ -85,19 +86,20 @@ fn status_of(whole: bool) -> u8
 ///
 /// The files are read once before they are judged, so that what is in force was judged by the bytes that are kept. The
 /// status is 4 if standard error did not take each line whole.
-fn serve_reloading<L: Listener, F: Files, O: Write, E: Write>(
+fn serve_reloading<L: Listener, F: Files, C: Clock, O: Write, E: Write>(
     alloc: Global,
-    asked: ReloadArguments<'_>,
-    listener: &mut L,
+    call: ReloadArguments<'_>,
+    opener: &mut L,
     files: &mut F,
+    clock: &mut C,
     out: &mut O,
     err: &mut E,
 ) -> Ended<L::Sockets>
-    ensures some { ReloadSome F.holds files.old asked.entry L.listens listener.old O.contents out.old out.new E.contents err.old err.new L.Sockets.past result }
-    ensures none { ReloadNone F.holds files.old asked.entry L.listens listener.old listener.new O.contents out.old out.new E.contents err.old err.new result }
+    ensures yes { IfServed C.may F.holds files.old call.entry L.listens opener.old O.contents out.old out.new E.contents err.old err.new L.Sockets.past result }
+    ensures no { IfUnserved C.may F.holds files.old call.entry L.listens opener.old opener.new O.contents out.old out.new E.contents err.old err.new result }
     ensures files { AreKept (F.holds files.old) (F.holds files.new) }
 {
-    let ReloadArguments { arguments, every } = asked;
+    let ReloadArguments { arguments, every } = call;
     let names = Names {
         definitions: arguments.definitions,
         guarantees: arguments.guarantees,
@@ -111,7 +113,7 @@ fn serve_reloading<L: Listener, F: Files, O: Write, E: Write>(
     let Service {
         mut server,
         mut sockets,
-    } = match begin(alloc, arguments, listener, &mut reading, out, err) {
+    } = match begin(alloc, arguments, opener, &mut reading, out, err) {
         Ok(service) => service,
         Err(status) => return Ended::without_clients(status),
     };
@@ -125,6 +127,7 @@ fn serve_reloading<L: Listener, F: Files, O: Write, E: Write>(
         names,
         &mut kept,
         files,
+        clock,
         err,
         every,
         turns,
@@ -138,16 +141,17 @@ fn serve_reloading<L: Listener, F: Files, O: Write, E: Write>(
 /// Does what the words ask for, `serve` too, and returns the exit status, and the server if clients were served.
 ///
 /// Any other command is done as `server::program` does it. `serve` reports on `out` where clients connect, once its files are judged.
-/// With `--reload` it looks at its files again while it serves.
-pub fn program_with_sockets<S: AsStr, L: Listener, F: Files, O: Write, E: Write>(
+/// With `--reload` it looks at its files again while it serves; by `clock` it reports a refusal of them again after a minute.
+pub fn program_with_sockets<S: AsStr, L: Listener, F: Files, C: Clock, O: Write, E: Write>(
     alloc: Global,
     words: &[S],
     listener: &mut L,
     files: &mut F,
+    clock: &mut C,
     out: &mut O,
     err: &mut E,
 ) -> Ended<L::Sockets>
-    ensures { RunsWithSockets (map S.text words.now) (F.holds files.old) (F.holds files.new)
+    ensures { RunsWithSockets C.may (map S.text words.now) (F.holds files.old) (F.holds files.new)
         (listener.new ≡ listener.old) (L.listens listener.old) (gain O.contents out.old out.new) (gain E.contents err.old err.new)
         (option_map (service_state L.Sockets.past) result.service) result.status }
 {
@@ -162,7 +166,7 @@ pub fn program_with_sockets<S: AsStr, L: Listener, F: Files, O: Write, E: Write>
     match every {
         Some(every) => {
             let asked = ReloadArguments { arguments, every };
-            serve_reloading(alloc, asked, listener, files, out, err)
+            serve_reloading(alloc, asked, listener, files, clock, out, err)
         }
         None => serve_clients(alloc, arguments, listener, files, out, err),
     }

@@ -1,7 +1,7 @@
-//! The program `warren`: its words and streams are those of the process, its files and sockets those of the machine.
+//! The program `warren`: its words and streams are those of the process, its files, its clock and its sockets those of the machine.
 #![tactic(auto)]
 
-use reload_loop::{Disk, System, program_with_sockets};
+use reload_loop::{Disk, MachineClock, System, program_with_sockets};
 use std::io::Write;
 use std::process::ExitCode;
 use std::{env, io};
@@ -32,7 +32,16 @@ fn refuse<W: Write>(err: &mut W, error: &io::Error) -> u8 {
 fn run<O: Write, E: Write>(rt: &HostRuntime, words: &[String], out: &mut O, err: &mut E) -> u8 {
     let mut files = Disk { rt };
     let mut system = System { rt };
-    let ended = program_with_sockets(rt.alloc(), words, &mut system, &mut files, out, err);
+    let mut clock = MachineClock::start(rt);
+    let ended = program_with_sockets(
+        rt.alloc(),
+        words,
+        &mut system,
+        &mut files,
+        &mut clock,
+        out,
+        err,
+    );
     let status = ended.status;
     drop(ended);
     status

@@ -20,7 +20,7 @@ returns-in-Some-every g c =
     let a = c.in-Some.asked.arguments in
     reloads (names_in a) a.listen.now c.in-Some-every.every.now (file_named a.turns)
     (asks_same _ _ (asked_by a (Some c.in-Some-every.every.now)) (c.in-Some.ensures.some ∙ ap (λ (e : Option (Bor Text)). asked_by a (file_named e)) c.in-Some-every.is) c.in-Ok.ensures)
-    c.serve_reloading.ensures.files (reload_ends _ _ _ _ _ _ _ _ _ _ _ c.serve_reloading.ensures.none c.serve_reloading.ensures.some)
+    c.serve_reloading.ensures.files (reload_ends _ _ _ _ _ _ _ _ _ _ _ _ c.serve_reloading.ensures.no c.serve_reloading.ensures.yes)
 
 pub returns-in-None-every : goal.returns-in-None-every
 returns-in-None-every g c =

@@ -1,4 +1,4 @@
-use Rattle.reload_loop.proofs.Imports.{Config, world_of, MayAllocate, AreKept, served, IsServed, names_of, WasFound, BetweenRounds, ServesOn, between_rounds}
+use Rattle.reload_loop.proofs.Imports.{Config, world_of, MayAllocate, AreKept, served, IsServed, names_of, WasFound, BetweenRounds, ServesOn, None, told_of, between_rounds}
 use Rattle.std.specs.Prelude.{true}
 use Rattle.serving.specs.Wire.{Traffic}
 use Rattle.reload_loop.proofs.serving_on.serve_and_reload.Given as goal
@@ -11,7 +11,8 @@ invariant-loop-left g l =
     let start = served (world_of l.fn.server.machine) l.fn.server.peers (traffic l.fn.sockets) in
     let here = served (world_of l.server.machine) l.server.peers (traffic l.sockets) in
     record {
-      serves : (new : BetweenRounds) → ServesOn (holds l.fn.files) (names_of l.names) l.every l.left (between_rounds here l.kept (says l.err) l.whole) new → ServesOn (holds l.fn.files) (names_of l.names) l.every l.turns (between_rounds start l.fn.kept (says l.fn.err) true) new;
+      serves : (new : BetweenRounds) → ServesOn g.C.Clock.may (holds l.fn.files) (names_of l.names) l.every l.left (between_rounds here l.kept (told_of l.found) (says l.err) l.whole) new
+          → ServesOn g.C.Clock.may (holds l.fn.files) (names_of l.names) l.every l.turns (between_rounds start l.fn.kept None (says l.fn.err) true) new;
       served : (f : Config) (before : Traffic) → IsServed MayAllocate f before start → IsServed MayAllocate f before here;
       files : AreKept (holds l.fn.files) (holds l.files);
       found : WasFound (names_of l.names) l.kept l.found;
