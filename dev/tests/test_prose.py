@@ -163,7 +163,7 @@ class Pages(unittest.TestCase):
 
     def test_sources_are_found(self):
         every = {os.path.relpath(os.path.join(folder, it), ROOT)
-                 for folder, _, files in os.walk(os.path.join(ROOT, "crates")) for it in files if it.endswith(".rt") and "/src" in folder}
+                 for folder, _, files in os.walk(os.path.join(ROOT, "crates")) for it in files if it.endswith(".rt") and "/src" in folder and "/out/" not in folder}
         self.assertEqual(set(prose.found(self.root, prose.SOURCES)), every)
 
     def test_a_word_of_the_dialect_in_a_source(self):
