@@ -9,4 +9,3 @@ pub mod Fronts
 pub mod Leads
 pub mod Walks
 pub mod Among
-pub mod Following

@@ -8,4 +8,3 @@ pub mod Exploring
 pub mod Deaths
 pub mod Leading
 pub mod Keyed
-pub mod Along

@@ -4,6 +4,7 @@ ghost use Rattle.std.specs.Prelude.{◌≡◌, ◌<◌, IfOk, IfNone, IfSome, No
 ghost use Rattle.paths.specs.Deaths.{AreDeaths, AreFronts, IsFrontAt};
 
 use crate::explored::Explored;
+use crate::visits::Visit;
 use exchange_graph::Topology;
 use std::alloc::{AllocError, Global};
 use std::marker::Model;
@@ -81,5 +82,16 @@ impl Deaths {
         ensures none { IfNone result (slice_get self.now at ≡ Some None) }
     {
         front_at(self.fronts.as_slice(), at)
+    }
+
+    /// Returns what dead letters of the queue at index `at` reach, or nothing if it has no dead-letter exchange, no key of its own, or doesn't exist.
+    pub(crate) fn visits_of(&self, at: usize) -> &[Visit] {
+        match self.fronts.get(at) {
+            Some(front) => match front {
+                Some(explored) => explored.visits(),
+                None => &[],
+            },
+            None => &[],
+        }
     }
 }
