@@ -32,7 +32,7 @@ fn can_deliver(core: &Core, pick: Pick) -> bool
     }
 }
 
-/// Returns the picked consumer, as long as a delivery can be made to it.
+/// Returns `turn` if a delivery can still be made to its consumer, otherwise `None`.
 pub(crate) fn turn_kept(core: &Core, turn: Option<Pick>) -> Option<Pick>
     ensures same { IfSome result (λ p. turn ≡ Some p) }
     ensures some { IfSome result (λ p. IsPick (broker_of core.now) p) }

@@ -12,9 +12,9 @@ pub enum CertFault {
     /// 2: from the state at index `state` a letter leads to one that is neither listed nor dropped.
     /// `word` is `None` for the letter of all words that no pattern names.
     Open { state: usize, word: Option<Text> },
-    /// 3, for a `reaches`: the guarantee covers the state at index `state`, and messages are not sure to reach the queue.
+    /// 3, for a `reaches`: keys of the state at index `state` are covered, and their messages may miss the queue.
     Missed { state: usize },
-    /// 4, for a `never`: the guarantee covers the state at index `state`, and messages may reach the queue.
+    /// 4, for a `never`: keys of the state at index `state` are covered, and their messages may reach the queue.
     Forbidden { state: usize },
     /// 5: it doesn't have the form that the guarantee needs.
     Form,

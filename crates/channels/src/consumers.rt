@@ -150,7 +150,7 @@ pub(crate) fn remove_tagged(consumers: &mut Vec<CountedConsumer>, tag: &[u8])
     consumers.retain(|s| s.consumer.tag.as_bytes() != tag);
 }
 
-/// Returns whether `by` is the consumer with this number.
+/// Returns whether `by` is consumer `number`.
 fn is_its(by: &Taker, number: u64) -> bool
     ensures { result ≡ is_to number by.now }
 {

@@ -59,7 +59,7 @@ IsRequeuedOn old c h m = IsRequeued (topology_kept old) (broker_of old) c h m ((
 abbrev pub AsksOn : Kept → ℕ → ℕ → Method → Left → Type 0
 AsksOn old c h m l = AsksLeft (topology_kept old) ((broker_of old).channel c h) m l
 
--- whichever command asks for `l`, it is performed, with the sends and notes of `step`
+-- each command that asks for `l` is performed by `step`: with its sends and its notes
 abbrev pub FinishesOn : Kept → ℕ → ℕ → Left → Step → Kept → Type 0
 FinishesOn old c h l step new = (m : Method) (content : Option Content) → AsksOn old c h m l
     → PerformsOn old c h m content step.sends.items step.notes.items new

@@ -45,6 +45,6 @@ pub record DecidesTurn (queues : List DeclaredQueue) (old : List (List Entry)) (
   pub tallied : AreTallied queues old tallies entries → (m : Message) → length m.content.body ≡ size
       → AreTallied queues old tallies' (slice_set entries place (slice_index_or entries place [] ++ arriving (taken_if full m)))
 
--- `DecidesTurn`, whatever the queues hold
+-- `DecidesTurn` for each list of entries that the queues may have
 abbrev pub CountsTurn : List DeclaredQueue → List (List Entry) → List (ℕ × Tally) → List (ℕ × Tally) → ℕ → ℕ → Bool → Type 0
 CountsTurn queues old tallies tallies' place size full = (entries : List (List Entry)) → DecidesTurn queues old tallies tallies' place size full entries

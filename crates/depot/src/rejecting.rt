@@ -33,8 +33,8 @@ fn key_of(fixed: &Option<Text>, key: &Text) -> Result<Text, AllocError>
     }
 }
 
-/// Plans that `letter` comes to the queue at index `place`, behind what is planned already: it enters, or the queue refuses it. Appends the
-/// note of that. If an allocation fails, something may be planned.
+/// Plans the arrival of `letter` at the queue at index `place`, after all arrivals planned before: it enters or is refused. Appends the note. If an
+/// allocation fails, neither is there; only the plan's tallies may have changed.
 fn plan_turn(
     declared: &[DeclaredQueue],
     queues: &Queues,

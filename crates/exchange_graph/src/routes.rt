@@ -35,7 +35,7 @@ impl Drop for Route {
     }
 }
 
-/// What is known of an exchange and a key without an allocation.
+/// The result of a look-up that allocates nothing: whether clients may publish to the exchange, and the route if it is cached.
 #[derive(Drop)]
 pub struct Found<'a> {
     pub access: Access,

@@ -133,7 +133,7 @@ pub(crate) fn a_file_that_is_not_there_is_unread(rt: &HostRuntime) -> Result<(),
     expect("it cannot be compared", compared)
 }
 
-/// Checks that files of the machine lead to each status, as docs/OPERATIONS.md lists them.
+/// Checks each exit status that docs/OPERATIONS.md lists, over files on disk.
 pub(crate) fn each_status_comes_of_files_of_the_machine(rt: &HostRuntime) -> Result<(), Unmet> {
     write(rt)?;
     remove(rt)?;

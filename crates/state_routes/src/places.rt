@@ -38,8 +38,8 @@ fn death_end(topology: &Topology, last: &DeclaredQueue) -> usize {
     }
 }
 
-/// Returns the node to which a message in queue `name` may go on: 0 if `name` is `queue`, and 1 if the message goes nowhere that matters to a promise of mode
-/// `mode`.
+/// Returns the node that stands for queue `name`: 0 if it is `queue`; for a `never`, the node of its dead-letter exchange; otherwise 1, from which nothing
+/// leads on.
 fn queue_end(topology: &Topology, mode: Mode, queue: &[u8], name: &[u8]) -> usize {
     if name == queue {
         return 0;

@@ -22,7 +22,7 @@ const ACK_END: &[u8] = b"\x00\xce";
 /// The size of a page of memory, in bytes.
 const PAGE: u64 = 4_096;
 
-/// An engine.
+/// An engine that lines call, with what they counted so far.
 #[derive(Drop)]
 pub(crate) struct Calls<'a> {
     disk: Disk<'a>,

@@ -21,7 +21,7 @@ pub(crate) struct Fault {
     /// The kind of the wire's call, or `None` for a call of the machine.
     pub(crate) call: Option<FailingCall>,
     pub(crate) count: u64,
-    /// The kind of the machine's calls of which each one fails.
+    /// The kind of machine call that always fails, if any.
     pub(crate) always: Option<Call>,
 }
 

@@ -53,8 +53,8 @@ fn empty_marks(alloc: Global, count: usize) -> Result<PlaceMarks, AllocError>
     Ok(marks)
 }
 
-/// Returns the index of the first queue at or after `from` with a ready message and a bit that is 1. Searches the two sets alternately, so a run of
-/// queues that are all missing from one of the sets is passed in one step.
+/// Returns the index of the first queue at or after `from` that has a ready message and whose bit in `awake` is set. Alternates between the two sets,
+/// so it skips in one step all queues up to the next member of either.
 fn next_both(core: &Core, awake: &PlaceMarks, from: usize) -> Option<usize>
     ensures { IsNextMarked core.now awake.now from result }
 {
