@@ -260,8 +260,8 @@ fn count_number_out(consumers: &mut [CountedConsumer], number: u64)
 /// If the delivery `one` is unacknowledged, subtracts 1 from the count of the consumer that it went to, if there is one.
 fn count_waiting_out(consumers: &mut [CountedConsumer], one: &Delivery)
     requires { NumbersRise (consumers_of consumers.old) }
-    ensures yes { is_waiting one.now ≡ true → consumers.new ≡ map (uncounted one.now.by) consumers.old }
-    ensures no { is_waiting one.now ≡ false → consumers.new ≡ consumers.old }
+    ensures counted { is_waiting one.now ≡ true → consumers.new ≡ map (uncounted one.now.by) consumers.old }
+    ensures gone_already { is_waiting one.now ≡ false → consumers.new ≡ consumers.old }
 {
     if !one.is_waiting() {
         return;

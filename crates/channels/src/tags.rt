@@ -30,8 +30,8 @@ fn lower(given: &[Delivery], tag: u64) -> usize
 
 /// Returns whether the delivery at index `place` has the tag `tag` and is unacknowledged.
 fn is_at(given: &[Delivery], place: usize, tag: u64) -> bool
-    ensures yes { result ≡ true → IsTagAt given.now place tag }
-    ensures no { result ≡ false → IsTagAt given.now place tag → ⊥ }
+    ensures here { result ≡ true → IsTagAt given.now place tag }
+    ensures elsewhere { result ≡ false → IsTagAt given.now place tag → ⊥ }
 {
     tag != 0 && place < given.len() && given[place].tag == tag
 }

@@ -158,7 +158,7 @@ impl Depot {
             Publishing self.old id.connection id.number publish.now content.now confirm notes.old.items notes.new.items r self.new) }
         ensures room { OnOk result (vec_len notes.new + 2 ≤ vec_capacity notes.new) }
         // A failure changes neither the store nor the notes.
-        ensures store { OnErr result (self.new ≡ self.old) }
+        ensures unchanged { OnErr result (self.new ≡ self.old) }
         ensures notes { OnErr result (notes.new.items ≡ notes.old.items) }
     {
         let number = self.published + 1;
@@ -214,7 +214,7 @@ impl Depot {
         requires distinct { IsHeldOnce self.old }
         ensures ok { OnOk result (AreSettledBy (Leaves Acked) self.old id.connection id.number (waiting gone.now)
             notes.old.items notes.new.items self.new) }
-        ensures store { OnErr result (self.new ≡ self.old) }
+        ensures unchanged { OnErr result (self.new ≡ self.old) }
         ensures notes { OnErr result (notes.new.items ≡ notes.old.items) }
     {
         let topology = self.router.topology();
@@ -251,7 +251,7 @@ impl Depot {
         // The promise; a failure changes neither the store nor the notes.
         ensures ok { OnOk result (AreSettledBy Rejects self.old id.connection id.number (waiting gone.now)
             notes.old.items notes.new.items self.new) }
-        ensures store { OnErr result (self.new ≡ self.old) }
+        ensures unchanged { OnErr result (self.new ≡ self.old) }
         ensures notes { OnErr result (notes.new.items ≡ notes.old.items) }
     {
         self.router.topology().ghost_is_well_formed();
@@ -332,7 +332,7 @@ impl Depot {
     /// Fails only if an allocation fails; only capacity may have grown then.
     pub fn purge(&mut self, name: &[u8], notes: &mut Notes) -> Result<usize, AllocError>
         ensures ok { IfOk result (λ count. IsPurgedBy self.old name.now notes.old.items notes.new.items count self.new) }
-        ensures store { OnErr result (self.new ≡ self.old) }
+        ensures unchanged { OnErr result (self.new ≡ self.old) }
         ensures notes { OnErr result (notes.new.items ≡ notes.old.items) }
         ensures wanted { OnErr result (0 < ready_count (entries_named self.old name.now)) }
     {
@@ -392,7 +392,7 @@ impl Depot {
         requires room { HasRoomFor how (vec_len notes.old) (vec_capacity notes.old) }
         // What is returned, what changes, and what is noted.
         ensures reported { ReturnsArrival how (find is_ready (queue_at self.old index)) result }
-        ensures store { self.new ≡ with_entries_at self.old index (given_so how (queue_at self.old index)) }
+        ensures given_out { self.new ≡ with_entries_at self.old index (given_so how (queue_at self.old index)) }
         ensures notes { notes.new.items ≡ notes.old.items ++ given_notes how (find is_ready (queue_at self.old index)) }
     {
         let queue = self.queues.queue_mut(index);
@@ -417,7 +417,7 @@ impl Depot {
         requires { index < length self.old.topology.queues }
         ensures ok { IfOk result (λ count.
             IsPurgedBy self.old (queue_name self.old.topology index) notes.old.items notes.new.items count self.new) }
-        ensures store { OnErr result (self.new ≡ self.old) }
+        ensures unchanged { OnErr result (self.new ≡ self.old) }
         ensures notes { OnErr result (notes.new.items ≡ notes.old.items) }
         ensures wanted { OnErr result (0 < ready_count (queue_at self.old index)) }
     {

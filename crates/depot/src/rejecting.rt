@@ -172,9 +172,9 @@ fn plan_one(
     requires len { length queues.now ≡ length router.old.queues }
     requires within { is_waiting given.now ≡ true → given.now.queue < length router.old.queues }
     // The death is planned if the delivery is unacknowledged; otherwise nothing is planned and nothing noted.
-    ensures yes { OnOk result (ForeseesWaiting router.old id given.now (entries_of queues.now)
+    ensures foreseen { OnOk result (ForeseesWaiting router.old id given.now (entries_of queues.now)
         (so_far plan.old notes.old) (so_far plan.new notes.new)) }
-    ensures no { OnOk result (is_waiting given.now ≡ false → so_far plan.new notes.new ≡ so_far plan.old notes.old) }
+    ensures gone_already { OnOk result (is_waiting given.now ≡ false → so_far plan.new notes.new ≡ so_far plan.old notes.old) }
     // Also after a failure: planned letters still enter queues that exist, notes are only appended, and the topology is unchanged.
     ensures within { EnterBelow (length queues.now) plan.old.arrivals.items → EnterBelow (length queues.now) plan.new.arrivals.items }
     ensures notes { Extends notes.old.items notes.new.items }
@@ -230,8 +230,8 @@ fn plan_all(
 /// Removes the delivery's message from its queue, if it waits.
 fn leave(queues: &mut Queues, id: ChannelId, given: &Delivery)
     requires { is_waiting given.now ≡ true → given.now.queue < length queues.old }
-    ensures yes { is_waiting given.now ≡ true → entries_of queues.new ≡ left_at id.connection id.number (entries_of queues.old) given.now }
-    ensures no { is_waiting given.now ≡ false → entries_of queues.new ≡ entries_of queues.old }
+    ensures left { is_waiting given.now ≡ true → entries_of queues.new ≡ left_at id.connection id.number (entries_of queues.old) given.now }
+    ensures gone_already { is_waiting given.now ≡ false → entries_of queues.new ≡ entries_of queues.old }
     ensures len { length queues.new ≡ length queues.old }
     ensures room { (place : ℕ) → room_at queues.new place ≡ room_at queues.old place }
 {

@@ -34,9 +34,9 @@ fn add_departure(
     requires within { is_waiting given.now ≡ true → given.now.queue < length topology.now.queues }
     requires room { vec_len departures.old < vec_capacity departures.old }
     // The delivery is appended if it is unacknowledged, and at most one entry is used.
-    ensures yes { OnOk result (is_waiting given.now ≡ true
+    ensures leaves { OnOk result (is_waiting given.now ≡ true
         → departures.new.items ≡ departures.old.items ++ departure_in topology.now given.now ∷ []) }
-    ensures no { OnOk result (is_waiting given.now ≡ false → departures.new.items ≡ departures.old.items) }
+    ensures gone_already { OnOk result (is_waiting given.now ≡ false → departures.new.items ≡ departures.old.items) }
     ensures len { vec_len departures.new ≤ vec_len departures.old + 1 }
     ensures capacity { vec_capacity departures.new ≡ vec_capacity departures.old }
 {
@@ -131,9 +131,9 @@ pub(crate) fn ack_all(
 /// Requeues the message of `given` if this delivery is unacknowledged: it is ready again in its place, marked redelivered.
 fn put_back(queues: &mut Queues, id: ChannelId, given: &Delivery)
     requires { is_waiting given.now ≡ true → given.now.queue < length queues.old }
-    ensures yes { is_waiting given.now ≡ true
+    ensures returned { is_waiting given.now ≡ true
         → entries_of queues.new ≡ returned_at id.connection id.number (entries_of queues.old) given.now }
-    ensures no { is_waiting given.now ≡ false → entries_of queues.new ≡ entries_of queues.old }
+    ensures gone_already { is_waiting given.now ≡ false → entries_of queues.new ≡ entries_of queues.old }
     ensures len { length queues.new ≡ length queues.old }
 {
     if given.is_waiting() {

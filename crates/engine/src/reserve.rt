@@ -122,8 +122,8 @@ fn release_if(spares: &mut Spares, is_little: bool)
 
 /// Returns whether `unread` and `more` bytes together are at most `allowance`.
 fn is_within(unread: usize, more: usize, allowance: usize) -> bool
-    ensures yes { result ≡ true → unread + more ≤ allowance }
-    ensures no { result ≡ false → allowance < unread + more }
+    ensures within { result ≡ true → unread + more ≤ allowance }
+    ensures over { result ≡ false → allowance < unread + more }
 {
     match unread.checked_add(more) {
         Some(sum) => sum <= allowance,

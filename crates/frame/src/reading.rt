@@ -74,8 +74,8 @@ fn channel_at(input: &[u8]) -> u16
 
 // Returns whether `kind` is a frame type of AMQP.
 fn is_kind(kind: u8) -> bool
-    ensures yes { IsTrue result → IsKind kind }
-    ensures no { IsKind kind → IsTrue result }
+    ensures only_types { IsTrue result → IsKind kind }
+    ensures each_type { IsKind kind → IsTrue result }
 {
     kind == 1 || kind == 2 || kind == 3 || kind == 8
 }

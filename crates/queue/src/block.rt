@@ -159,8 +159,8 @@ impl Block {
 
     /// Returns whether the slots suffice for the messages of this block and of `other`.
     pub(crate) fn fits(&self, other: &Block) -> bool
-        ensures yes { result ≡ true → length self.now.entries + length other.now.entries ≤ self.now.slots }
-        ensures no { result ≡ false → NeedBoth self.now other.now }
+        ensures in_one { result ≡ true → length self.now.entries + length other.now.entries ≤ self.now.slots }
+        ensures too_full { result ≡ false → NeedBoth self.now other.now }
     {
         other.live() <= self.slots.capacity() - self.live
     }

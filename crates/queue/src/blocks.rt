@@ -226,8 +226,8 @@ fn sign_all(blocks: &[Block], signs: &mut Signs, places: usize)
 /// Returns whether neither the block at index `place` nor the one before it has a message.
 fn is_spent(blocks: &[Block], place: usize) -> bool
     requires { place < length blocks.now }
-    ensures yes { result ≡ true → IsSpent place blocks.now }
-    ensures no { result ≡ false → IsNotSpent place blocks.now }
+    ensures spent { result ≡ true → IsSpent place blocks.now }
+    ensures has_messages { result ≡ false → IsNotSpent place blocks.now }
 {
     blocks[place].live() == 0 && (place == 0 || blocks[place - 1].live() == 0)
 }
@@ -248,8 +248,8 @@ fn give_back_at(blocks: &mut Vec<Block>, place: usize, alloc: Global)
 /// Returns whether the block at index `place` has messages, and slots for those of the next, too.
 fn fits_at(blocks: &[Block], place: usize) -> bool
     requires { place + 1 < length blocks.now }
-    ensures yes { result ≡ true → FitInOne (block_at blocks.now place) (block_at blocks.now (place + 1)) }
-    ensures no { result ≡ false → IsHeld (block_at blocks.now place) → NeedBothAt blocks.now place }
+    ensures in_one { result ≡ true → FitInOne (block_at blocks.now place) (block_at blocks.now (place + 1)) }
+    ensures too_full { result ≡ false → IsHeld (block_at blocks.now place) → NeedBothAt blocks.now place }
 {
     blocks[place].live() > 0 && blocks[place].fits(&blocks[place + 1])
 }

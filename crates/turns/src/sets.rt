@@ -58,8 +58,8 @@ impl SocketSet {
 
     /// Returns whether `index` is in the set.
     pub(crate) fn contains(&self, index: usize) -> bool
-        ensures yes { result ≡ true → bit_of self.now index ≡ 1 }
-        ensures no { result ≡ false → bit_of self.now index ≡ 1 → ⊥ }
+        ensures contained { result ≡ true → bit_of self.now index ≡ 1 }
+        ensures missing { result ≡ false → bit_of self.now index ≡ 1 → ⊥ }
     {
         self.next(index) == Some(index)
     }

@@ -13,4 +13,4 @@ count_waiting_out-requires c =
 
 pub loop-one-preserved : goal.loop-one-preserved
 loop-one-preserved c =
-    out_waiting c.args.gone.now c.loop-one.one-index _ _ c.args.consumers.now _ _ (let t = c.loop-one-test.true in omega arith) refl c.loop-one.invariant c.count_waiting_out.ensures.yes c.count_waiting_out.ensures.no
+    out_waiting c.args.gone.now c.loop-one.one-index _ _ c.args.consumers.now _ _ (let t = c.loop-one-test.true in omega arith) refl c.loop-one.invariant c.count_waiting_out.ensures.counted c.count_waiting_out.ensures.gone_already

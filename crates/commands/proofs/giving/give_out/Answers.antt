@@ -8,7 +8,7 @@ use Rattle.commands.proofs.giving.give_out.Goals as goal
 pub returns-then-no_ack-clause-gives : goal.returns-then-no_ack-clause-gives
 returns-then-no_ack-clause-gives c =
     subst (λ (b : Bool). GivesHere c.args.id.connection c.args.id.number c.args.depot.now c.args.channel.now b c.args.index c.args.by c.take_at.new.self c.give_settled.new.self) (sym c.if-no_ack.true)
-    (taken_is c.args.id.connection c.args.id.number c.args.index c.args.by c.args.depot.now c.take_at.new.self c.args.channel.now c.give_settled.new.self c.ghost_is_named.ensures c.take_at.ensures.store c.give_settled.ensures)
+    (taken_is c.args.id.connection c.args.id.number c.args.index c.args.by c.args.depot.now c.take_at.new.self c.args.channel.now c.give_settled.new.self c.ghost_is_named.ensures c.take_at.ensures.given_out c.give_settled.ensures)
 
 pub returns-then-no_ack-clause-notes : goal.returns-then-no_ack-clause-notes
 returns-then-no_ack-clause-notes c =
@@ -29,7 +29,7 @@ pub returns-clause-gives : goal.returns-clause-gives
 returns-clause-gives c =
     subst (λ (b : Bool). GivesHere c.args.id.connection c.args.id.number c.args.depot.now c.args.channel.now b c.args.index c.args.by c.take_at-2.new.self c.give.new.self) (sym c.if-no_ack.false)
     (held_is c.args.id.connection c.args.id.number c.args.index c.in-Some.arrival c.next_tag.result c.reserve.new.self.given.room c.args.by c.args.depot.now c.take_at-2.new.self c.args.channel.now c.reserve.new.self c.give.new.self
-    c.ghost_is_named.ensures c.in_ok-reserve.ensures.same c.next_tag.ensures c.take_at-2.ensures.store c.give.ensures)
+    c.ghost_is_named.ensures c.in_ok-reserve.ensures.same c.next_tag.ensures c.take_at-2.ensures.given_out c.give.ensures)
 
 pub returns-clause-notes : goal.returns-clause-notes
 returns-clause-notes c =

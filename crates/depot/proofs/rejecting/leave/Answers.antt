@@ -3,8 +3,8 @@ use Rattle.depot.proofs.Changes.{left_write}
 use Rattle.depot.proofs.Rooms.{same_room}
 use Rattle.depot.proofs.rejecting.leave.Goals as goal
 
-pub returns-then-is_waiting-clause-yes : goal.returns-then-is_waiting-clause-yes
-returns-then-is_waiting-clause-yes c = λ waits.
+pub returns-then-is_waiting-clause-left : goal.returns-then-is_waiting-clause-left
+returns-then-is_waiting-clause-left c = λ waits.
     left_write c.args.id.connection c.args.id.number c.args.given.now c.holder-holder.result c.args.queues.now c.queue_mut.result.now c.remove.new.self
     (c.requires waits) c.queue_mut.ensures.value c.holder-holder.ensures c.remove.ensures.entries
 

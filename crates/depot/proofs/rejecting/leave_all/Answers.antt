@@ -12,7 +12,7 @@ loop-given-preserved c =
     record {
       left =
           left_next c.args.id.connection c.args.id.number c.args.gone.now c.loop-given.given-index nothing (entries_of c.loop-given.queues) (entries_of c.leave.new.queues)
-          (let t = c.loop-given-test.true in omega arith) c.leave.ensures.yes c.leave.ensures.no
+          (let t = c.loop-given-test.true in omega arith) c.leave.ensures.left c.leave.ensures.gone_already
           ∙ inv.left;
       len = c.leave.ensures.len ∙ inv.len;
       room = λ k. c.leave.ensures.room k ∙ inv.room k;

@@ -14,7 +14,7 @@ loop-given-preserved c =
       foreseen =
           all_next c.args.router.now c.loop-given.router c.args.id c.args.gone.now c.loop-given.given-index nothing (entries_of c.args.queues.now) c.args.notes.now.items
           (so_far c.loop-given.plan c.loop-given.notes) (so_far c.plan_one.new.plan c.plan_one.new.notes)
-          (let t = c.loop-given-test.true in omega arith) inv.same c.in_ok-plan_one.ensures.yes c.in_ok-plan_one.ensures.no inv.foreseen;
+          (let t = c.loop-given-test.true in omega arith) inv.same c.in_ok-plan_one.ensures.foreseen c.in_ok-plan_one.ensures.gone_already inv.foreseen;
       within = c.plan_one.ensures.within inv.within;
       notes = extends_then c.args.notes.now.items c.loop-given.notes.items c.plan_one.new.notes.items inv.notes c.plan_one.ensures.notes;
       same = c.plan_one.ensures.same ∙ inv.same;

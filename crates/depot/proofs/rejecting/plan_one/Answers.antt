@@ -5,8 +5,8 @@ use Rattle.depot.proofs.Planned.{name_there}
 use Rattle.depot.proofs.Rejected.{on_ok}
 use Rattle.depot.proofs.rejecting.plan_one.Goals as goal
 
-pub returns-clause-yes : goal.returns-clause-yes
-returns-clause-yes c =
+pub returns-clause-foreseen : goal.returns-clause-foreseen
+returns-clause-foreseen c =
     let g = c.args.given.now in
     let t = c.args.router.now in
     let old = entries_of c.args.queues.now in

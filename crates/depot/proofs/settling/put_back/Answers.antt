@@ -2,8 +2,8 @@ use Rattle.depot.proofs.Names.{◌∙◌, List, ap, is_under, holder_of_delivery
 use Rattle.depot.proofs.Changes.{changed_write}
 use Rattle.depot.proofs.settling.put_back.Goals as goal
 
-pub returns-then-is_waiting-clause-yes : goal.returns-then-is_waiting-clause-yes
-returns-then-is_waiting-clause-yes c = λ waits.
+pub returns-then-is_waiting-clause-returned : goal.returns-then-is_waiting-clause-returned
+returns-then-is_waiting-clause-returned c = λ waits.
     let holder = holder_of_delivery c.args.id.connection c.args.id.number c.args.given.now in
     let frees = λ (a : Holder) (es : List Entry). requeued (is_under a) es in
     let line : Line = c.queue_mut.result.now in

@@ -18,7 +18,7 @@ loop-given-preserved c =
       returned = λ t n last formed len rest.
           inv.returned t n last formed len
           (returned_next t n c.args.id.connection c.args.id.number c.args.gone.now c.loop-given.given-index nothing (entries_of c.loop-given.queues) (entries_of c.put_back.new.queues) last formed
-          (was ∙ inv.len ∙ len) (omega arith) (λ w. let l = within w in omega (arith, l, was)) c.put_back.ensures.yes c.put_back.ensures.no rest);
+          (was ∙ inv.len ∙ len) (omega arith) (λ w. let l = within w in omega (arith, l, was)) c.put_back.ensures.returned c.put_back.ensures.gone_already rest);
     }
 
 pub returns-clause-settled : goal.returns-clause-settled

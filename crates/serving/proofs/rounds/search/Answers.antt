@@ -10,7 +10,7 @@ pub loop-slot-preserved : goal.loop-slot-preserved
 loop-slot-preserved c = record {
   kept = c.loop-slot.invariant.kept;
   so_far = λ i lt. elim (cases_eq i c.loop-slot.slot) [
-    | inl e ↦ subst (λ (k : ℕ). IsOther c.args.c c.args.peers.now.slots k) (sym e) (c.holds.ensures.no c.if-holds.false)
+    | inl e ↦ subst (λ (k : ℕ). IsOther c.args.c c.args.peers.now.slots k) (sym e) (c.holds.ensures.not_there c.if-holds.false)
     | inr ne ↦ let less : i < c.loop-slot.slot = omega (arith, lt, ne) in c.loop-slot.invariant.so_far i less
   ];
 }
@@ -19,7 +19,7 @@ pub returns-then-holds : goal.returns-then-holds
 returns-then-holds c = λ w fit.
     let ps = c.args.peers.now.slots in
     let i = c.loop-slot.slot in
-    let at = c.holds.ensures.yes c.if-holds.true in
+    let at = c.holds.ensures.there c.if-holds.true in
     let now = c.mark.ensures ∙ ap (λ (ms : List Bool). slice_set ms i false) (c.learn.ensures ∙ c.loop-slot.invariant.kept) in
     subst (λ (ms : List Bool). Wakes c.args.c ps c.args.quiet.now ms) (sym now) (woken w ps i at.0 c.args.c c.args.quiet.now fit at.1 at.2)
 

@@ -25,15 +25,15 @@ returns-then-targets-ne1-clause-ok c =
     published_as was now c.args.self.now c.args.id.connection c.args.id.number p c.args.content.now c.args.confirm c.args.notes.now.items c.publish_to_many.new.notes.items c.in_ok-routed.routed t c.in_ok-message.message c.in_ok-first.first
     c.self.view_is same c.in_ok-message.ensures c.in_ok-first.ensures c.ghost_is_well_formed.ensures (entries_of-length c.self.inside.queues ∙ c.self.invariant) refl c.route_of.ensures.same (c.in_ok-routed.ensures.ok p routed)
 
-pub returns-in_err-reserve-clause-store : goal.returns-in_err-reserve-clause-store
-returns-in_err-reserve-clause-store c =
+pub returns-in_err-reserve-clause-unchanged : goal.returns-in_err-reserve-clause-unchanged
+returns-in_err-reserve-clause-unchanged c =
     let place = get_or c.deref-targets.result.now 0 0 in
     on_err c.from_residual-in_err-reserve.result _
     (rw c.route_of.ensures.same
     (same_store c.self.inside.router c.self.inside.queues c.self.inside.published place c.args.self.now c.queue_mut-queue.result.now c.reserve.new.self c.self.view_is c.queue_mut-queue.ensures.value c.reserve.ensures.entries))
 
-pub returns-in_err-reserve_exact-clause-store : goal.returns-in_err-reserve_exact-clause-store
-returns-in_err-reserve_exact-clause-store c =
+pub returns-in_err-reserve_exact-clause-unchanged : goal.returns-in_err-reserve_exact-clause-unchanged
+returns-in_err-reserve_exact-clause-unchanged c =
     let place = get_or c.deref-targets.result.now 0 0 in
     on_err c.from_residual-in_err-reserve_exact.result _
     (rw c.route_of.ensures.same

@@ -34,8 +34,8 @@ returns-clause-ok c =
     (changed_write stays lines index w no_line within (entries ∙ ap (λ (l : Line). stays l.entries) c.queue_mut.ensures.value)))
     e.reported e.noted e.entries)
 
-pub returns-clause-store : goal.returns-clause-store
-returns-clause-store c = on_err c.purge_in.result (λ same. same_store c.self.inside.router c.self.inside.queues c.self.inside.published c.args.index _ c.queue_mut.result.now c.purge_in.new.queue c.self.view_is c.queue_mut.ensures.value same) c.purge_in.ensures.queue
+pub returns-clause-unchanged : goal.returns-clause-unchanged
+returns-clause-unchanged c = on_err c.purge_in.result (λ same. same_store c.self.inside.router c.self.inside.queues c.self.inside.published c.args.index _ c.queue_mut.result.now c.purge_in.new.queue c.self.view_is c.queue_mut.ensures.value same) c.purge_in.ensures.queue
 
 pub returns-clause-wanted : goal.returns-clause-wanted
 returns-clause-wanted c =

@@ -18,7 +18,7 @@ returns-clause-notes c =
     let is = lent_queue c.self.inside.router c.self.inside.queues c.self.inside.published c.args.index _ c.queue_mut-queue.result.now c.self.view_is c.self.invariant c.requires.within c.queue_mut-queue.ensures.value in
     c.give-arrival.ensures.notes ∙ ap (λ (es : List Entry). c.args.notes.now.items ++ given_notes c.args.how (find is_ready es)) is
 
-pub returns-clause-store : goal.returns-clause-store
-returns-clause-store c =
+pub returns-clause-given_out : goal.returns-clause-given_out
+returns-clause-given_out c =
     store_changed (given_so c.args.how) c.self.inside.router c.self.inside.queues _ c.self.inside.published c.args.index _ c.queue_mut-queue.result.now c.give-arrival.new.queue c.self.view_is c.self.invariant c.requires.within c.queue_mut-queue.ensures.value
     c.give-arrival.ensures.entries c.count_taking.ensures

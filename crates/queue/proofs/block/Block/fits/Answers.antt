@@ -11,8 +11,8 @@ overflow_sub-result c =
     let capacity = c.capacity.ensures in
     omega (arith, a, n, l, k, capacity)
 
-pub returns-clause-yes : goal.returns-clause-yes
-returns-clause-yes c reported =
+pub returns-clause-in_one : goal.returns-clause-in_one
+returns-clause-in_one c reported =
     let a = live_most _ _ _ c.self.invariant.0 in
     let n = contents-length c.self.inside.slots.items in
     let l : vec_len c.self.inside.slots ≡ length c.self.inside.slots.items = search rules in
