@@ -152,6 +152,23 @@ leaving_next t c h old now new gone rest later d before noted more formed leavin
               all n after last (leaves_first Acked (store_of t now n) c h x xs new noted more after last (record { formed = formed; len = leaving.len }) leaving.distinct lt lists notes settled);
         }
 
+-- those that wait from this place on are still to leave
+pub leaving_waiting : (t : Topology) (c h : ℕ) (old now new : List (List Entry)) (gone : List Delivery) (i : ℕ) (d : Delivery) (before noted more : List Note) → IsWellFormed t → i < length gone
+    → AreLeaving t c h old now (waiting gone) (map (departure_in t) (waiting (drop i gone))) before noted
+    → (is_waiting (get_or gone i d) ≡ true → new ≡ left_at c h now (get_or gone i d)) → (is_waiting (get_or gone i d) ≡ false → new ≡ now)
+    → (is_waiting (get_or gone i d) ≡ true → more ≡ noted ++ left_note Acked (queue_name t (get_or gone i d).queue) (given_at c h now (get_or gone i d))) → (is_waiting (get_or gone i d) ≡ false → more ≡ noted)
+    → AreLeaving t c h old new (waiting gone) (map (departure_in t) (waiting (drop (i + 1) gone))) before more
+leaving_waiting t c h old now new gone i d before noted more formed lt leaving moves stays reports none = go (is_waiting (get_or gone i d)) refl
+  where
+    go : (b : Bool) → is_waiting (get_or gone i d) ≡ b → AreLeaving t c h old new (waiting gone) (map (departure_in t) (waiting (drop (i + 1) gone))) before more
+    go true w = leaving_next t c h old now new (waiting gone) (map (departure_in t) (waiting (drop i gone))) (map (departure_in t) (waiting (drop (i + 1) gone))) (departure_in t (get_or gone i d)) before noted more formed leaving
+        (ap (map (departure_in t)) (next_waiting gone i d true lt w)) (moves w) (reports w)
+    go false w =
+        let rest : map (departure_in t) (waiting (drop i gone)) ≡ map (departure_in t) (waiting (drop (i + 1) gone)) = ap (map (departure_in t)) (next_waiting gone i d false lt w) in
+        subst (λ (ds : List Departure). AreLeaving t c h old new (waiting gone) ds before more) rest
+        (subst (λ (now' : List (List Entry)). AreLeaving t c h old now' (waiting gone) (map (departure_in t) (waiting (drop i gone))) before more) (sym (stays w))
+        (subst (λ (ns : List Note). AreLeaving t c h old now (waiting gone) (map (departure_in t) (waiting (drop i gone))) before ns) (sym (none w)) leaving))
+
 -- where there is one, and it waits, it leaves
 pub one_left : (t : Topology) (c h n : ℕ) (gone : List Delivery) (old new : List (List Entry)) (before after : List Note) → IsWellFormed t → length old ≡ length t.queues → AreDistinctBy old → AreWithin t (waiting gone)
     → length gone ≡ 1 → is_waiting (get_or gone 0 nothing) ≡ true → new ≡ left_at c h old (get_or gone 0 nothing)

@@ -6,10 +6,11 @@ use Rattle.model.specs.Routing.{key_after}
 use Rattle.model.specs.Message.{Message}
 use Rattle.model.specs.Entries.{is_held_as}
 use Rattle.model.specs.Deaths.{dead_letter}
+use Rattle.model.specs.Deliveries.{left_note}
 use Rattle.model.specs.declared.contents.Content.{Content}
 use Rattle.model.specs.declared.messages.Entry.{Entry}
 use Rattle.model.specs.declared.topologies.DeclaredQueue.{DeclaredQueue}
-use Rattle.model.specs.declared.notes.Cause.TheVariants.{Rejected}
+use Rattle.model.specs.declared.notes.Cause.TheVariants.{Acked, Rejected}
 use Rattle.model.specs.declared.notes.Note.{Note}
 use Rattle.model.specs.declared.notes.Note.TheVariants.{Left}
 use Rattle.model.specs.declared.notes.Way.TheVariants as way
@@ -68,6 +69,10 @@ Plans t c h g (Some e) deaths = (d : Death) × (deaths ≡ d ∷ []) × IsDeathO
 -- the message of delivery `g`, if it is still held
 abbrev pub given_at : ℕ → ℕ → List (List Entry) → Delivery → Option Entry
 given_at c h entries g = find (is_held_as (holder_of_delivery c h g)) (slice_index_or entries g.queue [])
+
+-- the note that the message of delivery `g`, if it is still held, leaves when it is acknowledged
+abbrev pub acked_note : Topology → ChannelId → List (List Entry) → Delivery → List Note
+acked_note t id entries g = left_note Acked (queue_name t g.queue) (given_at id.connection id.number entries g)
 
 -- `deaths` has the planned death of the message of delivery `g`, if it is still held, and nothing else
 abbrev pub PlansAt : Topology → ℕ → ℕ → List (List Entry) → Delivery → List Death → Type 0

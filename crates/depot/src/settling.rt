@@ -6,7 +6,8 @@ ghost use Rattle.model.specs.Deliveries.{Leaves, left_note};
 ghost use Rattle.model.specs.Placed.{is_waiting, waiting, AreWithin};
 ghost use Rattle.model.specs.declared.notes.Cause.TheVariants.{Acked};
 ghost use Rattle.depot.specs.Store.{entries_of};
-ghost use Rattle.depot.specs.Dying.{given_at};
+ghost use Rattle.depot.specs.Dying.{acked_note, given_at};
+ghost use Rattle.notes.specs.Kept.{are_kept};
 ghost use Rattle.depot.specs.Settled.{AreReturnedIn, AreSettledIn, AreOf, IsHeldOnce, departure_in, left_at, returned_at, store_of};
 
 use crate::departures::Departure;
@@ -97,9 +98,9 @@ pub(crate) fn leave(
     }
 }
 
-/// Acknowledges the unacknowledged deliveries of `gone`: makes all allocations, and then removes their messages one after another.
-/// Fails only if an allocation fails; only capacity may have grown then.
-pub(crate) fn ack_all(
+/// Acknowledges the unacknowledged deliveries of `gone`, with a note for each that is kept: makes all allocations, and then removes their messages one
+/// after another. Fails only if an allocation fails; only capacity may have grown then.
+fn ack_noted(
     alloc: Global,
     topology: &Topology,
     queues: &mut Queues,
@@ -126,6 +127,120 @@ pub(crate) fn ack_all(
         leave(queues, id, &given, queue, notes);
     }
     Ok(())
+}
+
+/// If the message of `given` is still held, removes it from its queue, which is named `queue`, and appends a note that nobody keeps. There is capacity
+/// for it. Never allocates.
+fn leave_unnoted(
+    queues: &mut Queues,
+    id: ChannelId,
+    given: &Delivery,
+    queue: &Text,
+    notes: &mut Notes,
+)
+    requires within { given.now.queue < length queues.old }
+    requires unkept { are_kept notes.old ≡ false }
+    requires room { vec_len notes.old < vec_capacity notes.old }
+    // The message leaves, with a note if it was held; at most one note is used.
+    ensures entries { entries_of queues.new ≡ left_at id.connection id.number (entries_of queues.old) given.now }
+    ensures len { length queues.new ≡ length queues.old }
+    ensures notes { notes.new.items ≡ notes.old.items
+        ++ left_note Acked queue.now (given_at id.connection id.number (entries_of queues.old) given.now) }
+    ensures notes_len { vec_len notes.new ≤ vec_len notes.old + 1 }
+    ensures capacity { vec_capacity notes.new ≡ vec_capacity notes.old }
+    ensures unkept { are_kept notes.new ≡ false }
+{
+    let holder = given.holder(id);
+    let removed = queues.queue_mut(given.queue).remove(&holder, given.arrival);
+    if let Some(entry) = removed {
+        notes.push_left(entry.message.number(), queue, Cause::Acked);
+    }
+}
+
+/// Removes the message of `given`, as [`leave_unnoted`] does, if this delivery is unacknowledged.
+fn leave_waiting(
+    topology: &Topology,
+    queues: &mut Queues,
+    id: ChannelId,
+    given: &Delivery,
+    notes: &mut Notes,
+)
+    requires len { length queues.old ≡ length topology.now.queues }
+    requires within { is_waiting given.now ≡ true → given.now.queue < length queues.old }
+    requires unkept { are_kept notes.old ≡ false }
+    requires room { vec_len notes.old < vec_capacity notes.old }
+    // The message leaves if the delivery is unacknowledged, with a note if it was held; at most one note is used.
+    ensures leaves { is_waiting given.now ≡ true → entries_of queues.new ≡ left_at id.connection id.number (entries_of queues.old) given.now }
+    ensures gone_already { is_waiting given.now ≡ false → entries_of queues.new ≡ entries_of queues.old }
+    ensures noted { is_waiting given.now ≡ true → notes.new.items ≡ notes.old.items ++ acked_note topology.now id (entries_of queues.old) given.now }
+    ensures unnoted { is_waiting given.now ≡ false → notes.new.items ≡ notes.old.items }
+    ensures len { length queues.new ≡ length queues.old }
+    ensures notes_len { vec_len notes.new ≤ vec_len notes.old + 1 }
+    ensures capacity { vec_capacity notes.new ≡ vec_capacity notes.old }
+    ensures unkept { are_kept notes.new ≡ false }
+{
+    if given.is_waiting() {
+        let queue = &topology.queue(given.queue).name;
+        leave_unnoted(queues, id, given, queue, notes);
+    }
+}
+
+/// Acknowledges the unacknowledged deliveries of `gone` as [`ack_noted`] does, with notes that nobody keeps: what it allocates doesn't grow with their
+/// number. Fails only if the list of notes can't be begun; only its capacity may have grown then.
+fn ack_unnoted(
+    topology: &Topology,
+    queues: &mut Queues,
+    id: ChannelId,
+    gone: &[Delivery],
+    notes: &mut Notes,
+) -> Result<(), AllocError>
+    // What the caller knows of the topology, the deliveries and the notes.
+    requires formed { IsWellFormed topology.now }
+    requires len { length queues.old ≡ length topology.now.queues }
+    requires within { AreWithin topology.now (waiting gone.now) }
+    requires distinct { IsHeldOnce (store_of topology.now (entries_of queues.old) 0) }
+    requires unkept { are_kept notes.old ≡ false }
+    // The promise; a failure changes neither the queues nor the notes.
+    ensures ok { OnOk result (AreSettledIn (Leaves Acked) topology.now id (waiting gone.now)
+        queues.old queues.new notes.old.items notes.new.items) }
+    ensures len { length queues.new ≡ length queues.old }
+    ensures queues { OnErr result (entries_of queues.new ≡ entries_of queues.old) }
+    ensures notes { OnErr result (notes.new.items ≡ notes.old.items) }
+{
+    notes.reserve_exact(gone.len())?;
+    for given in gone {
+        leave_waiting(topology, queues, id, given, notes);
+    }
+    Ok(())
+}
+
+/// Acknowledges the unacknowledged deliveries of `gone`: their messages leave their queues one after another. What it allocates grows with their number
+/// only if the notes are kept. Fails only if an allocation fails; only capacity may have grown then.
+pub(crate) fn ack_all(
+    alloc: Global,
+    topology: &Topology,
+    queues: &mut Queues,
+    id: ChannelId,
+    gone: &[Delivery],
+    notes: &mut Notes,
+) -> Result<(), AllocError>
+    // What the caller knows of the topology and the deliveries.
+    requires formed { IsWellFormed topology.now }
+    requires len { length queues.old ≡ length topology.now.queues }
+    requires within { AreWithin topology.now (waiting gone.now) }
+    requires distinct { IsHeldOnce (store_of topology.now (entries_of queues.old) 0) }
+    // The promise; a failure changes neither the queues nor the notes.
+    ensures ok { OnOk result (AreSettledIn (Leaves Acked) topology.now id (waiting gone.now)
+        queues.old queues.new notes.old.items notes.new.items) }
+    ensures len { length queues.new ≡ length queues.old }
+    ensures queues { OnErr result (entries_of queues.new ≡ entries_of queues.old) }
+    ensures notes { OnErr result (notes.new.items ≡ notes.old.items) }
+{
+    if notes.are_kept() {
+        ack_noted(alloc, topology, queues, id, gone, notes)
+    } else {
+        ack_unnoted(topology, queues, id, gone, notes)
+    }
 }
 
 /// Requeues the message of `given` if this delivery is unacknowledged: it is ready again in its place, marked redelivered.

@@ -3,10 +3,11 @@
 ghost use Rattle.std.specs.Prelude.{◌≡◌, ◌+◌, ◌<◌, ◌≤◌, ◌++◌, ◌∷◌, [], set, take, eqb, slice_get, vec_len, vec_capacity};
 ghost use Rattle.std.specs.Prelude.{true, false, is_some, Some, OnOk, OnErr, IfSome};
 ghost use Rattle.notes.specs.Numbered.{numbered};
+ghost use Rattle.model.specs.declared.notes.Note.TheVariants.{Left};
 ghost use Rattle.notes.specs.Kept.{are_kept};
 
 use crate::unkept::Unkept;
-use model::Note;
+use model::{Cause, Note, Text};
 use std::alloc::{AllocError, Global};
 use std::marker::Model;
 
@@ -110,6 +111,29 @@ impl Notes {
         match &mut self.held {
             Held::Kept(notes) => notes.push_reserved(note),
             Held::Unkept(notes) => notes.push_reserved(Unkept::of(&note)),
+        }
+    }
+
+    /// Returns whether the notes are kept for a reader.
+    pub fn are_kept(&self) -> bool
+        ensures { result ≡ are_kept self.now }
+    {
+        matches!(self.held, Held::Kept(_))
+    }
+
+    /// Appends the note that message number `number` left `queue` for `cause`, to notes that nobody keeps: the name is not copied. There is capacity
+    /// for it.
+    pub fn push_left(&mut self, number: u64, queue: &Text, cause: Cause)
+        requires unkept { are_kept self.old ≡ false }
+        requires room { vec_len self.old < vec_capacity self.old }
+        ensures items { self.new.items ≡ self.old.items ++ Left number queue.now cause ∷ [] }
+        ensures len { vec_len self.new ≡ vec_len self.old + 1 }
+        ensures capacity { vec_capacity self.new ≡ vec_capacity self.old }
+        ensures kept { are_kept self.new ≡ false }
+    {
+        match &mut self.held {
+            Held::Kept(_) => unreachable!(),
+            Held::Unkept(notes) => notes.push_reserved(Unkept::left(number, queue, cause)),
         }
     }
 

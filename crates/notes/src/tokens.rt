@@ -1,10 +1,10 @@
-//! A note that only contracts see.
+//! Values that only contracts see.
 
-ghost use Rattle.std.specs.Prelude.{◌≡◌};
+ghost use Rattle.std.specs.Prelude.{◌≡◌, ℕ, List};
 ghost use Rattle.std.specs.Borrow.{ftrue};
 ghost use Rattle.model.specs.declared.notes.Note.{Note};
 
-use model::Note;
+use model::{Note, Text};
 use std::marker::Model;
 
 /// A note that only contracts see: it has no bytes.
@@ -23,5 +23,24 @@ impl Token {
         ensures { result.note ≡ _note.now }
     {
         Token {}
+    }
+}
+
+/// A name that only contracts see: it has no bytes.
+#[derive(Drop)]
+pub struct NameToken {
+    pub ghost name: { List ℕ },
+}
+
+impl Model for NameToken {
+    ghost also_owns = { λ _. ftrue };
+}
+
+impl NameToken {
+    /// Returns a token of `name`.
+    pub(crate) fn of(_name: &Text) -> NameToken
+        ensures { result.name ≡ _name.now }
+    {
+        NameToken {}
     }
 }

@@ -2,7 +2,7 @@ use Rattle.depot.proofs.Names.{rules, refl, ap, sym, ◌∙◌, length, arith, s
 use Rattle.depot.proofs.Changes.{entries_of-length}
 use Rattle.depot.proofs.Rejected.{apart_by}
 use Rattle.depot.proofs.Settled.{AreLeaving, leaving_begins, leaving_within, leaving_next, leaving_ends}
-use Rattle.depot.proofs.settling.ack_all.Goals as goal
+use Rattle.depot.proofs.settling.ack_noted.Goals as goal
 
 pub loop-departure-init : goal.loop-departure-init
 loop-departure-init c =

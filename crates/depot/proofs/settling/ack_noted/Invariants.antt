@@ -1,6 +1,6 @@
 use Rattle.depot.proofs.Names.{◌≡◌, ◌≤◌, ◌+◌, length, vec_len, vec_capacity, waiting, entries_of}
 use Rattle.depot.proofs.Settled.{AreLeaving}
-use Rattle.depot.proofs.settling.ack_all.Given as goal
+use Rattle.depot.proofs.settling.ack_noted.Given as goal
 
 -- what has left and what is still to leave is the whole, and there is room for the notes
 abbrev pub invariant-loop-departure : goal.invariant-loop-departure
