@@ -1,0 +1,4 @@
+pub mod Resting
+pub mod Standing
+pub mod Swept
+pub mod Turned
