@@ -1,14 +1,12 @@
--- What a pick finds at a waiter.
-use Rattle.broker.proofs.Names.{◌∙◌, ◌<◌, ◌≤◌, ℕ, List, [], ◌∷◌, Bool, true, false, cond, Some, length, filter, find, inl, inr, refl, sym, ap, subst, arith, ◌==◌, eqb-true, eq-eqb, false≢true, leb_tells, same_Some, IsIn, is_ready, MayTake, first_ready, Entry, queue_name, queue_at, HasReady, IsStoreWhole, consumer_in, Kept, names_of, IsPick, IsPickFrom, TakesAs, IsKeptAs, CannotTake, has_consumer, Pick, same_place, Found, Waiter, is_able, is_of, awake_waiter, FindsWaiter, HasConsumer}
+-- What a pick finds at a consumer.
+use Rattle.broker.proofs.Names.{◌∙◌, ◌<◌, ◌≤◌, ℕ, List, [], ◌∷◌, Bool, true, false, cond, Some, length, filter, find, inl, inr, refl, sym, ap, subst, arith, ◌==◌, eq-eqb, false≢true, leb_tells, same_Some, IsIn, is_ready, MayTake, first_ready, Entry, queue_name, queue_at, HasReady, IsStoreWhole, consumer_in, Kept, names_of, IsPick, IsPickFrom, TakesAs, IsKeptAs, CannotTake, has_consumer, Pick, same_place, is_of, HasConsumer}
 use Rattle.std.proofs.Common.{◌≡◌}
 use Rattle.model.specs.Broker as seen
 use Rattle.depot.proofs.Named.{queue_of-place}
 use Rattle.channels.specs.declared.consumers.Consumer.{Consumer}
 use Rattle.commands.specs.State.{broker_of, topology_kept}
-use Rattle.broker.specs.declared.rounds.finding.Found.TheVariants.{Able, Unable, Over}
 use Rattle.broker.proofs.Present.{has_kept}
-use Rattle.broker.proofs.Sleeping.{cannot_pick}
-use Rattle.broker.proofs.Takers.{has_of, not_of, picked_of}
+use Rattle.broker.proofs.Takers.{has_of, not_of, of_has}
 
 -- ---- a queue with something ready
 
@@ -46,6 +44,9 @@ able kept queue p k whole ready t here =
 -- none can be made to one who may take nothing
 pub none_picked : (kept : Kept) (p : Pick) → CannotTake (broker_of kept) p → IsPick (broker_of kept) p → ⊥
 none_picked kept p none (made, at, numbered) = none made.channel made.consumer (subst (λ (h : ℕ). MayTake (broker_of kept) p.connection h made.channel made.consumer) at made.taker) numbered
+
+pub cannot_pick : (kept : Kept) (queue : ℕ) (p : Pick) → CannotTake (broker_of kept) p → IsPickFrom kept queue p → ⊥
+cannot_pick kept queue p cannot from = none_picked kept p cannot from.pick
 
 -- ---- from which queue a consumer takes
 
@@ -91,37 +92,6 @@ from_its kept p k t (made, at, numbered) =
     let one : made.consumer ≡ consumer_in (names_of kept) k = t.only made.consumer (subst (λ (x : seen.Channel). IsIn made.consumer x.consumers) same made.taker.its) numbered in
     record { pick = (made, at, numbered); within = t.within; named = sym (ap (λ (x : seen.Consumer). x.queue) one) }
 
--- ---- what is found
-
--- at a waiter that is awake, by what its consumer may take
-module _ (kept : Kept) (queue place : ℕ) (s : Waiter) (k : Consumer) (f : Found) (whole : IsStoreWhole kept.store) (awake : s.asleep ≡ false) (here : k.queue ≡ place) (elsewhere : (place ≡ queue → ⊥) → f ≡ Over) where
-  at_other : (is_of kept queue s.pick ≡ false) → (place ≡ queue → ⊥) → FindsWaiter kept queue s f
-  at_other none far = subst (FindsWaiter kept queue s) (sym (elsewhere far)) (λ up. none)
-
-  by_place : (P : Type 0) → ((place ≡ queue) → P) → ((place ≡ queue → ⊥) → P) → P
-  by_place P same far = go (place == queue) refl
-    where
-      go : (v : Bool) → (place == queue) ≡ v → P
-      go true e = same (eqb-true place queue e)
-      go false e = far (λ is. false≢true (sym e ∙ eq-eqb place queue is))
-
-  pub unable_found : (place ≡ queue → f ≡ Unable) → IsKeptAs kept s.pick k → CannotTake (broker_of kept) s.pick → FindsWaiter kept queue s f
-  unable_found its t cannot = by_place (FindsWaiter kept queue s f)
-      (λ same. subst (FindsWaiter kept queue s) (sym (its same)) (awake, cannot, has_of kept queue s.pick (subst (λ (n : ℕ). HasConsumer (topology_kept kept) (broker_of kept) n s.pick) (here ∙ same) (kept_has kept s.pick k t))))
-      (λ far. at_other (not_of kept queue s.pick (λ has. far (sym here ∙ kept_queue kept queue s.pick k whole t has))) far)
-
-  pub taker_found : HasReady kept.store queue → (place ≡ queue → f ≡ Able) → TakesAs kept s.pick k → FindsWaiter kept queue s f
-  taker_found ready its t = by_place (FindsWaiter kept queue s f)
-      (λ same. subst (FindsWaiter kept queue s) (sym (its same)) (awake, able kept queue s.pick k whole ready t (here ∙ same)))
-      (λ far. at_other (not_of kept queue s.pick (λ has. far (sym here ∙ taken_queue kept queue s.pick k whole t has))) far)
-
--- no delivery can be made where another thing is found
-pub none_found : (kept : Kept) (queue : ℕ) (s : Waiter) (p : Pick) (f : Found) → FindsWaiter kept queue s f → is_able f ≡ false → s ≡ awake_waiter p → IsPickFrom kept queue p → ⊥
-none_found kept queue s p Able finds none is pick = false≢true (sym none)
-none_found kept queue s p Unable finds none is pick = cannot_pick kept queue p (subst (λ (z : Waiter). CannotTake (broker_of kept) z.pick) is finds.1) pick
-none_found kept queue s p Over finds none is pick = false≢true (sym (subst (λ (z : Waiter). is_of kept queue z.pick ≡ false) is (finds (ap (λ (z : Waiter). z.asleep) is))) ∙ picked_of kept queue p pick)
-
-pub able_found : (kept : Kept) (queue : ℕ) (s : Waiter) (f : Found) → FindsWaiter kept queue s f → is_able f ≡ true → IsPickFrom kept queue s.pick
-able_found kept queue s Able finds e = finds.1
-able_found kept queue s Unable finds e = absurd (false≢true e)
-able_found kept queue s Over finds e = absurd (false≢true e)
+-- one that may take from another queue doesn't take from this one
+pub elsewhere : (kept : Kept) (queue place : ℕ) (p : Pick) (k : Consumer) → IsStoreWhole kept.store → TakesAs kept p k → k.queue ≡ place → (place == queue) ≡ false → is_of kept queue p ≡ true → ⊥
+elsewhere kept queue place p k whole t here far its = false≢true (sym far ∙ eq-eqb place queue (sym here ∙ taken_queue kept queue p k whole t (of_has kept queue p its)))

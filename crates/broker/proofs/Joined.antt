@@ -1,5 +1,5 @@
--- Waiters of consumers: among others, after a sweep, and at each event.
-use Rattle.broker.proofs.Names.{◌∙◌, ℕ, List, [], ◌∷◌, ◌++◌, Bool, true, false, Option, Some, None, length, inl, inr, refl, sym, ap, subst, if◌then◌else◌, option_map, is_some, not, ◌==◌, ◌&&◌, eqb-true, eq-eqb, false≢true, same_Some, Text, Topology, IsIn, IsAgreed, Broker, Channel, Connection, with_pair, with_row, Is, Acts, Refuses, Decides, OnConnection, Refusal, Ignored, Of_channel, Of_connection, refusal, channel_or_new, consumer_of, ids_of, Content, Method, BasicConsume, Send, Event, Command, Note, WasConsumer, IsMadeBy, ConsumersAreMade, open_in, running_in, channel_in, channel_at, connection_at, limits_of, Kept, names_of, Rounds, Lists, Listing, round_at, listing, is_of, wakes, HasConsumer, AllAreInRounds, AllAreNoted, AllAreConsumers, AllListedAreThere, HasJoined, IsServing, AllRun, HasNoList, MakesNoList, NotesStay, IsNoted, IsInItsRound, IsAwake, KeepsWaiters, KeepsAll, next_number, next_consumer, makes_consumer, consumer_to_make, consumed, IsConsumed, Pick}
+-- Consumers that are there after an event: they were there, or it made them.
+use Rattle.broker.proofs.Names.{◌∙◌, ℕ, List, [], ◌∷◌, ◌++◌, Bool, true, false, Option, Some, None, inl, inr, refl, sym, ap, subst, if◌then◌else◌, option_map, is_some, not, ◌==◌, ◌&&◌, eq-eqb, false≢true, same_Some, Text, Topology, IsIn, IsAgreed, Broker, Channel, Connection, with_pair, with_row, Is, Acts, Refuses, Decides, OnConnection, Refusal, Ignored, Of_channel, Of_connection, refusal, channel_or_new, consumer_of, ids_of, Content, BasicConsume, Method, Send, Event, Command, Note, WasConsumer, IsMadeBy, ConsumersAreMade, open_in, running_in, channel_in, channel_at, connection_at, limits_of, Kept, names_of, HasConsumer, next_number, next_consumer, makes_consumer, consumer_to_make, consumed, IsConsumed, Pick}
 use Rattle.std.proofs.Common.{◌≡◌, ◌⊎◌}
 use Rattle.model.specs.Broker as seen
 use Rattle.model.specs.declared.methods.Consume.{Consume}
@@ -7,36 +7,14 @@ use Rattle.channels.specs.Open.{Open}
 use Rattle.channels.specs.RunningConnections.{Running}
 use Rattle.commands.specs.State.{broker_of, topology_kept}
 use Rattle.commands.specs.Judged.{IsIgnored}
-use Rattle.broker.proofs.Takers.{has_of}
-use Rattle.broker.proofs.Waking.{cannot_still}
 
 -- each step leaves what is held and what is outstanding in agreement
 abbrev pub StayAgreed : Type 0
 StayAgreed = (t : Topology) (old new : Broker) (e : Event) (sends : List Send) (notes : List Note) → IsAgreed old → Acts t old e sends notes new → IsAgreed new
 
--- where no waiter of a consumer that is there is gone, each still has its waiter
-pub waiters_kept : (kept : Kept) (old new : Rounds) → KeepsWaiters kept old new → AllAreInRounds (topology_kept kept) (broker_of kept) old → AllAreInRounds (topology_kept kept) (broker_of kept) new
-waiters_kept kept old new keeps joined place p has = keeps place p (joined place p has) (has_of kept place p has)
-
--- ---- events
-
--- the waiter of this consumer of channel h of connection c
+-- the consumer of channel h of connection c
 abbrev pick_of : ℕ → ℕ → seen.Consumer → Pick
 pick_of c h k = record { connection = c; channel = h; number = k.number }
-
--- the waiters of consumers that may take more after this event are awake
-abbrev pub AreWoken : Topology → Broker → Event → Rounds → Type 0
-AreWoken t b e rounds = (place : ℕ) (p : Pick) → wakes e p ≡ true → HasConsumer t b place p → IsAwake (round_at rounds.rounds place) p
-
--- whoever had its waiter has it after an event
-joined_then : (t : Topology) (old new : Broker) (e : Event) (sends : List Send) (notes : List Note) (rounds : Rounds) → Acts t old e sends notes new → AreWoken t old e rounds → AllAreInRounds t old rounds
-    → (place : ℕ) (p : Pick) → HasConsumer t old place p → IsInItsRound new rounds place p
-joined_then t old new e sends notes rounds acts woken joined place p was = on (wakes e p) refl (joined place p was)
-  where
-    on : (v : Bool) → wakes e p ≡ v → IsInItsRound old rounds place p → IsInItsRound new rounds place p
-    on true f i = inl (woken place p f was)
-    on false f (inl awake) = inl awake
-    on false f (inr s) = inr (record { asleep = s.asleep; cannot = cannot_still t old new e sends notes p acts f s.cannot; listed = s.listed })
 
 -- an event is a command
 abbrev pub is_command : Event → Bool
@@ -50,10 +28,6 @@ was_there law t old new e sends notes acts none place p has = go (law t old new 
     go : WasConsumer old p.connection p.channel has.consumer ⊎ IsMadeBy old e p.connection p.channel has.consumer → HasConsumer t old place p
     go (inl was) = record { consumer = has.consumer; was = was; numbered = has.numbered; within = has.within; named = has.named }
     go (inr made) = absurd (false≢true (sym none ∙ ap is_command made.2))
-
-pub joined_still : ConsumersAreMade → (t : Topology) (old new : Broker) (e : Event) (sends : List Send) (notes : List Note) (rounds : Rounds) → Acts t old e sends notes new → AreWoken t old e rounds → is_command e ≡ false → AllAreInRounds t old rounds → AllAreInRounds t new rounds
-joined_still law t old new e sends notes rounds acts woken none joined place p has =
-    joined_then t old new e sends notes rounds acts woken joined place p (was_there law t old new e sends notes acts none place p has)
 
 -- ---- consumes
 
@@ -229,119 +203,3 @@ came_there law kept new e sends notes acts place p has = go (law t b new e sends
     go : WasConsumer b c h k ⊎ IsMadeBy b e c h k → Came_here
     go (inl was) = before was
     go (inr m) = made m
-
--- ---- what every broker keeps
-
--- What it keeps but for that what is listed is of connections that run, and that nothing is kept or listed but of a consumer that is there.
-pub record Holds (kept : Kept) (r : Rounds) : Type 0 where
-  pub agreed : IsAgreed (broker_of kept)
-  pub rounds_for : length r.rounds ≡ length (topology_kept kept).queues
-  pub joined : AllAreInRounds (topology_kept kept) (broker_of kept) r
-  pub noted : AllAreNoted (topology_kept kept) (broker_of kept) r.lists
-
-pub holds : (kept : Kept) (r : Rounds) → IsServing kept r → Holds kept r
-holds kept r serving = record { agreed = serving.agreed; rounds_for = serving.rounds_for; joined = serving.joined; noted = serving.noted }
-
-pub serves : (kept : Kept) (r : Rounds) → Holds kept r → AllRun (broker_of kept) r.lists → AllAreConsumers kept r.rounds → AllListedAreThere kept r.lists → IsServing kept r
-serves kept r held running own listed = record {
-  agreed = held.agreed;
-  rounds_for = held.rounds_for;
-  joined = held.joined;
-  noted = held.noted;
-  running = running;
-  own = own;
-  listed = listed;
-}
-
--- where no connection ends, and no list is made, what is listed is of connections that run
-pub running_still : (old new : Broker) (before after : Lists) → ((d : ℕ) → new.connection d ≡ None → old.connection d ≡ None) → MakesNoList before after → AllRun old before → AllRun new after
-running_still old new before after runs makes running d none = makes d (running d (runs d none))
-
--- if no connection but this one ends, and this one has no list unless it is running, and no list is made, only running connections have lists
-pub running_but : (old new : Broker) (before after : Lists) (c : ℕ) → ((d : ℕ) → (d == c) ≡ false → new.connection d ≡ None → old.connection d ≡ None) → (new.connection c ≡ None → HasNoList after c) → MakesNoList before after
-    → AllRun old before → AllRun new after
-running_but old new before after c others gone makes running d none = go (d == c) refl
-  where
-    go : (v : Bool) → (d == c) ≡ v → HasNoList after d
-    go true at = let one = eqb-true d c at in subst (HasNoList after) (sym one) (gone (ap new.connection (sym one) ∙ none))
-    go false distinct = makes d (running d (others d distinct none))
-
--- each event that is no command leaves it so
-pub serves_still : StayAgreed → ConsumersAreMade → (t : Topology) (old new : Kept) (e : Event) (sends : List Send) (notes : List Note) (rounds : Rounds)
-    → Acts t (broker_of old) e sends notes (broker_of new) → AreWoken t (broker_of old) e rounds → is_command e ≡ false → topology_kept old ≡ t → topology_kept new ≡ t → Holds old rounds → Holds new rounds
-serves_still agrees law t old new e sends notes rounds acts woken none was is serving = record {
-  agreed = agrees t (broker_of old) (broker_of new) e sends notes serving.agreed acts;
-  rounds_for = serving.rounds_for ∙ ap (λ (x : Topology). length x.queues) (was ∙ sym is);
-  joined = subst (λ (x : Topology). AllAreInRounds x (broker_of new) rounds) (sym is)
-      (joined_still law t (broker_of old) (broker_of new) e sends notes rounds acts woken none (subst (λ (x : Topology). AllAreInRounds x (broker_of old) rounds) was serving.joined));
-  noted = λ place p has.
-      serving.noted place p
-      (subst (λ (x : Topology). HasConsumer x (broker_of old) place p) (sym was) (was_there law t (broker_of old) (broker_of new) e sends notes acts none place p (subst (λ (x : Topology). HasConsumer x (broker_of new) place p) is has)));
-}
-
--- and one that wakes no waiter
-pub serves_asleep : StayAgreed → ConsumersAreMade → (t : Topology) (old new : Kept) (e : Event) (sends : List Send) (notes : List Note) (rounds : Rounds)
-    → Acts t (broker_of old) e sends notes (broker_of new) → ((p : Pick) → wakes e p ≡ false) → is_command e ≡ false → topology_kept old ≡ t → topology_kept new ≡ t → Holds old rounds → Holds new rounds
-serves_asleep agrees law t old new e sends notes rounds acts asleep none was is serving =
-    serves_still agrees law t old new e sends notes rounds acts (λ place p woken has. absurd (false≢true (sym (asleep p) ∙ woken))) none was is serving
-
--- so does one behind which the consumer that it makes comes in
-module _ (agrees : StayAgreed) (law : ConsumersAreMade) (old new : Kept) (e : Event) (sends : List Send) (notes : List Note) (rounds after : Rounds)
-    (acts : Acts (topology_kept old) (broker_of old) e sends notes (broker_of new)) (woken : AreWoken (topology_kept old) (broker_of old) e rounds) (is : topology_kept new ≡ topology_kept old)
-    (next : (place : ℕ) (p : Pick) → IsConsumed (topology_kept old) e place → consumer_to_make old e ≡ Some p → is_of new place p ≡ true → HasJoined after place p)
-    (keeps : KeepsWaiters new rounds after) (stay : NotesStay rounds.lists after.lists) (len : length after.rounds ≡ length rounds.rounds) (serving : Holds old rounds) where
-  there : (place : ℕ) (p : Pick) → HasConsumer (topology_kept new) (broker_of new) place p
-      → HasConsumer (topology_kept old) (broker_of old) place p ⊎ (IsConsumed (topology_kept old) e place × (consumer_to_make old e ≡ Some p))
-  there place p has = came_there law old (broker_of new) e sends notes acts place p (subst (λ (x : Topology). HasConsumer x (broker_of new) place p) is has)
-
-  joined : AllAreInRounds (topology_kept new) (broker_of new) after
-  joined place p has = elim (there place p has) [
-    | inl was ↦ keeps place p (joined_then (topology_kept old) (broker_of old) (broker_of new) e sends notes rounds acts woken serving.joined place p was) (has_of new place p has)
-    | inr made ↦ inl (next place p made.0 made.1 (has_of new place p has)).awake
-  ]
-
-  noted : AllAreNoted (topology_kept new) (broker_of new) after.lists
-  noted place p has = elim (there place p has) [
-    | inl was ↦ stay (listing place p) (serving.noted place p was)
-    | inr made ↦ (next place p made.0 made.1 (has_of new place p has)).noted
-  ]
-
-  pub serves_next : Holds new after
-  serves_next = record {
-    agreed = agrees (topology_kept old) (broker_of old) (broker_of new) e sends notes serving.agreed acts;
-    rounds_for = len ∙ serving.rounds_for ∙ ap (λ (x : Topology). length x.queues) (sym is);
-    joined = joined;
-    noted = noted;
-  }
-
--- the waiters of consumers that are there are listed as before
-abbrev pub NotesKeep : Kept → Lists → Lists → Type 0
-NotesKeep kept old new = (l : Listing) → IsNoted old l → is_of kept l.queue l.consumer ≡ true → IsNoted new l
-
--- so are all
-pub notes_keep : (kept : Kept) (old new : Lists) → NotesStay old new → NotesKeep kept old new
-notes_keep kept old new stay l i its = stay l i
-
--- where no waiter of a consumer that is there is gone it is so still
-pub serves_kept : (kept : Kept) (before rounds : Rounds) → KeepsWaiters kept before rounds → NotesKeep kept before.lists rounds.lists → length rounds.rounds ≡ length before.rounds → Holds kept before → Holds kept rounds
-serves_kept kept before rounds keeps notes len serving = record {
-  agreed = serving.agreed;
-  rounds_for = len ∙ serving.rounds_for;
-  joined = waiters_kept kept before rounds keeps serving.joined;
-  noted = λ place p has. notes (listing place p) (serving.noted place p has) (has_of kept place p has);
-}
-
--- where no waiter is gone at all
-pub keeps_all : (kept : Kept) (old new : Rounds) → KeepsAll old new → KeepsWaiters kept old new
-keeps_all kept old new keeps place p i has = keeps (broker_of kept) place p i
-
--- with no consumer none wants a waiter
-pub serves_none : (kept : Kept) (rounds : Rounds) → IsAgreed (broker_of kept) → length rounds.rounds ≡ length (topology_kept kept).queues → ((c h : ℕ) → (broker_of kept).channel c h ≡ None) → Holds kept rounds
-serves_none kept rounds agreed len none = record {
-  agreed = agreed;
-  rounds_for = len;
-  joined = λ place p has. absurd (false≢true (ap is_some (sym (none p.connection p.channel) ∙ has.was.1)));
-  noted = λ place p has. absurd (false≢true (ap is_some (sym (none p.connection p.channel) ∙ has.was.1)));
-}
-
--- ---- events that never allocate

@@ -1,162 +1,109 @@
--- Consumers of a connection are gone, and so are their waiters.
-use Rattle.broker.proofs.Names.{◌∙◌, ◌<◌, ◌≤◌, ◌+◌, ◌++◌, ◌∷◌, ℕ, List, [], Bool, true, false, Option, length, take, get_or, filter, inl, inr, refl, sym, ap, subst, arith, not, ◌==◌, ◌||◌, is_some, nat_eq, lookup, leb_tells, eqb-true, eq-eqb, false≢true, get_or_past, IsIn, Kept, Owner, Pick, Waiters, Rounds, Listing, Listings, Gone, Nobody, One, Several, round_at, order, is_number, is_of, is_other, owns, remains, is_listed_there, listing, listings_on, channels_of, IsInRound, IsItsOwn, IsListedUnder, LosesWaiter, ListsItsWaiters, KeepRounds, LeaveLine, LeaveLines, LeaveNamed, IsAmongGone, AddsGone, only_gone, IsServing}
-use Rattle.std.proofs.Common.{◌≡◌, ◌⊎◌}
-use Rattle.commands.specs.State.{broker_of}
-use Rattle.broker.proofs.Later.{filter_all, remains_of}
-use Rattle.std.proofs.lemmas.List.{take_more}
-use Rattle.broker.proofs.Lining.{filter_in, in_either}
-use Rattle.broker.proofs.Removing.{is_self, other}
-use Rattle.broker.proofs.Sleeping.{distinct}
-use Rattle.broker.proofs.Standing.{passes, filter_twice, in_left, in_right}
-use Rattle.broker.proofs.Takers.{of_has}
-use Rattle.broker.proofs.Waking.{and, both}
+-- Whose consumers leave, and that all others stay.
+use Rattle.broker.proofs.Names.{◌∙◌, ℕ, Bool, true, false, Option, Some, None, refl, sym, ap, subst, not, is_some, ◌==◌, ◌&&◌, eqb-true, false≢true, IsIn, Channel, WasConsumer, IsStoreWhole, ArePlaced, Kept, names_of, channel_of, running_in, channel_in, channel_at, consumer_in, same_place, seen_there, Pick, Ends, HasConsumer, is_consumer, consumer_at, leavers_of, remains, IsNamed, ReportsEnds}
+use Rattle.std.proofs.Common.{◌≡◌}
+use Rattle.model.specs.Broker as seen
+use Rattle.channels.specs.Open.{Open}
+use Rattle.channels.specs.RunningConnections.{Running}
+use Rattle.channels.specs.declared.consumers.Consumer.{Consumer}
+use Rattle.commands.specs.State.{broker_of, topology_kept}
+use Rattle.commands.specs.declared.acted.Ends.TheVariants as ended
+use Rattle.commands.proofs.Placing.{takes_within}
+use Rattle.commands.proofs.Reloading.{seen_of}
+use Rattle.broker.proofs.Members.{same_consumer}
+use Rattle.broker.proofs.Waking.{both}
 
--- either is so
-pub known : (v : Bool) → (v ≡ true) ⊎ (v ≡ false)
-known true = inl refl
-known false = inr refl
+-- ---- a consumer, and the index of its queue
+
+-- The consumer that a queue has is kept on its channel, with the index of the queue.
+pub record HasIndex (kept : Kept) (place : ℕ) (p : Pick) : Type 0 where
+  pub channel : Open
+  pub there : channel_of kept.connections p.connection p.channel ≡ Some channel
+  pub one : Consumer
+  pub among : IsIn one channel.given.consumers
+  pub numbered : one.number ≡ p.number
+  pub queue : one.queue ≡ place
+
+pub has_index : (kept : Kept) → IsStoreWhole kept.store → ArePlaced kept → (place : ℕ) (p : Pick) → HasConsumer (topology_kept kept) (broker_of kept) place p → HasIndex kept place p
+has_index kept whole placed place p has =
+    let its = seen_there (names_of kept) (channel_of kept.connections p.connection p.channel) has.was.0 has.was.1 in
+    let one = seen_of (consumer_in (names_of kept)) has.consumer its.kept.given.consumers (subst (λ (ch : seen.Channel). IsIn has.consumer ch.consumers) (sym its.same) has.was.2) in
+    let lt = takes_within (topology_kept kept) one.one its.kept.given.consumers (placed p.connection p.channel its.kept its.there).consumers one.among in
+    record {
+      channel = its.kept;
+      there = its.there;
+      one = one.one;
+      among = one.among;
+      numbered = ap (λ (k : seen.Consumer). k.number) one.is ∙ has.numbered;
+      queue = same_place (topology_kept kept) one.one.queue place whole.formed.queues_distinct lt has.within (ap (λ (k : seen.Consumer). k.queue) one.is ∙ sym has.named);
+    }
 
 -- ---- who is gone
 
-module _ (kept : Kept) (count : ℕ) where
-  -- nobody of these
-  pub adds_nobody : (listed : Listing → Type 0) (gone : Gone) (named : List ℕ) → ((l : Listing) → listed l → is_listed_there kept l ≡ true) → AddsGone kept listed count gone named gone named
-  adds_nobody listed gone named all = record {
-    size = refl;
-    stay = λ l i. i;
-    come = λ l i far. absurd (false≢true (sym far ∙ all l i));
-    one = λ l e. inl e;
-  }
+unless : (v : Bool) → not v ≡ false → v ≡ true
+unless true e = refl
+unless false e = absurd (false≢true (sym e))
 
-  -- first those, then these, which are all
-  pub adds_then : (first second all : Listing → Type 0) (old mid new : Gone) (a b d : List ℕ) → ((l : Listing) → first l → all l) → ((l : Listing) → second l → all l) → ((l : Listing) → all l → first l ⊎ second l)
-      → AddsGone kept first count old a mid b → AddsGone kept second count mid b new d → AddsGone kept all count old a new d
-  adds_then first second all old mid new a b d of_first of_second either f s = record {
-    size = s.size ∙ f.size;
-    stay = λ l i. s.stay l (f.stay l i);
-    come = λ l i far. elim (either l i) [ inl j ↦ s.stay l (f.come l j far) | inr j ↦ s.come l j far ];
-    one = λ l e. elim (s.one l e) [ inl was ↦ elim (f.one l was) [ inl same ↦ inl same | inr came ↦ inr (of_first l came.0, came.1) ] | inr came ↦ inr (of_second l came.0, came.1) ];
-  }
+only : (v : Bool) → not v ≡ true → v ≡ false
+only true e = absurd (false≢true e)
+only false e = refl
 
-  -- the same, said otherwise
-  pub adds_as : (those these : Listing → Type 0) (old new : Gone) (a b : List ℕ) → ((l : Listing) → those l → these l) → ((l : Listing) → these l → those l) → AddsGone kept those count old a new b → AddsGone kept these count old a new b
-  adds_as those these old new a b into out g = record {
-    size = g.size;
-    stay = g.stay;
-    come = λ l i. g.come l (out l i);
-    one = λ l e. elim (g.one l e) [ inl was ↦ inl was | inr came ↦ inr (into l came.0, came.1) ];
-  }
+tested : (v : Bool) → (v ≡ true → ⊥) → not v ≡ true
+tested true none = absurd (none refl)
+tested false none = refl
 
-  -- one more of a list
-  pub adds_next : (ls : List Listing) (at : ℕ) (next : Listing) (old mid new : Gone) (a b d : List ℕ) → at < length ls → next ≡ get_or ls at next → AddsGone kept (λ m. IsIn m (take at ls)) count old a mid b
-      → AddsGone kept (λ m. m ≡ next) count mid b new d → AddsGone kept (λ m. IsIn m (take (at + 1) ls)) count old a new d
-  adds_next ls at next old mid new a b d lt is f s =
-      let more : take (at + 1) ls ≡ take at ls ++ next ∷ [] = take_more ls at next lt ∙ ap (λ (m : Listing). take at ls ++ m ∷ []) (sym is) in
-      adds_then (λ m. IsIn m (take at ls)) (λ m. m ≡ next) (λ m. IsIn m (take (at + 1) ls)) old mid new a b d (λ m i. subst (IsIn m) (sym more) (in_left m (take at ls) (next ∷ []) i))
-      (λ m e. subst (IsIn m) (sym more) (in_right m (take at ls) (next ∷ []) (inl e)))
-      (λ m i. elim (in_either m (take at ls) (next ∷ []) (subst (IsIn m) more i)) [ inl j ↦ inl j | inr j ↦ elim j [ inl e ↦ inr e | inr none ↦ absurd none ] ]) f s
-
--- ---- one waiter is removed
-
-module _ (kept : Kept) (queue : ℕ) (p : Pick) (old new : List Waiters) (loses : LosesWaiter queue p old new) (gone : is_of kept queue p ≡ false) where
-  -- what is so of the queue's round, and of others that are as they were, is so of all
-  at_each : (P : ℕ → Waiters → Waiters → Type 0) → P queue (round_at old queue) (round_at new queue) → ((place : ℕ) (r : Waiters) → P place r r) → (place : ℕ) → P place (round_at old place) (round_at new place)
-  at_each P here others place = go (place == queue) refl
+module _ (c h : ℕ) (x : Ends) (old new : Kept) (reports : ReportsEnds c h x old new) where
+  -- whoever is there is none of those who leave
+  pub there_remains : (p : Pick) (k : seen.Consumer) → WasConsumer (broker_of new) p.connection p.channel k → k.number ≡ p.number → remains (leavers_of c h x) p ≡ true
+  there_remains p k was numbered = go x reports
     where
-      go : (v : Bool) → (place == queue) ≡ v → P place (round_at old place) (round_at new place)
-      go true f = subst (λ (n : ℕ). P n (round_at old n) (round_at new n)) (sym (eqb-true place queue f)) here
-      go false f = subst (P place (round_at old place)) (sym (loses.others place (distinct place queue f))) (others place (round_at old place))
+      go : (y : Ends) → ReportsEnds c h y old new → remains (leavers_of c h y) p ≡ true
+      go ended.Nothing r = refl
+      go (ended.Consumer s) r = tested (is_consumer p (consumer_at c h s.number)) (λ e.
+          let same = same_consumer p (consumer_at c h s.number) e in
+          r.gone k (subst (λ (n : ℕ). WasConsumer (broker_of new) c n k) (ap (λ (q : Pick). q.channel) same) (subst (λ (n : ℕ). WasConsumer (broker_of new) n p.channel k) (ap (λ (q : Pick). q.connection) same) was))
+          (numbered ∙ ap (λ (q : Pick). q.number) same))
+      go (ended.Channel o) r = tested (p.connection == c && p.channel == h) (λ e.
+          let same = both (p.connection == c) (p.channel == h) e in
+          r.1.gone k (subst (λ (n : ℕ). WasConsumer (broker_of new) c n k) (eqb-true p.channel h same.1) (subst (λ (n : ℕ). WasConsumer (broker_of new) n p.channel k) (eqb-true p.connection c same.0) was)))
+      go (ended.Connection o) r = tested (p.connection == c) (λ e. r.1.gone p.channel k (subst (λ (n : ℕ). WasConsumer (broker_of new) n p.channel k) (eqb-true p.connection c e) was))
 
-  -- whoever remains is another
-  remains_other : (o : Owner) → owns o p.connection p.channel ≡ true → (q : Pick) → remains kept queue o q ≡ true → is_other p q ≡ true
-  remains_other o its q e = other p q (λ same. false≢true (sym gone ∙ ap (is_of kept queue) same ∙ remains_of kept queue o q e (ap (λ (z : Pick). owns o z.connection z.channel) (sym same) ∙ its)))
-
-  pub one_left : (l : Listing) → l ≡ listing queue p → IsIn l.consumer (order (round_at new l.queue)) → ⊥
-  one_left l e i =
-      let here = subst (λ (m : Listing). IsIn m.consumer (order (round_at new m.queue))) e i in
-      false≢true (sym (is_self p) ∙ passes (is_other p) p (order (round_at old queue)) (subst (IsIn p) loses.round.line here))
-
-  pub one_were : (place : ℕ) (q : Pick) → IsIn q (order (round_at new place)) → IsIn q (order (round_at old place))
-  one_were place q = at_each (λ n r s. IsIn q (order s) → IsIn q (order r)) (λ i. filter_in (is_other p) q (order (round_at old queue)) (subst (IsIn q) loses.round.line i)) (λ n r i. i) place
-
-  pub one_kept : KeepRounds kept old new
-  one_kept place lists q i has =
-      at_each (λ n r s. is_of kept n q ≡ true → IsInRound (broker_of kept) lists n r q → IsInRound (broker_of kept) lists n s q)
-      (λ its. loses.round.stay (broker_of kept) lists queue q (λ same. false≢true (sym gone ∙ ap (is_of kept queue) (sym same) ∙ its))) (λ n r its j. j) place has i
-
-  pub one_same : (o : Owner) → owns o p.connection p.channel ≡ true → (place : ℕ) → filter (remains kept place o) (order (round_at new place)) ≡ filter (remains kept place o) (order (round_at old place))
-  one_same o its place =
-      at_each (λ n r s. filter (remains kept n o) (order s) ≡ filter (remains kept n o) (order r))
-      (ap (filter (remains kept queue o)) loses.round.line ∙ filter_twice (remains kept queue o) (is_other p) (order (round_at old queue)) (remains_other o its)) (λ n r. refl) place
-
--- ---- all of an owner
-
--- what is listed on a channel of the owner is its
-pub owned : (kept : Kept) (o : Owner) (h : ℕ) (l : Listing) → is_number o.channel h ≡ true → IsItsOwn kept o.connection h l → owns o l.consumer.connection l.consumer.channel ≡ true
-owned kept o h l number its =
-    and (l.consumer.connection == o.connection) (is_number o.channel l.consumer.channel) (eq-eqb l.consumer.connection o.connection its.connection) (ap (is_number o.channel) its.channel ∙ number)
-
-module _ (kept : Kept) (o : Owner) (old : Rounds) (its : ListsItsWaiters o old) (count : ℕ) (before after : List ℕ) (gone : Gone) (found : AddsGone kept (IsListedUnder old.lists o) count Nobody before gone after) where
-  -- a waiter of the owner whose consumer is gone was found
-  among : (place : ℕ) (p : Pick) → IsIn p (order (round_at old.rounds place)) → owns o p.connection p.channel ≡ true → is_of kept place p ≡ false → IsAmongGone count gone after (listing place p)
-  among place p i here far =
-      let noted = its.noted place p i here in
-      let parts = both (p.connection == o.connection) (is_number o.channel p.channel) here in
-      let under = ap (λ (n : ℕ). lookup (nat_eq n) old.lists) (sym (eqb-true p.connection o.connection parts.0)) ∙ noted.there in
-      found.come (listing place p) (p.channel, parts.1, subst (λ (x : Option (List Listings)). IsIn (listing place p) (listings_on (channels_of x) p.channel).all) (sym under) noted.among) far
-
-  -- those that are left in a line remain
-  line_left : (place : ℕ) (new : Waiters) → ((p : Pick) → IsIn p (order new) → owns o p.connection p.channel ≡ true → is_of kept place p ≡ false → ⊥)
-      → filter (remains kept place o) (order new) ≡ filter (remains kept place o) (order (round_at old.rounds place)) → LeaveLine kept place o (round_at old.rounds place) new
-  line_left place new none same = sym (filter_all (remains kept place o) (order new) all) ∙ same
+  -- and whoever was there, and is none of them, is there still
+  pub remains_there : (p : Pick) (k : seen.Consumer) → remains (leavers_of c h x) p ≡ true → k.number ≡ p.number → WasConsumer (broker_of old) p.connection p.channel k → WasConsumer (broker_of new) p.connection p.channel k
+  remains_there p k stays numbered was = go x reports stays
     where
-      all : (p : Pick) → IsIn p (order new) → remains kept place o p ≡ true
-      all p i = go (owns o p.connection p.channel) (is_of kept place p) refl refl
-        where
-          go : (u v : Bool) → owns o p.connection p.channel ≡ u → is_of kept place p ≡ v → (not u || v) ≡ true
-          go true true here there = refl
-          go true false here far = absurd (none p i here far)
-          go false v far there = refl
+      go : (y : Ends) → ReportsEnds c h y old new → remains (leavers_of c h y) p ≡ true → WasConsumer (broker_of new) p.connection p.channel k
+      go ended.Nothing r e = r p.connection p.channel k was
+      go (ended.Consumer s) r e =
+          r.others p.connection p.channel k (ap (λ (n : ℕ). (p.connection == c) && ((p.channel == h) && (n == s.number))) numbered ∙ only (is_consumer p (consumer_at c h s.number)) e) was
+      go (ended.Channel o) r e = r.1.others p.connection p.channel k (only (p.connection == c && p.channel == h) e) was
+      go (ended.Connection o) r e = r.1.others p.connection p.channel k (only (p.connection == c) e) was
 
-  -- nobody is gone
-  pub lines_stay : gone ≡ Nobody → LeaveLines kept o old.rounds old.rounds
-  lines_stay e place = line_left place (round_at old.rounds place) (λ p i here far. subst (λ (g : Gone). IsAmongGone count g after (listing place p)) e (among place p i here far)) refl
-
-  -- one is
-  pub one_gone : (queue : ℕ) (p : Pick) (guess : ℕ) → gone ≡ One queue p guess → (owns o p.connection p.channel ≡ true) × (is_of kept queue p ≡ false)
-  one_gone queue p guess e = elim (found.one (listing queue p) (ap only_gone e)) [ inl none ↦ absurd (false≢true (ap is_some none)) | inr one ↦ (its.own (listing queue p) one.0, one.1) ]
-
-  pub lines_without : (queue : ℕ) (p : Pick) (guess : ℕ) (new : List Waiters) → gone ≡ One queue p guess → LosesWaiter queue p old.rounds new → LeaveLines kept o old.rounds new
-  lines_without queue p guess new e loses place =
-      let one = one_gone queue p guess e in
-      line_left place (round_at new place)
-      (λ q i here far.
-      let was = one_were kept queue p old.rounds new loses one.1 place q i in
-      one_left kept queue p old.rounds new loses one.1 (listing place q) (subst (λ (g : Gone). IsAmongGone count g after (listing place q)) e (among place q was here far)) i)
-      (one_same kept queue p old.rounds new loses one.1 o one.0 place)
-
-  -- several are
-  pub lines_swept : (new : List Waiters) → gone ≡ Several → length old.rounds ≤ count → LeaveNamed kept o after old.rounds new → LeaveLines kept o old.rounds new
-  lines_swept new e most left place = elim (left place) [
-    | inl line ↦ line
-    | inr stays ↦
-        subst (LeaveLine kept place o (round_at old.rounds place)) (sym stays.1)
-        (line_left place (round_at old.rounds place) (λ p i here far. stays.0 (subst (λ (g : Gone). IsAmongGone count g after (listing place p)) e (among place p i here far) (within place p i))) refl)
-  ]
+  -- those who leave are named
+  pub leaver_named : (place : ℕ) (p : Pick) → HasIndex old place p → remains (leavers_of c h x) p ≡ false → IsNamed c h x place p
+  leaver_named place p i leaves = go x reports leaves
     where
-      within : (place : ℕ) (p : Pick) → IsIn p (order (round_at old.rounds place)) → place < count
-      within place p i = elim (leb_tells (place + 1) (length old.rounds)) [
-        | inl a ↦ let le = a.1 in omega (arith, le, most)
-        | inr a ↦
-            let gt = a.1 in
-            absurd (subst (λ (r : Waiters). IsIn p (order r)) (get_or_past old.rounds place (record { waiters = []; marks = []; next = 0; capacity = 0 }) (omega (arith, gt))) i)
-      ]
+      at : (d l : ℕ) → p.connection ≡ d → p.channel ≡ l → channel_of old.connections d l ≡ Some i.channel
+      at d l a b = sym (ap (λ (n : ℕ). channel_of old.connections n p.channel) a ∙ ap (channel_of old.connections d) b) ∙ i.there
 
--- ---- a broker's
+      named : (d l : ℕ) → p.connection ≡ d → p.channel ≡ l → p ≡ consumer_at d l i.one.number
+      named d l a b = ap (λ (n : ℕ). consumer_at n p.channel p.number) a ∙ ap (λ (n : ℕ). consumer_at d n p.number) b ∙ ap (consumer_at d l) (sym i.numbered)
 
--- what is listed are its waiters
-pub its_waiters : (kept : Kept) (r : Rounds) (o : Owner) → IsServing kept r → ListsItsWaiters o r
-its_waiters kept r o serving = record {
-  own = λ l i. owned kept o i.0 l i.1 ((serving.listed o.connection i.0).there l i.2);
-  noted = λ place p i its. serving.noted place p (of_has kept place p ((serving.own place).there p i));
-}
+      on : (o : Option Running) → running_in old.connections p.connection ≡ o → channel_at o p.channel ≡ Some i.channel → (l : Running) × (o ≡ Some l) × (channel_in l p.channel ≡ Some i.channel)
+      on None is e = absurd (false≢true (ap is_some e))
+      on (Some l) is e = (l, refl, e)
+
+      go : (y : Ends) → ReportsEnds c h y old new → remains (leavers_of c h y) p ≡ false → IsNamed c h y place p
+      go ended.Nothing r e = absurd (false≢true (sym e))
+      go (ended.Consumer s) r e =
+          let same = same_consumer p (consumer_at c h s.number) (unless (is_consumer p (consumer_at c h s.number)) e) in
+          let number = ap (λ (q : Pick). q.number) same in
+          (sym i.queue ∙ r.queue i.channel i.one (at c h (ap (λ (q : Pick). q.connection) same) (ap (λ (q : Pick). q.channel) same)) i.among (i.numbered ∙ number), same)
+      go (ended.Channel o) r e =
+          let same = both (p.connection == c) (p.channel == h) (unless (p.connection == c && p.channel == h) e) in
+          let one = eqb-true p.connection c same.0 in
+          let two = eqb-true p.channel h same.1 in
+          (i.one, (i.channel, r.0 ∙ at c h one two, i.among), i.queue, named c h one two)
+      go (ended.Connection o) r e =
+          let one = eqb-true p.connection c (unless (p.connection == c) e) in
+          let (l, is, there) = on (running_in old.connections p.connection) refl i.there in
+          (l, r.0 ∙ ap (running_in old.connections) (sym one) ∙ is, p.channel, i.one, (i.channel, there, i.among), i.queue, named c p.channel one refl)

@@ -1,25 +1,24 @@
 -- The names that several files of these proofs use.
-pub use Rattle.broker.specs.Lines.{AllDistinct, IsPassed, ahead, count_before, turned}
-pub use Rattle.broker.specs.Moving.{AllAreAwake, IndicesDiffer, IsMoved, IsOfEither, LinesCome, ListsAreMoved, RoundsAreMoved, HasWaiter, all_awake, all_moved, channels_moved, listing_moved, listings_moved}
-pub use Rattle.broker.specs.Rounds.{AddsGone, AddsItsOwn, AddsListing, AllAddTheirOwn, AllAreConsumers, AllAreEmpty, AllAreInRounds, AllAreNoted, AllListedAreThere, AllRun, AllWaken, AreBelow, CanListOn, AreItsConsumers, AreItsListings, FallsAsleepIfUnable, FallsAsleep, FindsWaiter, GoesLast, GoesOn, HasConsumer, HasJoined, HasListRoom, HasNoList, HasNoWaiter, HasRoom, IsAsleep, IsAsleepAt, IsAmongGone, IsAsleepIn, IsAt, IsAwake, IsAwakeAt, IsExpected, IsInItsRound, IsInRound, IsItsOwn, IsListed, IsListedAt, IsListedOn, IsListedOnAny, IsListedUnder, IsNextMarked, IsNotThere, IsNoted, IsNotedOn, IsServing, IsWoken, KeepListingsOn, KeepLists, KeepRounds, KeepsAll, KeepsIn, KeepsListings, KeepsRound, KeepsWaiters, LeaveLine, LeaveLines, LeaveNamed, LeavesIfNamed, Listing, Listings, ListingsLeave, Lists, ListsItsOwn, ListsItsWaiters, ListsMore, ListsOneMore, ListsRunning, ListsStay, LosesOne, LosesWaiter, MakesNoList, NoneAwake, NoneAwakePassed, NoneBetween, NoneInRound, NoneMarked, NonePassed, NotesStay, NumbersRise, OthersStay, PicksFirst, PicksFrom, QueuesAreMarked, Rounds, SameListed, SameOrders, SleepMore, StaysAt, Waiters, Wakens, WakesListed, WakesWaiter, asleep_waiter, awake_waiter, channels_of, has_remained, has_taker, is_able, is_consumer, is_listed_there, is_listing, is_numbered_of, is_of, is_on_channel, is_number, is_other, listed_on, listing, listings_of, listings_on, number_of, only_gone, order, owner_of, owns, picks, remains, round_at, round_of, rounds_of, takes_from, wakes, wakes_on}
+pub use Rattle.broker.specs.Leaving.{AddsLeaver, AreAdded, FindsLeavers, IsAmong, IsConsumerIn, IsNamed, consumer_at, leavers_of, remains}
+pub use Rattle.channels.specs.Counting.{AllDistinct}
+pub use Rattle.broker.specs.Lines.{IsPassed, ahead, count_before, is_consumer, is_other}
+pub use Rattle.broker.specs.Moving.{IndicesDiffer, IsOfEither, LinesAreMoved, LinesCome}
+pub use Rattle.broker.specs.Rounds.{AllAddTheirOwn, AllAreConsumers, AllAreEmpty, AllAreInLines, AreItsConsumers, AreKept, CanJoin, CanTakeFrom, CannotTakeFrom, ComesLast, GoesLast, GoesOn, HasConsumer, IsAsleep, IsAwake, IsExpected, IsNextMarked, IsNotAsleepAt, IsServing, LeaveLines, LeavesIfNamed, NobodyFallsAsleep, NoneBetween, NoneMarked, NonePassed, PicksFirst, PicksFrom, QueuesAreMarked, Rounds, SameLines, SameOrders, asleep_member, awake_member, has_taker, is_numbered_of, is_of, line_of, order, takes_from, wakes, wakes_on}
 pub use Rattle.broker.specs.Turns.{WithTurn, with_turn}
 pub use Rattle.broker.specs.Waiting.{AllInLine, CanGive, IsFirst, IsServedSoon, IsPickedInTurn, LinesMove, LinesStay, NobodyIsPutBack, NobodyWaits, NoneIsLater, QueueWaits, ServesSoon, IsInLine, WaitersAreConsumers, Waits, ahead_at, line_at, owed, queues, count_before_at}
-pub use Rattle.broker.specs.declared.rounds.finding.Found.{Found}
-pub use Rattle.broker.specs.declared.rounds.sleepers.leaving.Gone.{Gone}
-pub use Rattle.broker.specs.declared.rounds.sleepers.leaving.Gone.TheVariants.{Nobody, One, Several}
-pub use Rattle.broker.specs.declared.rounds.waiters.Owner.{Owner}
-pub use Rattle.broker.specs.declared.rounds.waiters.Waiter.{Waiter}
+pub use Rattle.broker.specs.declared.rounds.leaving.Gone.{Gone}
+pub use Rattle.broker.specs.declared.rounds.leaving.Gone.TheVariants.{Nobody, One, Several}
+pub use Rattle.broker.specs.declared.rounds.leaving.Leavers.{Leavers}
 pub use Rattle.channels.proofs.Moving.{changed_to, one_changed}
 pub use Rattle.channels.proofs.Setting.{same_default}
 pub use Rattle.channels.specs.Consumers.{consumer_numbered, next_number}
 pub use Rattle.channels.specs.Moving.{place_now}
 pub use Rattle.channels.specs.Open.{consumer_in, open_in}
 pub use Rattle.channels.specs.RunningConnections.{channel_at, channel_in, channel_of, connection_at, limits_of, running_in}
-pub use Rattle.commands.proofs.Ending.{delivery_runs, loss_ended, opening_runs, pause_runs, resume_runs}
 pub use Rattle.commands.proofs.Picking.{pick_from, same_place}
 pub use Rattle.commands.proofs.Remaining.{one_stays, same_stay}
 pub use Rattle.commands.proofs.Stepping.{seen_there}
-pub use Rattle.commands.specs.Ended.{AllConsumersStay, AllRunStill, ReportsConsumers, ReportsEnd}
+pub use Rattle.commands.specs.Ended.{AllConsumersStay, LosesConnection, ReportsEnds}
 pub use Rattle.commands.specs.Picked.{CannotTake, IsKeptAs, IsPick, IsPickFrom, TakesAs}
 pub use Rattle.commands.specs.NewConsumers.{IsConsumed, IsNewest, consumed, has_consumer, makes_consumer, next_consumer, consumer_to_make}
 pub use Rattle.commands.specs.State.{ArePlaced, Kept, names_of}
@@ -31,7 +30,7 @@ pub use Rattle.depot.specs.Store.{HasReady, IsStoreWhole, queue_at}
 pub use Rattle.exchange_graph.specs.Marks.{queue_name}
 pub use Rattle.laws.proofs.Counts.{count-append, count-cons, count-map}
 pub use Rattle.laws.specs.Consumers.{ConsumersAreMade, IsMadeBy, WasConsumer}
-pub use Rattle.marks.specs.Sets.{Differs, Inserts, Removes, bit_of}
+pub use Rattle.marks.specs.Sets.{Differs, bit_of}
 pub use Rattle.model.specs.Agreement.{IsAgreed}
 pub use Rattle.model.specs.Broker.{Broker, Channel, Connection, Outstanding, is_ready, with_one, with_pair, with_row}
 pub use Rattle.model.specs.Consuming.{CanDeliver, MayTake, consumer_of, may_take, taker_of}
@@ -65,3 +64,5 @@ pub use Rattle.std.specs.List.{AllWithin, list_any, position_from, remove}
 pub use Rattle.std.specs.Map.{lookup, set_value}
 pub use Rattle.std.specs.Option.{option_copied, option_copied_mut}
 pub use Rattle.std.specs.Prelude.{IfSome, IsOk, OnErr, OnOk, insert, is_ok, is_some, nat_eq, nat_lt, not, option_map, vec_capacity, ◌&&◌, ◌==◌, ◌||◌}
+pub use Rattle.waiting_lines.specs.Order.{AllAsleep, Loses, Member, NonePass, Queue, Wakes, all_awake, items_of}
+pub use Rattle.waiting_lines.specs.Picked.{PicksOne, Rest}

@@ -1,30 +1,11 @@
 -- A consumer that could be picked, while another is, is nearer to its turn.
-use Rattle.broker.proofs.Names.{◌∙◌, ◌<◌, ◌+◌, ◌++◌, ℕ, List, [], ◌∷◌, Bool, true, false, Option, Some, None, if◌then◌else◌, length, inl, inr, refl, sym, ap, subst, arith, IfSome, false≢true, Topology, IsIn, Broker, Kept, IsPickFrom, Pick, Waiter, ahead, count_before, IsPassed, Waiters, Rounds, Lists, picks, order, awake_waiter, asleep_waiter, is_consumer, IsInRound, GoesOn, PicksFirst, WithTurn, with_turn, line_at, queues, count_before_at, ahead_at, IsInLine, CanGive, IsFirst, IsPickedInTurn, LinesStay}
+use Rattle.broker.proofs.Names.{◌∙◌, ◌<◌, ◌+◌, ◌++◌, ℕ, List, [], ◌∷◌, Bool, true, false, Option, Some, None, if◌then◌else◌, length, inl, inr, refl, sym, ap, subst, arith, IfSome, false≢true, Topology, IsIn, Kept, IsPickFrom, Pick, ahead, count_before, IsPassed, Rounds, is_consumer, AreKept, GoesOn, PicksFirst, WithTurn, with_turn, CanGive, IsFirst, IsInLine, IsPickedInTurn, LinesStay, ahead_at, count_before_at, line_at, queues}
 use Rattle.std.proofs.Common.{◌≡◌, ◌⊎◌}
 use Rattle.broker.specs.Turns.{topology_kept}
-use Rattle.broker.proofs.Among.{one_consumer, same_consumer}
-use Rattle.broker.proofs.Lining.{in_either, in_place, ahead_nearer}
-use Rattle.broker.proofs.Picks.{picks_length, picks_at}
-use Rattle.broker.proofs.Present.{has_picked}
-use Rattle.broker.proofs.Joined.{Holds}
-use Rattle.broker.proofs.Standing.{in_left, in_turned}
+use Rattle.broker.proofs.Lists.{in_either, in_left}
+use Rattle.broker.proofs.Members.{one_consumer, same_consumer}
+use Rattle.broker.proofs.Passing.{ahead_nearer}
 use Rattle.broker.proofs.Takers.{order_at}
-
--- ---- who is in an order
-
-in_picks : (s : Waiter) (waiters : List Waiter) → IsIn s waiters → IsIn s.pick (picks waiters)
-in_picks s [] i = absurd i
-in_picks s (x ∷ xs) (inl e) = inl (ap (λ (z : Waiter). z.pick) e)
-in_picks s (x ∷ xs) (inr i) = inr (in_picks s xs i)
-
--- a consumer with a waiter is in the order of its round
-pub in_order : (b : Broker) (lists : Lists) (queue : ℕ) (r : Waiters) (p : Pick) → IsInRound b lists queue r p → IsIn p (order r)
-in_order b lists queue r p (inl (i, at)) =
-    let within = at.within in
-    let long = picks_length r.waiters in
-    in_turned p (picks r.waiters) r.next
-    (in_place p p (picks r.waiters) i (omega (arith, within, long)) (picks_at r.waiters i (awake_waiter p) ∙ ap (λ (s : Waiter). s.pick) (at.there (awake_waiter p))))
-in_order b lists queue r p (inr s) = in_turned p (picks r.waiters) r.next (in_picks (asleep_waiter p) r.waiters s.asleep)
 
 -- ---- how many are before one
 
@@ -102,24 +83,23 @@ module _ (kept : Kept) (old new : Rounds) (x : Option Pick) where
   now picked = with_turn kept new picked
 
   -- whoever is picked is the first
-  pub is_first : (q : Pick) (held : Holds kept old) (t : PicksFirst kept old new q) → IsFirst was q t.queue (now (Some q))
-  is_first q held t = record {
+  pub is_first : (q : Pick) (k : AreKept kept old.lines) (t : PicksFirst kept old new q) → IsFirst was q t.queue (now (Some q))
+  is_first q k t = record {
     could = t.could;
-    queues_before = λ at passed can.
-        t.passed at can.0 (subst (λ (n : ℕ). IsPassed n old.next t.queue at) (sym held.rounds_for) passed) (held.joined at can.0 (has_picked kept at can.0 can.1)) can.1;
+    queues_before = λ at passed can. t.passed at can.0 (subst (λ (n : ℕ). IsPassed n old.next t.queue at) (sym k.lines_for) passed) can.1;
     next = t.next;
-    front = t.picked.round.front;
-    back = t.picked.round.back;
-    was = order_at old.rounds t.queue ∙ t.picked.round.was;
-    now = order_at new.rounds t.queue ∙ t.picked.round.now;
-    before = λ p i pick. t.picked.round.passed p i (held.joined t.queue p (has_picked kept t.queue p pick)) pick;
-    others = λ at far. order_at new.rounds at ∙ t.picked.others at far ∙ sym (order_at old.rounds at);
+    front = t.picked.line.front;
+    back = t.picked.line.back;
+    was = order_at old.lines t.queue ∙ t.picked.line.was;
+    now = order_at new.lines t.queue ∙ t.picked.line.now;
+    before = t.picked.line.passed;
+    others = λ at far. order_at new.lines at ∙ t.picked.others at far ∙ sym (order_at old.lines at);
   }
 
-  pub picked_in_turn : (o : Option Pick) → Holds kept old → IfSome o (PicksFirst kept old new) → IfSome o (λ (q : Pick). IsPickedInTurn was q (now o))
-  picked_in_turn None held picked = tt
-  picked_in_turn (Some q) held picked = inr (picked.queue, is_first q held picked)
+  pub picked_in_turn : (o : Option Pick) → AreKept kept old.lines → IfSome o (PicksFirst kept old new) → IfSome o (λ (q : Pick). IsPickedInTurn was q (now o))
+  picked_in_turn None k picked = tt
+  picked_in_turn (Some q) k picked = inr (picked.queue, is_first q k picked)
 
   -- if nobody is picked, lines stay
   pub lines_stay : (picked : Option Pick) → GoesOn old new → LinesStay was (now picked)
-  lines_stay picked on = record { next = on.next; lines = λ at. order_at new.rounds at ∙ on.same at ∙ sym (order_at old.rounds at) }
+  lines_stay picked on = record { next = on.next; lines = λ at. order_at new.lines at ∙ on.same at ∙ sym (order_at old.lines at) }

@@ -1,5 +1,5 @@
 -- What both outcomes of a call give.
-use Rattle.broker.proofs.Names.{Option, Some, None, Result, Ok, Err, subst, IfSome, OnOk, OnErr}
+use Rattle.broker.proofs.Names.{Option, Some, None, Result, Ok, Err, sym, subst, IfSome, OnOk, OnErr}
 use Rattle.std.proofs.Common.{◌≡◌}
 
 -- what holds holds where it fails
@@ -30,3 +30,7 @@ some_holds o x P is p = subst (λ (z : Option _). IfSome z P) is p
 pub if_both : {A : Type 0} (o : Option A) (P Q R : A → Type 0) → ((x : A) → P x → Q x → R x) → IfSome o P → IfSome o Q → IfSome o R
 if_both None P Q R f p q = p
 if_both (Some x) P Q R f p q = f x p q
+
+-- what holds of what is there holds
+pub if_holds : {A : Type 0} (o : Option A) (x : A) (P : A → Type 0) → o ≡ Some x → P x → IfSome o P
+if_holds o x P is p = subst (λ (z : Option _). IfSome z P) (sym is) p

@@ -1,123 +1,164 @@
--- What a step leaves.
-use Rattle.broker.proofs.Names.{◌∙◌, ◌++◌, ℕ, List, [], ◌∷◌, true, Option, Some, None, length, inl, inr, refl, sym, ap, subst, IfSome, Broker, Acts, IsIn, Event, Send, Note, ConsumersAreMade, AllRunStill, AllConsumersStay, ReportsEnd, Kept, consumer_to_make, IsConsumed, Ends, Owner, Pick, Rounds, Waiters, Lists, KeepsIn, KeepLists, round_at, listing, is_of, wakes, IsServing, AllRun, AllAreConsumers, AllListedAreThere, SameListed, ListsItsOwn, ListsItsWaiters, ListingsLeave, HasJoined, AllAddTheirOwn, AllWaken, KeepsWaiters, KeepsAll, LeaveLines, ListsRunning, HasNoList, MakesNoList, NotesStay, IsExpected, WakesWaiter, GoesOn}
-use Rattle.std.proofs.Common.{◌≡◌}
+-- What an event leaves.
+use Rattle.broker.proofs.Names.{◌∙◌, ◌++◌, ℕ, List, [], ◌∷◌, Bool, true, false, Option, Some, length, filter, inl, inr, refl, sym, ap, subst, IfSome, false≢true, Topology, IsIn, Acts, Event, Send, Note, ConsumersAreMade, IsStoreWhole, ArePlaced, Kept, CannotTake, channel_of, ReportsEnds, Ends, Pick, AllDistinct, Queue, items_of, line_of, order, asleep_member, is_of, remains, leavers_of, wakes, HasConsumer, IsAsleep, AllAreInLines, AreItsConsumers, AllAreConsumers, AllAddTheirOwn, AreKept, ComesLast, IsExpected, IsNamed, LeaveLines, SameLines, SameOrders, NobodyFallsAsleep, IsNotAsleepAt}
+use Rattle.std.proofs.Common.{◌≡◌, ◌⊎◌}
+use Rattle.channels.specs.Open.{Open}
+use Rattle.channels.specs.declared.consumers.Consumer.{Consumer}
 use Rattle.commands.specs.State.{broker_of, topology_kept}
-use Rattle.commands.specs.declared.acted.Ends.TheVariants as ended
-use Rattle.broker.specs.declared.rounds.waiters.Newcomer.{Newcomer}
+use Rattle.broker.specs.declared.rounds.Newcomer.{Newcomer}
+use Rattle.commands.specs.declared.acted.Ends.TheVariants.{Nothing as nothing_ends}
+use Rattle.broker.proofs.Joined.{is_command, was_there, came_there}
+use Rattle.broker.proofs.Leaving.{has_index, there_remains, remains_there, leaver_named}
+use Rattle.broker.proofs.Lists.{in_either, in_left, filter_in, filter_all, filter_distinct, distinct_end, passes, stays}
+use Rattle.broker.proofs.Members.{items_in}
 use Rattle.broker.proofs.Outcomes.{some_holds}
-use Rattle.broker.proofs.Joined.{StayAgreed, Holds, holds, serves, serves_kept, serves_next, running_still, running_but, notes_keep, keeps_all}
-use Rattle.broker.proofs.Leaving.{owned}
-use Rattle.broker.proofs.Orders.{goes_then}
-use Rattle.broker.proofs.Sleeping.{joined_kept}
-use Rattle.broker.proofs.Staying.{AllOthersStay, who_came, own_same, own_joined, own_stays, own_came, listed_stays, listed_same, listed_joined, listed_left}
-use Rattle.broker.proofs.Takers.{of_has}
-use Rattle.broker.proofs.Turning.{GoRound, round_joined}
+use Rattle.broker.proofs.Takers.{has_of, of_has}
+use Rattle.broker.proofs.Turning.{GoRound, round_joined, round_left}
+use Rattle.broker.proofs.Waking.{cannot_still}
 
--- ---- what is listed
+-- ---- lines that are unchanged
 
--- where lists of consumers that are there stay, and so do the rounds, no waiter of such a consumer is gone
-pub lists_kept : (k : Kept) (old new : Lists) (rounds : List Waiters) → KeepLists k old new → (place : ℕ) → KeepsIn k place old new (round_at rounds place) (round_at rounds place)
-lists_kept k old new rounds keeps place p i has = joined_kept k old new place (round_at rounds place) p (keeps.listed (listing place p)) has i
+pub orders_of : (old new : List (Queue Pick)) → SameLines old new → SameOrders old new
+orders_of old new same at = ap (λ (ms : List _). items_of ms) (same at)
 
--- a connection of which this is reported is no longer running
-pub has_ended : (c : ℕ) (ends : Ends) (old new : Broker) → ReportsEnd c ends old new → ends ≡ ended.Connection → new.connection c ≡ None
-has_ended c ends old new tells is = (subst (λ (x : Ends). ReportsEnd c x old new) is tells).0
+pub asleep_of : (old new : List (Queue Pick)) → SameLines old new → NobodyFallsAsleep old new
+asleep_of old new same place p i = subst (λ (ms : List _). IsIn (asleep_member p) ms) (same place) i
 
--- ---- a step
+pub kept_same : (kept : Kept) (old new : List (Queue Pick)) → SameLines old new → length new ≡ length old → AreKept kept old → AreKept kept new
+kept_same kept old new same len k = record {
+  lines_for = len ∙ k.lines_for;
+  joined = λ place p has. subst (IsIn p) (sym (orders_of old new same place)) (k.joined place p has);
+  own = λ place. subst (AreItsConsumers kept place) (sym (orders_of old new same place)) (k.own place);
+  asleep = λ place p i. k.asleep place p (asleep_of old new same place p i);
+}
 
--- The rounds went from `before` to `woken` as waiters were woken, and to `ready` as room was made for a newcomer.
-module _ (old : Kept) (before woken ready : Rounds) (e : Event) (serving : IsServing old before)
-    (keeps : KeepsAll before woken) (stay : NotesStay before.lists woken.lists) (none : MakesNoList before.lists woken.lists) (on : GoesOn before woken)
-    (kept : KeepsWaiters old woken ready) (noted : NotesStay woken.lists ready.lists) (running : ListsRunning (broker_of old) woken.lists ready.lists) (then : GoesOn woken ready)
-    (same : SameListed before.lists woken.lists) (then_same : SameListed woken.lists ready.lists) where
-  held_woken : Holds old woken
-  held_woken = serves_kept old before woken (keeps_all old before woken keeps) (notes_keep old before.lists woken.lists stay) on.len (holds old before serving)
+-- nobody comes in
+pub none_come : (kept : Kept) (lines : List (Queue Pick)) → AllAddTheirOwn kept lines lines
+none_come kept lines place = inl refl
 
-  pub goes : GoesOn before ready
-  goes = goes_then before woken ready on then
+-- ---- an event
 
-  pub held_on : Holds old ready
-  held_on = serves_kept old woken ready kept (notes_keep old woken.lists ready.lists noted) then.len held_woken
-
-  pub lists_on : AllRun (broker_of old) ready.lists
-  lists_on d gone = running d gone (none d (serving.running d gone))
-
-  pub own_on : AllAreConsumers old ready.rounds
-  own_on = own_same old before.rounds ready.rounds goes.same serving.own
-
-  pub listed_on : AllListedAreThere old ready.lists
-  listed_on = listed_same old woken.lists ready.lists then_same (listed_same old before.lists woken.lists same serving.listed)
-
-  -- nothing else has changed
-  pub serving_on : IsServing old ready
-  serving_on = serves old ready held_on lists_on own_on listed_on
-
-  -- one comes in behind those who were there, where a newcomer waits in `after`
-  pub adds_then : (new : Kept) (after : Rounds) → AllAddTheirOwn new ready.rounds after.rounds → AllAddTheirOwn new before.rounds after.rounds
-  adds_then new after adds place = elim (adds place) [
-    | inl same ↦ inl (same ∙ goes.same place)
-    | inr c ↦ inr (record {
-      newcomer = c.newcomer;
-      its = c.its;
-      absent = λ i. c.absent (subst (IsIn c.newcomer) (sym (goes.same place)) i);
-      line = c.line ∙ ap (λ (ps : List Pick). ps ++ c.newcomer ∷ []) (goes.same place);
-    })
+-- The lines went from `before` to `after` as a newcomer came in.
+module _ (old new : Kept) (topology : topology_kept new ≡ topology_kept old) (c h : ℕ) (x : Ends) (reports : ReportsEnds c h x old new) (before after : List (Queue Pick)) (k : AreKept old before)
+    (adds : AllAddTheirOwn new before after) where
+  -- whoever is in a line was in it, or came in
+  who_came : (place : ℕ) (p : Pick) → IsIn p (order (line_of after place)) → IsIn p (order (line_of before place)) ⊎ (is_of new place p ≡ true)
+  who_came place p i = elim (adds place) [
+    | inl same ↦ inl (subst (IsIn p) same i)
+    | inr a ↦ elim (in_either p (order (line_of before place)) (a.newcomer ∷ []) (subst (IsIn p) a.line i)) [
+      | inl was ↦ inl was
+      | inr last ↦ elim last [ inl same ↦ inr (subst (λ (q : Pick). is_of new place q ≡ true) (sym same) a.its) | inr none ↦ absurd none ]
+    ]
   ]
 
-  -- so those who were there are gone round as before
-  pub round_then : (new : Kept) (after : Rounds) → AllAddTheirOwn new ready.rounds after.rounds → GoRound new before.rounds after.rounds
-  round_then new after adds = round_joined new before.rounds after.rounds (adds_then new after adds)
+  pub came_once : (place : ℕ) → AllDistinct (order (line_of after place))
+  came_once place = elim (adds place) [
+    | inl same ↦ subst (λ (ps : List Pick). AllDistinct ps) (sym same) (k.own place).once
+    | inr a ↦ subst (λ (ps : List Pick). AllDistinct ps) (sym a.line) (distinct_end a.newcomer (order (line_of before place)) (k.own place).once a.absent)
+  ]
 
-  -- The step is made, and the newcomer waits in `after`.
-  module _ (agrees : StayAgreed) (law : ConsumersAreMade) (new : Kept) (after : Rounds) (newcomer : Option Newcomer) (sends : List Send) (notes : List Note)
-      (acts : Acts (topology_kept old) (broker_of old) e sends notes (broker_of new)) (topology : topology_kept new ≡ topology_kept old)
-      (wake : (p : Pick) → wakes e p ≡ true → WakesWaiter before woken p) (wakens : AllWaken woken.rounds ready.rounds) (expected : IsExpected old e ready newcomer)
-      (joined : IfSome newcomer (λ n. is_of new n.queue n.consumer ≡ true → HasJoined after n.queue n.consumer)) (stays : KeepsWaiters new ready after) (notes_stay : NotesStay ready.lists after.lists)
-      (lists_own : ListsItsOwn new ready.lists after.lists) (makes_none : MakesNoList ready.lists after.lists) (len : length after.rounds ≡ length ready.rounds) where
-    has_joined : (place : ℕ) (p : Pick) → IsConsumed (topology_kept old) e place → consumer_to_make old e ≡ Some p → is_of new place p ≡ true → HasJoined after place p
-    has_joined place p here is its =
-        some_holds newcomer (record { queue = place; consumer = p }) (λ n. is_of new n.queue n.consumer ≡ true → HasJoined after n.queue n.consumer) (expected.reported place p here is) joined its
+  -- and is there still, if it is none of those who leave
+  still : (place : ℕ) (p : Pick) → IsIn p (order (line_of after place)) → remains (leavers_of c h x) p ≡ true → is_of new place p ≡ true
+  still place p i stay = elim (who_came place p i) [
+    | inl was ↦
+        let has = of_has old place p ((k.own place).there p was) in
+        has_of new place p
+        (subst (λ (t : Topology). HasConsumer t (broker_of new) place p) (sym topology)
+        (record {
+          consumer = has.consumer;
+          was = remains_there c h x old new reports p has.consumer stay has.numbered has.was;
+          numbered = has.numbered;
+          within = has.within;
+          named = has.named;
+        }))
+    | inr its ↦ its
+  ]
 
-    pub held_then : Holds new after
-    held_then =
-        serves_next agrees law old new e sends notes ready after acts
-        (λ place p wants has. (wakens place).awake p (wake p wants (broker_of old) place (serving.joined place p has))) topology has_joined stays notes_stay len held_on
+  there : (place : ℕ) (p : Pick) → is_of new place p ≡ true → remains (leavers_of c h x) p ≡ true
+  there place p its = let has = of_has new place p its in there_remains c h x old new reports p has.consumer has.was has.numbered
 
-    -- each waiter is listed under its connection
-    pub lists_waiters : (o : Owner) → AllAddTheirOwn new ready.rounds after.rounds → ListsItsWaiters o after
-    lists_waiters o adds = record {
-      own = λ l i. elim (lists_own.came o.connection i.0 l i.2) [ inl was ↦ owned old o i.0 l i.1 ((listed_on o.connection i.0).there l was) | inr its ↦ owned new o i.0 l i.1 its ];
-      noted = λ place p i its. elim (who_came new place (round_at ready.rounds place) (round_at after.rounds place) (adds place) p i) [
-        | inl was ↦ notes_stay (listing place p) (held_on.noted place p (of_has old place p ((own_on place).there p was)))
-        | inr has ↦ held_then.noted place p (of_has new place p has)
-      ];
+  -- those who leave are named
+  pub named_after : IsStoreWhole old.store → ArePlaced old → (place : ℕ) (p : Pick) → IsIn p (order (line_of after place)) → remains (leavers_of c h x) p ≡ false → IsNamed c h x place p
+  named_after was_whole was_placed place p i leaver = elim (who_came place p i) [
+    | inl was ↦ leaver_named c h x old new reports place p (has_index old was_whole was_placed place p (of_has old place p ((k.own place).there p was))) leaver
+    | inr its ↦ absurd (false≢true (sym leaver ∙ there place p its))
+  ]
+
+  -- And they went to `left` as others left, and to `woken` as some were woken.
+  module _ (e : Event) (sends : List Send) (notes : List Note) (acts : Acts (topology_kept old) (broker_of old) e sends notes (broker_of new)) (whole : IsStoreWhole new.store) (placed : ArePlaced new)
+      (left woken : List (Queue Pick)) (comes : AllAreInLines (topology_kept new) (broker_of new) after) (leaves : LeaveLines (leavers_of c h x) after left) (wake : SameOrders left woken)
+      (rest : NobodyFallsAsleep before woken) (len : length woken ≡ length before)
+      (up : (p : Pick) (ch : Open) (one : Consumer) → wakes e p ≡ true → channel_of new.connections p.connection p.channel ≡ Some ch → IsIn one ch.given.consumers → one.number ≡ p.number
+      → IsNotAsleepAt woken one.queue p ⊎ CannotTake (broker_of new) p) where
+    line : (place : ℕ) → order (line_of woken place) ≡ filter (remains (leavers_of c h x)) (order (line_of after place))
+    line place = wake place ∙ leaves place
+
+    own : AllAreConsumers new woken
+    own place = record {
+      there = λ p i.
+          let j = subst (IsIn p) (line place) i in
+          still place p (filter_in (remains (leavers_of c h x)) p (order (line_of after place)) j) (passes (remains (leavers_of c h x)) p (order (line_of after place)) j);
+      once = subst (λ (ps : List Pick). AllDistinct ps) (sym (line place)) (filter_distinct (remains (leavers_of c h x)) (order (line_of after place)) (came_once place));
     }
 
-    -- where nothing ended
-    module _ (tells : AllRunStill (broker_of old) (broker_of new)) (stay_there : AllConsumersStay (broker_of old) (broker_of new)) (adds : AllAddTheirOwn new ready.rounds after.rounds) where
-      pub own_held : AllAreConsumers new after.rounds
-      own_held = own_joined new ready.rounds after.rounds adds (own_stays old new ready.rounds topology stay_there own_on)
+    pub kept_after : AreKept new woken
+    kept_after = record {
+      lines_for = len ∙ k.lines_for ∙ ap (λ (t : Topology). length t.queues) (sym topology);
+      joined = λ place p has. subst (IsIn p) (sym (line place)) (stays (remains (leavers_of c h x)) p (order (line_of after place)) (comes place p has) (there place p (has_of new place p has)));
+      own = own;
+      asleep = λ place p i. go place p i (wakes e p) refl;
+    }
+      where
+        go : (place : ℕ) (p : Pick) → IsAsleep (line_of woken place) p → (v : Bool) → wakes e p ≡ v → CannotTake (broker_of new) p
+        go place p i false f = cannot_still (topology_kept old) (broker_of old) (broker_of new) e sends notes p acts f (k.asleep place p (rest place p i))
+        go place p i true f =
+            let has = of_has new place p ((own place).there p (items_in (asleep_member p) (line_of woken place).order i)) in
+            let at = has_index new whole placed place p has in
+            elim (up p at.channel at.one f at.there at.among at.numbered) [
+              | inl awake ↦ absurd (subst (λ (n : ℕ). IsNotAsleepAt woken n p) at.queue awake (own place).once i)
+              | inr cannot ↦ cannot
+            ]
 
-      pub serving_held : IsServing new after
-      serving_held =
-          serves new after held_then (running_still (broker_of old) (broker_of new) ready.lists after.lists tells makes_none lists_on) own_held
-          (listed_joined new ready.lists after.lists lists_own (listed_stays old new ready.lists topology stay_there listed_on))
+    -- those who were there are gone round as before
+    pub round_after : GoRound new before woken
+    round_after = round_left new _ before after woken there (round_joined new before after adds) (λ place. line place)
 
-    -- where something did, and what it took with it leaves
-    module _ (o : Owner) (others : AllOthersStay o (broker_of old) (broker_of new)) (left : Rounds) (adds : AllAddTheirOwn new ready.rounds after.rounds) (leave : LeaveLines new o after.rounds left.rounds) where
-      pub own_left_then : AllAreConsumers new left.rounds
-      own_left_then = own_came old new o before.rounds after.rounds left.rounds topology others serving.own (adds_then new after adds) leave
+-- ---- who is there after an event
 
-      pub serving_left : (ends : Ends) → ReportsEnd o.connection ends (broker_of old) (broker_of new) → KeepsWaiters new after left → KeepLists new after.lists left.lists → (ends ≡ ended.Connection → HasNoList left.lists o.connection) → MakesNoList after.lists left.lists
-          → ListingsLeave new o after.lists left.lists → length left.rounds ≡ length after.rounds → IsServing new left
-      serving_left ends tells keeps_there noted_there gone makes lists_leave long =
-          serves new left (serves_kept new after left keeps_there noted_there.noted long held_then) (runs ends tells gone) own_left_then
-          (listed_left old new o ready.lists after.lists left.lists topology others listed_on lists_own lists_leave)
-        where
-          made : MakesNoList ready.lists left.lists
-          made d from = makes d (makes_none d from)
+-- each was there, where the event is no command
+pub nobody_new : ConsumersAreMade → (old new : Kept) (e : Event) (sends : List Send) (notes : List Note) (before : List (Queue Pick)) → Acts (topology_kept old) (broker_of old) e sends notes (broker_of new)
+    → topology_kept new ≡ topology_kept old → is_command e ≡ false → AreKept old before → AllAreInLines (topology_kept new) (broker_of new) before
+nobody_new law old new e sends notes before acts topology none k place p has =
+    k.joined place p
+    (was_there law (topology_kept old) (broker_of old) (broker_of new) e sends notes acts none place p (subst (λ (t : Topology). HasConsumer t (broker_of new) place p) topology has))
 
-          runs : (x : Ends) → ReportsEnd o.connection x (broker_of old) (broker_of new) → (x ≡ ended.Connection → HasNoList left.lists o.connection) → AllRun (broker_of new) left.lists
-          runs ended.Connection ends_it forgets = running_but (broker_of old) (broker_of new) ready.lists left.lists o.connection ends_it.1 (λ from. forgets refl) made lists_on
-          runs ended.Consumers runs_on forgets = running_still (broker_of old) (broker_of new) ready.lists left.lists runs_on made lists_on
-          runs ended.Nothing runs_on forgets = running_still (broker_of old) (broker_of new) ready.lists left.lists runs_on made lists_on
+-- or is the newcomer
+pub somebody_new : ConsumersAreMade → (old new : Kept) (e : Event) (sends : List Send) (notes : List Note) (before ready after : List (Queue Pick)) (n : Option Newcomer)
+    → Acts (topology_kept old) (broker_of old) e sends notes (broker_of new) → topology_kept new ≡ topology_kept old → AreKept old before → SameOrders before ready → IsExpected old e ready n
+    → AllAddTheirOwn new ready after → IfSome n (λ m. is_of new m.queue m.consumer ≡ true → IsIn m.consumer (order (line_of after m.queue))) → AllAreInLines (topology_kept new) (broker_of new) after
+somebody_new law old new e sends notes before ready after n acts topology k same expected adds joined place p has =
+    elim (came_there law old (broker_of new) e sends notes acts place p (subst (λ (t : Topology). HasConsumer t (broker_of new) place p) topology has)) [
+      | inl was ↦ more (adds place) (subst (IsIn p) (sym (same place)) (k.joined place p was))
+      | inr made ↦
+          some_holds n (record { queue = place; consumer = p }) (λ m. is_of new m.queue m.consumer ≡ true → IsIn m.consumer (order (line_of after m.queue))) (expected.reported place p made.0 made.1) joined
+          (has_of new place p has)
+    ]
+  where
+    more : (order (line_of after place) ≡ order (line_of ready place)) ⊎ ComesLast new place (order (line_of ready place)) (order (line_of after place)) → IsIn p (order (line_of ready place)) → IsIn p (order (line_of after place))
+    more (inl e) i = subst (IsIn p) (sym e) i
+    more (inr a) i = subst (IsIn p) (sym a.line) (in_left p (order (line_of ready place)) (a.newcomer ∷ []) i)
+
+-- one comes in behind those who were there before
+pub adds_since : (kept : Kept) (before ready after : List (Queue Pick)) → SameOrders before ready → AllAddTheirOwn kept ready after → AllAddTheirOwn kept before after
+adds_since kept before ready after same adds place = elim (adds place) [
+  | inl e ↦ inl (e ∙ same place)
+  | inr a ↦ inr (record {
+    newcomer = a.newcomer;
+    its = a.its;
+    absent = λ i. a.absent (subst (IsIn a.newcomer) (sym (same place)) i);
+    line = a.line ∙ ap (λ (ps : List Pick). ps ++ a.newcomer ∷ []) (same place);
+  })
+]
+
+-- where nobody leaves
+pub none_leave : (c h : ℕ) (lines : List (Queue Pick)) → LeaveLines (leavers_of c h nothing_ends) lines lines
+none_leave c h lines place = sym (filter_all (λ p. true) (order (line_of lines place)) (λ p i. refl))

@@ -1,14 +1,13 @@
 -- Who takes from a queue, and is in its order.
-use Rattle.broker.proofs.Names.{◌∙◌, ◌<◌, ℕ, zero, suc, List, [], ◌∷◌, Bool, true, false, Option, Some, None, length, map, filter, get_or, inl, inr, refl, sym, ap, subst, arith, ◌==◌, ◌&&◌, ◌||◌, nat_lt, list_any, eqb-true, eq-eqb, lt-ltb, false≢true, Text, Topology, IsIn, Channel, Broker, WasConsumer, queue_name, Kept, IsPickFrom, IsNewest, Pick, Waiters, Lists, listed_on, AreBelow, AllListedAreThere, round_at, order, is_numbered_of, has_taker, takes_from, is_of, HasConsumer, AllAreConsumers, SameOrders}
+use Rattle.broker.proofs.Names.{◌∙◌, ◌<◌, ℕ, zero, suc, List, [], ◌∷◌, Bool, true, false, Option, Some, None, length, map, filter, get_or, inl, inr, refl, sym, ap, subst, arith, ◌==◌, ◌&&◌, ◌||◌, nat_lt, list_any, eqb-true, eq-eqb, lt-ltb, false≢true, Text, Topology, IsIn, Channel, Broker, WasConsumer, queue_name, Kept, IsPickFrom, IsNewest, Pick, Queue, line_of, order, is_numbered_of, has_taker, takes_from, is_of, HasConsumer, AllAreConsumers, SameOrders}
 use Rattle.std.proofs.Common.{◌≡◌}
 use Rattle.std.specs.Str.{bytes_eq}
 use Rattle.std.proofs.lemmas.Bool.{ltb-true}
 use Rattle.std.proofs.lemmas.Slice.Eq.{bytes_eq-Decides}
 use Rattle.model.specs.Broker.{Consumer}
 use Rattle.commands.specs.State.{broker_of, topology_kept}
-use Rattle.broker.proofs.Later.{filter_all}
+use Rattle.broker.proofs.Lists.{filter_all}
 use Rattle.broker.proofs.Waking.{both, and}
-use Rattle.broker.proofs.Among.{in_at}
 use Rattle.broker.proofs.Present.{has_kept, has_picked}
 
 -- ---- by its numbers
@@ -80,39 +79,27 @@ picked_of kept place p from = has_of kept place p (has_picked kept place p from)
 
 -- ---- a consumer that is to be made
 
--- its number is greater than those of all that are listed on its channel
-pub newest_last : (kept : Kept) (lists : Lists) (p : Pick) → IsNewest kept p → AllListedAreThere kept lists → AreBelow (listed_on lists p.connection p.channel) p.number
-newest_last kept lists p newest own i d lt =
-    let ls = listed_on lists p.connection p.channel in
-    let l = get_or ls i d in
-    let its = (own p.connection p.channel).there l (in_at ls i l d lt refl) in
-    newest l.consumer its.connection its.channel (has_kept kept l.queue l.consumer (of_has kept l.queue l.consumer its.there))
-
--- so it has no waiter yet
-pub newest_absent : (kept : Kept) (rounds : List Waiters) (place : ℕ) (p : Pick) → IsNewest kept p → AllAreConsumers kept rounds → IsIn p (order (round_at rounds place)) → ⊥
-newest_absent kept rounds place p newest own i =
+-- it is in no line yet
+pub newest_absent : (kept : Kept) (lines : List (Queue Pick)) (place : ℕ) (p : Pick) → IsNewest kept p → AllAreConsumers kept lines → IsIn p (order (line_of lines place)) → ⊥
+newest_absent kept lines place p newest own i =
     let less = newest p refl refl (has_kept kept place p (of_has kept place p ((own place).there p i))) in
     omega (arith, less)
 
 -- ---- the lines of queues
 
--- the consumers of this queue, in the order of its round
-abbrev pub line_of : Broker → Text → Waiters → List Pick
-line_of b queue r = filter (takes_from b queue) (order r)
-
-pub order_at : (rounds : List Waiters) (place : ℕ) → get_or (map order rounds) place [] ≡ order (round_at rounds place)
+pub order_at : (lines : List (Queue Pick)) (place : ℕ) → get_or (map order lines) place [] ≡ order (line_of lines place)
 order_at [] place = refl
-order_at (r ∷ rounds) zero = refl
-order_at (r ∷ rounds) (suc place) = order_at rounds place
+order_at (l ∷ lines) zero = refl
+order_at (l ∷ lines) (suc place) = order_at lines place
 
 -- nothing else is there
-pub line_is : (kept : Kept) (rounds : List Waiters) (place : ℕ) → AllAreConsumers kept rounds → get_or (map order rounds) place [] ≡ line_of (broker_of kept) (queue_name (topology_kept kept) place) (round_at rounds place)
-line_is kept rounds place own =
-    order_at rounds place
-    ∙ sym (filter_all (takes_from (broker_of kept) (queue_name (topology_kept kept) place)) (order (round_at rounds place))
+pub line_is : (kept : Kept) (lines : List (Queue Pick)) (place : ℕ) → AllAreConsumers kept lines → get_or (map order lines) place [] ≡ filter (takes_from (broker_of kept) (queue_name (topology_kept kept) place)) (order (line_of lines place))
+line_is kept lines place own =
+    order_at lines place
+    ∙ sym (filter_all (takes_from (broker_of kept) (queue_name (topology_kept kept) place)) (order (line_of lines place))
     (λ p i. (both (nat_lt place (length (topology_kept kept).queues)) (takes_from (broker_of kept) (queue_name (topology_kept kept) place) p) ((own place).there p i)).1))
 
-pub orders_same : (old new : List Waiters) → length new ≡ length old → SameOrders old new → map order new ≡ map order old
+pub orders_same : (old new : List (Queue Pick)) → length new ≡ length old → SameOrders old new → map order new ≡ map order old
 orders_same [] [] long same = refl
 orders_same [] (s ∷ ss) long same = absurd (omega (arith, long))
 orders_same (r ∷ rs) [] long same = absurd (omega (arith, long))

@@ -5,8 +5,8 @@ use Rattle.commands.specs.State as core
 use Rattle.broker.specs.Turns.{topology_kept}
 use Rattle.broker.specs.Waiting.Waits.{begins, passed, other, beside, again, stays}
 use Rattle.broker.specs.Waiting.QueueWaits.{begins as q_begins, passed as q_passed, other as q_other, stays as q_stays}
-use Rattle.broker.proofs.Among.{one_consumer}
-use Rattle.broker.proofs.Lining.{ahead_within}
+use Rattle.broker.proofs.Members.{one_consumer}
+use Rattle.broker.proofs.Passing.{ahead_within}
 use Rattle.broker.proofs.Nearer.{nearer_here, same_line, queue_nearer}
 
 -- ---- one consumer

@@ -4,6 +4,7 @@ use Rattle.std.proofs.Common.{◌≡◌, ◌⊎◌}
 use Rattle.std.specs.Prelude.{count_by}
 use Rattle.std.proofs.lemmas.Bool.{ltb-true}
 use Rattle.laws.proofs.Made.{row_new}
+use Rattle.broker.proofs.Lists.{filter_in}
 use Rattle.model.specs.Broker.{Consumer}
 use Rattle.model.specs.Prefetch.{is_below, may_hold, count_to, count_given, has_tag_left, is_to, is_delivery}
 use Rattle.model.specs.declared.messages.Taker.{Taker}
@@ -160,9 +161,13 @@ module _ (t : Topology) (old new : Broker) (e : Event) (sends : List Send) (note
       go true at a = inr (subst (λ (n : ℕ). wakes e (pick_numbered n l k.number) ≡ true) (sym (eqb-true d c at)) (wake k.number l))
       go false at a = before d l ch k may.connection a may.awake (sym (is d l) ∙ may.there) may.open_still may.its may.may
 
-  closes : (wanted : List Send) (c h : ℕ) (v : Bool) → ((n : ℕ) → wakes e (pick_numbered c h n) ≡ true) → Does sends notes new wanted (if v then old else with_freed (with_channel old c h None) (by_channel c h)) → AllCould
-  closes wanted c h true wake p = same p.left.connections p.left.channels
-  closes wanted c h false wake p = woken c h None wake p.left.connections p.left.channels
+  -- it is gone
+  removed : (c h : ℕ) → SameConnections → ((d l : ℕ) → new.channel d l ≡ with_pair old.channel c h None d l) → AllCould
+  removed c h conns is = with_this c h None conns is (λ ch k conn e runs awake still its may. absurd (false≢true (ap is_some e)))
+
+  closes : (wanted : List Send) (c h : ℕ) (v : Bool) → Does sends notes new wanted (if v then old else with_freed (with_channel old c h None) (by_channel c h)) → AllCould
+  closes wanted c h true p = same p.left.connections p.left.channels
+  closes wanted c h false p = removed c h p.left.connections p.left.channels
 
   limits : (wanted : List Send) (c h : ℕ) (m : Qos) (v : Bool) → ((n : ℕ) → wakes e (pick_numbered c h n) ≡ true) → Does sends notes new wanted (with_channel old c h (Some (if v then record (mine c h) { limit = m.prefetch_count } else record (mine c h) { each_limit = m.prefetch_count }))) → AllCould
   limits wanted c h m true wake p = woken c h _ wake p.left.connections p.left.channels
@@ -176,18 +181,19 @@ module _ (t : Topology) (old new : Broker) (e : Event) (sends : List Send) (note
   gets c h m (Some x) p = with_some c h _ p.left.connections p.left.channels (gives c h m.no_ack m.queue taker.Get)
 
   performs : (c h : ℕ) (m : Method) (content : Option Content) → e ≡ Command c h m content → (wakes_on m ≡ true → (n : ℕ) → wakes e (pick_numbered c h n) ≡ true) → Performs t old c h (mine c h) m content sends notes new → AllCould
-  performs c h (ConfirmSelect no_wait) content is wake p = woken c h _ (wake refl) p.left.connections p.left.channels
+  performs c h (ConfirmSelect no_wait) content is wake p = with_some c h _ p.left.connections p.left.channels (before_mine c h)
   performs c h (BasicPublish publish) content is wake p = with_some c h _ p.left.connections p.left.channels (before_mine c h)
-  performs c h (ChannelOpen reserved) content is wake p = woken c h _ (wake refl) p.left.connections p.left.channels
+  performs c h (ChannelOpen reserved) content is wake p = with_some c h _ p.left.connections p.left.channels (λ k conn runs awake still its may. absurd its)
   performs c h (ChannelFlow active) content is wake p = same p.left.connections p.left.channels
-  performs c h (ChannelClose m) content is wake p = closes _ c h (mine c h).is_closing (wake refl) p
-  performs c h ChannelCloseOk content is wake p = woken c h None (wake refl) p.left.connections p.left.channels
+  performs c h (ChannelClose m) content is wake p = closes _ c h (mine c h).is_closing p
+  performs c h ChannelCloseOk content is wake p = removed c h p.left.connections p.left.channels
   performs c h (ConnectionClose m) content is wake p = gone c p.left.connections p.left.channels
   performs c h (ExchangeDeclare m) content is wake p = same p.left.connections p.left.channels
   performs c h (QueueDeclare m) content is wake p = same p.does.left.connections p.does.left.channels
   performs c h (BasicQos m) content is wake p = limits _ c h m m.global (wake refl) p
   performs c h (BasicConsume m) content is wake p = woken c h _ (wake refl) p.left.connections p.left.channels
-  performs c h (BasicCancel m) content is wake p = woken c h _ (wake refl) p.left.connections p.left.channels
+  performs c h (BasicCancel m) content is wake p =
+      with_some c h _ p.left.connections p.left.channels (λ k conn runs awake still its may. before_mine c h k conn runs awake still (filter_in _ k (mine c h).consumers its) may)
   performs c h (BasicGet m) content is wake p = gets c h m (first_ready (old.queue m.queue)) p
   performs c h (BasicAck m) content is wake p = woken c h _ (wake refl) p.connections p.channels
   performs c h (BasicReject m) content is wake p = woken c h _ (wake refl) p.connections p.channels

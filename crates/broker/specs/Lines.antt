@@ -1,10 +1,14 @@
 -- Round-robin orders: who comes before whom (own).
-use Rattle.std.specs.Prelude.{◌<◌, ◌+◌, ◌-◌, ◌++◌, ℕ, List, [], ◌∷◌, Bool, if◌then◌else◌, nat_lt, take, drop}
-use Rattle.model.specs.Topology.{IsIn}
+use Rattle.std.specs.Prelude.{◌<◌, ◌+◌, ◌-◌, ◌==◌, ◌&&◌, ℕ, List, [], ◌∷◌, Bool, not, if◌then◌else◌, nat_lt}
+use Rattle.commands.specs.declared.picks.Pick.{Pick}
 
--- a list from index `next` on, and then from the front
-abbrev pub turned : {X : Type 0} → ℕ → List X → List X
-turned next xs = drop next xs ++ take next xs
+-- the two are the same consumer
+abbrev pub is_consumer : Pick → Pick → Bool
+is_consumer p q = (p.connection == q.connection) && ((p.channel == q.channel) && (p.number == q.number))
+
+-- `q` is another consumer than `p`
+abbrev pub is_other : Pick → Pick → Bool
+is_other p q = not (is_consumer p q)
 
 -- of `count` indices, how many come before `at` in the order from `next` on and then from the front
 abbrev pub ahead : ℕ → ℕ → ℕ → ℕ
@@ -18,8 +22,3 @@ IsPassed count next to at = (at < count) × (ahead count next at < ahead count n
 abbrev pub count_before : {X : Type 0} → (X → Bool) → List X → ℕ
 count_before test [] = 0
 count_before test (x ∷ xs) = if test x then 0 else 1 + count_before test xs
-
--- no entry occurs twice
-abbrev pub AllDistinct : {X : Type 0} → List X → Type 0
-AllDistinct [] = Unit {0}
-AllDistinct (x ∷ xs) = (IsIn x xs → ⊥) × AllDistinct xs

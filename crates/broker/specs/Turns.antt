@@ -14,17 +14,17 @@ pub record WithTurn : Type 0 where
   pub kept : Kept
   -- the consumer that was picked, until something is delivered
   pub turn : Option Pick
-  -- for each queue, in the order of the definitions, the consumers that have a waiter, in the order in which their turns come
+  -- for each queue, in the order of the definitions, its consumers in the order in which their turns come
   pub lines : List (List Pick)
   -- the index of the queue at which the round over the queues begins
   pub next : ℕ
 
--- the broker with the state `kept` and the rounds `r`, whose picked consumer is `turn`
+-- the broker with the state `kept` and the lines `r`, whose picked consumer is `turn`
 abbrev pub with_turn : Kept → Rounds → Option Pick → WithTurn
 with_turn kept r turn = record {
   kept = kept;
   turn = turn;
-  lines = map order r.rounds;
+  lines = map order r.lines;
   next = r.next;
 }
 

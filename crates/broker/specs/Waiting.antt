@@ -3,10 +3,11 @@ use Rattle.std.specs.Prelude.{◌≡◌, ◌<◌, ◌≤◌, ◌+◌, ◌++◌, 
 use Rattle.std.specs.Prelude.{length, slice_index_or}
 use Rattle.model.specs.Topology.{IsIn}
 use Rattle.exchange_graph.specs.Marks.{queue_name}
+use Rattle.channels.specs.Counting.{AllDistinct}
 use Rattle.commands.specs.Picked.{IsPickFrom}
 use Rattle.commands.specs.declared.picks.Pick.{Pick}
-use Rattle.broker.specs.Lines.{ahead, count_before, IsPassed, AllDistinct}
-use Rattle.broker.specs.Rounds.{is_consumer, HasConsumer}
+use Rattle.broker.specs.Lines.{is_consumer, ahead, count_before, IsPassed}
+use Rattle.broker.specs.Rounds.{HasConsumer}
 use Rattle.broker.specs.Turns.{WithTurn, topology_kept, broker_of}
 
 -- ---- how far off a turn is

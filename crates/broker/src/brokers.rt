@@ -2,15 +2,15 @@
 
 ghost use Rattle.std.specs.Prelude.{◌≡◌};
 ghost use Rattle.replies.specs.Sent.{connection_of_event};
-ghost use Rattle.broker.specs.Rounds.{channel_of_event, owner_of};
+ghost use Rattle.commands.specs.Ended.{channel_of_event};
 
-use crate::rounds::{ConsumerRounds, Owner};
+use crate::rounds::ConsumerRounds;
 use crate::turns::turn_kept;
 use commands::{Core, Ends, Pick};
 use exchange_graph::Topology;
 use guarantees::Guarantee;
 use laws::{brokers_stay_agreed, consumers_are_made};
-use model::{Event, Obstacle};
+use model::{ChannelId, Event, Obstacle};
 use replies::Step;
 use std::alloc::{AllocError, Global};
 use std::marker::Model;
@@ -34,27 +34,13 @@ fn connection_of(event: &Event) -> u64
     }
 }
 
-/// Returns the channel that an event belongs to, if it is a command's or a publish's.
-fn channel_of(event: &Event) -> Option<u16>
+/// Returns the channel that an event belongs to; 0 if it is not that of a command or of a publish.
+fn channel_of(event: &Event) -> u16
     ensures { result ≡ channel_of_event event.now }
 {
     match event {
-        Event::Command { channel, .. } | Event::TooLarge { channel, .. } => Some(*channel),
-        _ => None,
-    }
-}
-
-/// Returns whose consumers may have ended after `event`: only those of its channel, unless its connection ended or begins anew.
-fn owner_of(event: &Event, ends: Ends) -> Owner
-    ensures { result ≡ owner_of event.now ends }
-{
-    let channel = match ends {
-        Ends::Consumers => channel_of(event),
-        _ => None,
-    };
-    Owner {
-        connection: connection_of(event),
-        channel,
+        Event::Command { channel, .. } | Event::TooLarge { channel, .. } => *channel,
+        _ => 0,
     }
 }
 
@@ -126,7 +112,7 @@ impl Broker {
         self.core.drop_notes();
     }
 
-    /// Shows that each queue has exactly one waiter for each of its consumers, whatever consumers came and left. Does nothing at run
+    /// Shows that each queue has exactly one place in its line for each of its consumers, whatever consumers came and left. Does nothing at run
     /// time.
     pub fn ghost_is_kept(&self)
         ensures { WaitersAreConsumers self.now }
@@ -154,18 +140,18 @@ impl Broker {
     {
         brokers_stay_agreed();
         consumers_are_made();
-        self.rounds.wake_for(event);
-        let newcomer = self.rounds.expect_next(alloc, &self.core, event)?;
-        let acted = self.core.step(alloc, event)?;
-        self.rounds.join(&self.core, newcomer);
-        match acted.ends {
-            Ends::Nothing => Ok(acted.step),
-            _ => {
-                let owner = owner_of(event, acted.ends);
-                self.rounds.leave(&self.core, owner, acted.ends);
-                Ok(acted.step)
-            }
-        }
+        self.core.ghost_is_kept();
+        let newcomer = self.rounds.expect_next(&self.core, event)?;
+        let acted = self.core.step(alloc, event, &self.rounds)?;
+        self.core.ghost_is_kept();
+        self.rounds.join(&mut self.core, newcomer);
+        let id = ChannelId {
+            connection: connection_of(event),
+            number: channel_of(event),
+        };
+        self.rounds.leave(id, &acted.ends);
+        self.rounds.wake_for(&mut self.core, event);
+        Ok(acted.step)
     }
 
     /// Returns how many messages have entered queues whose consumers lag behind. A hint: no contract says more.
@@ -232,6 +218,7 @@ impl Broker {
         brokers_stay_agreed();
         consumers_are_made();
         let step = self.core.deliver(alloc, pick)?;
+        self.core.ghost_is_kept();
         self.turn = None;
         Ok(step)
     }
@@ -253,12 +240,14 @@ impl Broker {
     {
         brokers_stay_agreed();
         consumers_are_made();
-        self.core.open(alloc, connection, channel_max, channels)?;
-        let owner = Owner {
+        self.core.ghost_is_kept();
+        let before = self.core.open(alloc, connection, channel_max, channels)?;
+        self.core.ghost_is_kept();
+        let id = ChannelId {
             connection,
-            channel: None,
+            number: 0,
         };
-        self.rounds.leave(&self.core, owner, Ends::Consumers);
+        self.rounds.leave(id, &Ends::Connection(before));
         Ok(())
     }
 
@@ -271,12 +260,14 @@ impl Broker {
     {
         brokers_stay_agreed();
         consumers_are_made();
-        self.core.lose(connection);
-        let owner = Owner {
+        self.core.ghost_is_kept();
+        let before = self.core.lose(connection);
+        self.core.ghost_is_kept();
+        let id = ChannelId {
             connection,
-            channel: None,
+            number: 0,
         };
-        self.rounds.leave(&self.core, owner, Ends::Connection);
+        self.rounds.leave(id, &Ends::Connection(before));
     }
 
     /// Records that the output of `connection` holds 1,048,576 bytes or more. Never allocates.
@@ -289,6 +280,7 @@ impl Broker {
         brokers_stay_agreed();
         consumers_are_made();
         self.core.pause(connection);
+        self.core.ghost_is_kept();
     }
 
     /// Records that the output of `connection` holds fewer than 1,048,576 bytes again. Never allocates.
@@ -300,8 +292,9 @@ impl Broker {
     {
         brokers_stay_agreed();
         consumers_are_made();
-        self.rounds.wake(connection, None);
         self.core.resume(connection);
+        self.core.ghost_is_kept();
+        self.core.wake(connection, None, &mut self.rounds);
     }
 
     /// Returns the first obstacle to a reload to `topology` and `guarantees`, or `None` if there is none; users don't matter.

@@ -1,48 +1,58 @@
-//! The rounds of consumers, over which deliveries go.
+//! The lines of consumers, over which deliveries go.
 //!
-//! Each queue has a round: a waiter for each of its consumers. A pick goes round-robin over the queues that have a ready message and a
-//! waiter awake, starting behind the queue picked last, and at each queue over its round. So a consumer of a queue without a ready
-//! message costs nothing, nor does a queue whose consumers can't take a message. If a pick finds that a waiter's consumer can't take a
-//! message, the waiter falls asleep, and costs nothing until an event of its own channel, or the end of its connection's pause, wakes it.
-//! A command wakes the waiters that sleep on its channel, and looks at no other. Each waiter is listed at its channel when it is made, with
-//! a bit that says whether it sleeps, so that a pick never allocates. A waiter is removed with its consumer, and so is its listing: when
-//! consumers of a channel may have left, the channel's listings are checked, and no others, and when a connection may have lost them all, those of
-//! the connection. If several have left, the rounds of their queues are swept, each once.
+//! Each queue has a line of its consumers, in the order of their turns. A pick goes round-robin over the queues that have a ready message and a
+//! consumer awake, starting behind the queue picked last, and at each queue over its line. So a consumer of a queue without a ready message costs
+//! nothing, nor does a queue whose consumers can't take a message. A consumer that a pick finds unable falls asleep, and costs nothing until an event
+//! of its own channel, or the end of its connection's pause, lets it take more: then it is woken. A consumer leaves its line when it ends: the event
+//! that ends it hands over what its channel or connection was. If several leave, the lines of their queues are swept, each once.
 
 mod finding;
-mod queue_rounds;
-mod round;
-mod sleepers;
-mod waiters;
+mod leaving;
+mod queue_lines;
 
 ghost use Rattle.std.specs.Prelude.{◌≡◌};
 ghost use Rattle.broker.specs.Rounds.{wakes_on};
 
-use crate::rounds::finding::is_of;
-use crate::rounds::queue_rounds::QueueRounds;
-use crate::rounds::sleepers::{
-    Sleepers, forget_connection, join_listing, leave_lists, move_sleepers, reserve_listing,
-    wake_connection,
-};
-use crate::rounds::waiters::Newcomer;
-pub(crate) use crate::rounds::waiters::Owner;
-use commands::{Core, Ends, Pick};
-use model::{Event, Method};
+use crate::rounds::finding::{Same, is_of};
+use crate::rounds::leaving::{Gone, PlaceMarks, find_gone, who_leaves};
+use crate::rounds::queue_lines::{empty_lines, empty_marks, first_from, move_lines, sweep_named};
+use channels::{Seat, Wakes};
+use commands::{Core, Counts, Ends, Pick};
+use marks::IndexSet;
+use model::{ChannelId, Event, Method};
 use std::alloc::{AllocError, Global};
-use std::collections::HashMap;
 use std::marker::Model;
+use waiting_lines::Line;
 
-/// Returns whether a command may let a consumer of its channel take more messages.
+/// A consumer that is about to be made, and the index of its queue.
+#[derive(Clone, Copy, PartialEq, Eq, Debug, Drop)]
+pub(crate) struct Newcomer {
+    pub queue: usize,
+    pub consumer: Pick,
+}
+
+/// Returns whether a command may let a consumer of its channel take more messages: it settles deliveries, sets a prefetch, or makes a consumer.
 fn wakes_on(method: &Method) -> bool
     ensures { result ≡ wakes_on method.now }
 {
-    !matches!(method, Method::BasicPublish(_) | Method::BasicGet(_))
+    matches!(
+        method,
+        Method::BasicQos(_)
+            | Method::BasicConsume(_)
+            | Method::BasicAck(_)
+            | Method::BasicReject(_)
+            | Method::BasicNack(_)
+            | Method::BasicRecover { .. }
+    )
 }
 
-/// The rounds of all queues, in the order of the definitions, and which waiters sleep, by connection.
+/// The lines of all queues, in the order of the definitions.
 pub(crate) struct ConsumerRounds {
-    rounds: QueueRounds,
-    sleepers: Sleepers,
+    lines: Vec<Line<Pick>>,
+    /// A bit for each queue, 1 if a consumer in its line is awake.
+    awake: PlaceMarks,
+    /// A bit for each queue, 1 if its line is to be swept. Between calls all are 0, but nothing rests on that.
+    named: PlaceMarks,
     /// The index behind the queue picked last.
     next: usize,
 }
@@ -51,71 +61,107 @@ pub(crate) struct ConsumerRounds {
 impl Drop for ConsumerRounds {
     fn drop(self) {
         let ConsumerRounds {
-            rounds: _,
-            sleepers: _,
+            lines: _,
+            awake: _,
+            named: _,
             next: _,
         } = self;
     }
 }
 
 impl Model for ConsumerRounds {
-    ghost use Rattle.broker.specs.Rounds.{Rounds};
+    ghost use Rattle.std.specs.Prelude.{◌≤◌, ◌*◌, length};
+    ghost use Rattle.broker.specs.Rounds.{Rounds, QueuesAreMarked};
 
     ghost Value = { Rounds };
 
-    ghost view = { λ r. record { rounds = r.rounds; lists = r.sleepers.entries; next = r.next } };
+    ghost view = { λ r. record { lines = r.lines.items; next = r.next } };
+
+    ghost invariant = { λ r. QueuesAreMarked r.lines.items r.awake × (length r.lines.items ≤ length r.named * 64) };
+}
+
+impl Counts for ConsumerRounds {
+    ghost use Rattle.std.specs.Prelude.{◌≡◌, ◌≤◌, length};
+    ghost use Rattle.model.specs.Step.{greatest};
+    ghost use Rattle.broker.specs.Rounds.{line_of, order};
+
+    ghost is_count = { λ r queue count. (count ≡ length (order (line_of r.lines queue))) × (count ≤ greatest) };
+
+    fn count(&self, queue: usize) -> usize {
+        match self.lines.get(queue) {
+            Some(line) => line.len(),
+            None => 0,
+        }
+    }
+}
+
+impl Wakes for ConsumerRounds {
+    ghost use Rattle.broker.specs.Leaving.{consumer_at};
+    ghost use Rattle.broker.specs.Rounds.{GoesOn, IsNotAsleepAt, NobodyFallsAsleep};
+
+    ghost is_awake = { λ r queue c h n. IsNotAsleepAt r.lines queue (consumer_at c h n) };
+
+    ghost goes_on = { λ old new. GoesOn old new × NobodyFallsAsleep old.lines new.lines };
+
+    fn wake(&mut self, connection: u64, channel: u16, seat: Seat) -> usize {
+        let pick = Pick {
+            connection,
+            channel,
+            number: seat.number,
+        };
+        if seat.queue < self.lines.len() {
+            self.awake.set(seat.queue);
+            return self.lines[seat.queue].wake(&Same { pick }, seat.place);
+        }
+        seat.place
+    }
 }
 
 impl ConsumerRounds {
-    ghost use Rattle.std.specs.Prelude.{◌≡◌, [], ℕ, true, None, Option, IfSome, IfOk, IsOk, OnOk, length};
-    ghost use Rattle.commands.specs.declared.acted.Ends.TheVariants as ended;
+    ghost use Rattle.std.specs.Prelude.{◌≡◌, ℕ, true, false, None, Some, IfSome, IfOk, IsOk, length};
+    ghost use Rattle.model.specs.Topology.{IsIn};
+    ghost use Rattle.channels.specs.Counting.{AllDistinct};
     ghost use Rattle.commands.specs.declared.picks.Pick.{Pick as Consumer};
-    ghost use Rattle.commands.specs.State.{Kept, broker_of, topology_kept};
+    ghost use Rattle.commands.specs.State.{topology_kept};
     ghost use Rattle.commands.specs.Picked.{IsPickFrom};
     ghost use Rattle.commands.specs.NewConsumers.{consumer_to_make};
-    ghost use Rattle.broker.specs.Rounds.{is_of, wakes, AllAreNoted, AllAreConsumers, AllListedAreThere, IsAt, IsInItsRound};
-    ghost use Rattle.broker.specs.Rounds.{HasNoWaiter, IsExpected, CanJoin, HasJoined};
-    ghost use Rattle.broker.specs.Rounds.{KeepLists, ListsRunning, KeepsWaiters, KeepsAll, AllAddTheirOwn, ListsItsWaiters, LeaveLines, AllWaken, WakesWaiter};
-    ghost use Rattle.broker.specs.Rounds.{NotesStay, SameListed, ListsItsOwn, ListingsLeave, HasNoList, MakesNoList, PicksFirst, GoesOn, AllAreEmpty};
-    ghost use Rattle.broker.specs.Moving.{IndicesDiffer, RoundsAreMoved, LinesCome, ListsAreMoved};
+    ghost use Rattle.broker.specs.Leaving.{leavers_of};
+    ghost use Rattle.broker.specs.Named.{AreAwakeAfter, AreNamed};
+    ghost use Rattle.broker.specs.Moving.{IndicesDiffer, LinesAreMoved, LinesCome};
+    ghost use Rattle.broker.specs.Rounds.{is_of, line_of, order, AllAddTheirOwn, AllAreConsumers, AllAreEmpty, AreKept, CanJoin, GoesOn, IsExpected};
+    ghost use Rattle.broker.specs.Rounds.{LeaveLines, NobodyFallsAsleep, PicksFirst, SameLines};
 
-    /// Makes empty rounds for `queues` queues. Fails only if an allocation fails.
+    /// Makes empty lines for `queues` queues. Fails only if an allocation fails.
     pub fn new(alloc: Global, queues: usize) -> Result<ConsumerRounds, AllocError>
-        ensures rounds { IfOk result (λ r. length r.rounds ≡ queues) }
-        ensures empty { IfOk result (λ r. AllAreEmpty r.rounds) }
-        ensures lists { IfOk result (λ r. r.lists ≡ []) }
+        ensures lines { IfOk result (λ r. length r.lines ≡ queues) }
+        ensures empty { IfOk result (λ r. AllAreEmpty r.lines) }
         ensures next { IfOk result (λ r. r.next ≡ 0) }
     {
         Ok(ConsumerRounds {
-            rounds: QueueRounds::new(alloc, queues)?,
-            sleepers: HashMap::new(alloc),
+            lines: empty_lines(alloc, queues)?,
+            awake: empty_marks(alloc, queues)?,
+            named: empty_marks(alloc, queues)?,
             next: 0,
         })
     }
 
-    /// Reserves capacity for the waiter of the consumer that `event` is going to make, if any, in the round of its queue and on its channel's list, and
-    /// returns that consumer. Fails only if an allocation fails. Either way the waiters of existing consumers stay, and every order is unchanged.
+    /// Reserves capacity in the line of its queue for the consumer that `event` is going to make, if any, and returns that consumer. Fails only if an
+    /// allocation fails. Either way each line is unchanged.
     pub fn expect_next(
         &mut self,
-        alloc: Global,
         core: &Core,
         event: &Event,
     ) -> Result<Option<Newcomer>, AllocError>
-        requires rounds { length self.old.rounds ≡ length (topology_kept core.now).queues }
-        requires own { AllAreConsumers core.now self.old.rounds }
-        requires listed { AllListedAreThere core.now self.old.lists }
+        requires lines { length self.old.lines ≡ length (topology_kept core.now).queues }
+        requires own { AllAreConsumers core.now self.old.lines }
         // The newcomer, and capacity for it.
-        ensures expected { IfOk result (IsExpected core.now event.now self.new) }
-        ensures absent { IfOk result (λ n. IfSome n (HasNoWaiter self.new.rounds)) }
-        // The frame: waiters and listings stay, and so does every order.
-        ensures kept { KeepsWaiters core.now self.old self.new }
-        ensures noted { NotesStay self.old.lists self.new.lists }
-        ensures same { SameListed self.old.lists self.new.lists }
-        ensures running { ListsRunning (broker_of core.now) self.old.lists self.new.lists }
-        ensures wakens { AllWaken self.old.rounds self.new.rounds }
+        ensures expected { IfOk result (IsExpected core.now event.now self.new.lines) }
+        // The frame: each line is unchanged.
+        ensures same { SameLines self.old.lines self.new.lines }
+        ensures len { length self.new.lines ≡ length self.old.lines }
+        ensures next { self.new.next ≡ self.old.next }
         // An event that makes no consumer never fails, so neither does a consume that is refused.
         ensures quiet { consumer_to_make core.now event.now ≡ None → IsOk result }
-        ensures on { GoesOn self.old self.new }
     {
         let Some(consumer) = core.consumer_to_make(event) else {
             return Ok(None);
@@ -123,89 +169,67 @@ impl ConsumerRounds {
         let Some(queue) = core.queue_consumed(event) else {
             return Ok(None);
         };
-        reserve_listing(&mut self.sleepers, alloc, consumer)?;
-        self.rounds.reserve(queue)?;
+        self.lines[queue].reserve()?;
         Ok(Some(Newcomer { queue, consumer }))
     }
 
-    /// Adds the waiter of `newcomer`, if there is one and it is a consumer now: awake, at the end of its queue's order, and listed. All other
-    /// waiters stay. Never allocates.
-    pub fn join(&mut self, core: &Core, newcomer: Option<Newcomer>)
-        requires room { IfSome newcomer (CanJoin self.old) }
-        requires absent { IfSome newcomer (HasNoWaiter self.old.rounds) }
+    /// Adds `newcomer`, if there is one and it is a consumer now, awake, at the end of its queue's line. Never allocates.
+    pub fn join(&mut self, core: &mut Core, newcomer: Option<Newcomer>)
+        requires { IfSome newcomer (CanJoin self.old.lines) }
+        ensures core { core.new ≡ core.old }
         // The newcomer is added if it is a consumer.
-        ensures joined { IfSome newcomer (λ n. is_of core.now n.queue n.consumer ≡ true → HasJoined self.new n.queue n.consumer) }
-        // The frame: waiters and listings stay, and nothing else is added.
-        ensures kept { KeepsWaiters core.now self.old self.new }
-        ensures noted { NotesStay self.old.lists self.new.lists }
-        ensures listed { ListsItsOwn core.now self.old.lists self.new.lists }
-        // No list is made, and each order gets at most a newcomer of its own.
-        ensures none { MakesNoList self.old.lists self.new.lists }
-        ensures len { length self.new.rounds ≡ length self.old.rounds }
+        ensures joined { IfSome newcomer (λ n. is_of core.old n.queue n.consumer ≡ true → IsIn n.consumer (order (line_of self.new.lines n.queue))) }
+        // The frame: nothing else is added, and nobody falls asleep.
+        ensures adds { AllAddTheirOwn core.old self.old.lines self.new.lines }
+        ensures asleep { NobodyFallsAsleep self.old.lines self.new.lines }
+        ensures len { length self.new.lines ≡ length self.old.lines }
         ensures next { self.new.next ≡ self.old.next }
-        ensures adds { AllAddTheirOwn core.now self.old.rounds self.new.rounds }
     {
         let Some(Newcomer { queue, consumer }) = newcomer else {
             return;
         };
         if is_of(core, queue, consumer) {
-            let place = self.rounds.join(queue, consumer);
-            join_listing(&mut self.sleepers, queue, consumer, place);
+            self.awake.set(queue);
+            let place = self.lines[queue].join(consumer);
+            core.seat(consumer, place);
         }
     }
 
-    /// Removes the waiters and the listings of those consumers of `owner` that are gone, and all lists of its connection if that is no longer
-    /// running. The order of the others is unchanged. Looks at no other listings. Never allocates.
-    pub fn leave(&mut self, core: &Core, owner: Owner, ends: Ends)
-        requires ended { ends ≡ ended.Connection → (broker_of core.now).connection owner.connection ≡ None }
-        requires listed { ListsItsWaiters owner self.old }
-        // The waiters and listings of existing consumers stay.
-        ensures kept { KeepsWaiters core.now self.old self.new }
-        ensures noted { KeepLists core.now self.old.lists self.new.lists }
-        // The listings of those consumers of the owner that are gone are removed.
-        ensures left { ListingsLeave core.now owner self.old.lists self.new.lists }
-        ensures gone { ends ≡ ended.Connection → HasNoList self.new.lists owner.connection }
+    /// Removes the consumers from their lines that an event of the channel `id` ends. The order of the others is unchanged. Looks at no other lines.
+    /// Never allocates.
+    pub fn leave(&mut self, id: ChannelId, ends: &Ends)
+        // What the caller knows: each of them that is in a line is named, with its queue, and nobody is in a line twice.
+        requires named { AreNamed id.connection id.number ends.now self.old.lines }
+        requires once { (place : ℕ) → AllDistinct (order (line_of self.old.lines place)) }
+        ensures left { LeaveLines (leavers_of id.connection id.number ends.now) self.old.lines self.new.lines }
         // The frame.
-        ensures none { MakesNoList self.old.lists self.new.lists }
-        ensures lines { LeaveLines core.now owner self.old.rounds self.new.rounds }
-        ensures len { length self.new.rounds ≡ length self.old.rounds }
+        ensures asleep { NobodyFallsAsleep self.old.lines self.new.lines }
+        ensures len { length self.new.lines ≡ length self.old.lines }
         ensures next { self.new.next ≡ self.old.next }
     {
-        self.rounds.leave(&self.sleepers, core, owner);
-        match ends {
-            Ends::Connection => forget_connection(&mut self.sleepers, owner.connection),
-            _ => leave_lists(&mut self.sleepers, core, owner),
+        let count = self.lines.len();
+        match find_gone(id, ends, count, &mut self.named) {
+            Gone::Nobody => {}
+            Gone::One(pick, seat) => {
+                if seat.queue < count {
+                    self.lines[seat.queue].leave(&Same { pick }, seat.place);
+                }
+            }
+            Gone::Several => {
+                let who = who_leaves(id, ends);
+                sweep_named(&mut self.lines, &mut self.awake, &mut self.named, who);
+            }
         }
     }
 
-    /// Wakes the waiters of the consumers of `connection` on `channel`, or on all its channels if that is `None`. Never allocates.
-    pub fn wake(&mut self, connection: u64, channel: Option<u16>)
-        // The waiters are woken.
-        ensures woken { (p : Consumer) → IsAt connection channel p → WakesWaiter self.old self.new p }
-        // The frame: waiters, listings and orders stay.
-        ensures kept { KeepsAll self.old self.new }
-        ensures noted { NotesStay self.old.lists self.new.lists }
-        ensures same { SameListed self.old.lists self.new.lists }
-        ensures wakens { AllWaken self.old.rounds self.new.rounds }
-        ensures none { MakesNoList self.old.lists self.new.lists }
-        ensures len { length self.new.rounds ≡ length self.old.rounds }
+    /// Wakes those consumers that can take more messages after `event` and can take one now. Never allocates.
+    pub fn wake_for(&mut self, core: &mut Core, event: &Event)
+        ensures core { core.new ≡ core.old }
+        // Each consumer that may be able to take more is awake, or can't take a message now.
+        ensures awake { AreAwakeAfter event.now core.old self.new.lines }
+        // The frame: nobody falls asleep, and every order is unchanged.
         ensures on { GoesOn self.old self.new }
-    {
-        wake_connection(&mut self.sleepers, &mut self.rounds, connection, channel);
-    }
-
-    /// Wakes the waiters of consumers that may be able to take more messages after `event`. Never allocates.
-    pub fn wake_for(&mut self, event: &Event)
-        // The waiters are woken.
-        ensures woken { (p : Consumer) → wakes event.now p ≡ true → WakesWaiter self.old self.new p }
-        // The frame: waiters, listings and orders stay.
-        ensures kept { KeepsAll self.old self.new }
-        ensures noted { NotesStay self.old.lists self.new.lists }
-        ensures same { SameListed self.old.lists self.new.lists }
-        ensures wakens { AllWaken self.old.rounds self.new.rounds }
-        ensures none { MakesNoList self.old.lists self.new.lists }
-        ensures len { length self.new.rounds ≡ length self.old.rounds }
-        ensures on { GoesOn self.old self.new }
+        ensures asleep { NobodyFallsAsleep self.old.lines self.new.lines }
     {
         match event {
             Event::Command {
@@ -215,56 +239,48 @@ impl ConsumerRounds {
                 ..
             } => {
                 if wakes_on(method) {
-                    self.wake(*connection, Some(*channel));
+                    core.wake(*connection, Some(*channel), self);
                 }
             }
-            Event::Resume { connection } => self.wake(*connection, None),
+            Event::Resume { connection } => core.wake(*connection, None, self),
             _ => {}
         }
     }
 
-    /// Moves the waiters of `old` to the rounds at the indices that `indices` has for their queues, all awake, and their listings too. The waiters
-    /// and listings of a queue whose new index is past the end are removed. Never allocates.
+    /// Moves the lines of `old` to the indices that `indices` has for their queues. The line of a queue whose new index is past the end is dropped. Never
+    /// allocates.
     pub fn take_over(&mut self, old: ConsumerRounds, indices: &[usize])
-        requires len { length indices.now ≡ length old.rounds }
-        requires distinct { IndicesDiffer indices.now (length self.old.rounds) }
-        // The rounds are moved, nothing else is in them, and the listings follow.
-        ensures moved { RoundsAreMoved indices.now old.rounds self.new.rounds }
-        ensures came { LinesCome indices.now old.rounds self.old.rounds self.new.rounds }
-        ensures lists { ListsAreMoved indices.now old.lists self.new.lists }
+        requires len { length indices.now ≡ length old.lines }
+        requires distinct { IndicesDiffer indices.now (length self.old.lines) }
+        // The lines are moved, and nothing else is in them.
+        ensures moved { LinesAreMoved indices.now old.lines self.new.lines }
+        ensures came { LinesCome indices.now old.lines self.old.lines self.new.lines }
         // The frame.
         ensures next { self.new.next ≡ self.old.next }
-        ensures len { length self.new.rounds ≡ length self.old.rounds }
+        ensures len { length self.new.lines ≡ length self.old.lines }
     {
         let ConsumerRounds {
-            rounds,
-            sleepers: mut left,
+            mut lines,
+            awake: _,
+            named: _,
             next: _,
         } = old;
-        self.rounds.take_over(rounds, indices);
-        move_sleepers(&mut left, indices);
-        self.sleepers = left;
+        move_lines(&mut self.lines, &mut self.awake, &mut lines, indices);
     }
 
     /// Picks the next delivery, round-robin over the queues, starting behind the queue picked last. Never
     /// allocates.
     pub fn pick(&mut self, core: &Core) -> Option<Pick>
-        requires len { length self.old.rounds ≡ length (topology_kept core.now).queues }
-        requires noted { AllAreNoted (topology_kept core.now) (broker_of core.now) self.old.lists }
-        // The frame: waiters and listings stay.
-        ensures kept { KeepsWaiters core.now self.old self.new }
-        ensures noted { NotesStay self.old.lists self.new.lists }
-        ensures same { SameListed self.old.lists self.new.lists }
-        ensures no_list { MakesNoList self.old.lists self.new.lists }
-        ensures len { length self.new.rounds ≡ length self.old.rounds }
-        // A delivery can be made to the picked consumer; if no consumer is picked, no delivery can be made to a consumer with a waiter.
+        requires { AreKept core.now self.old.lines }
+        ensures kept { AreKept core.now self.new.lines }
+        // A delivery can be made to the picked consumer; if no consumer is picked, no delivery can be made at all.
         ensures some { IfSome result (λ p. (place : ℕ) × IsPickFrom core.now place p) }
-        ensures none { result ≡ None → (place : ℕ) (p : Consumer) → IsInItsRound (broker_of core.now) self.old place p → IsPickFrom core.now place p → ⊥ }
+        ensures none { result ≡ None → (place : ℕ) (p : Consumer) → IsPickFrom core.now place p → ⊥ }
         // The picked consumer is the first in order; if none is picked, every order is unchanged.
         ensures picked { IfSome result (λ p. PicksFirst core.now self.old self.new p) }
         ensures on { result ≡ None → GoesOn self.old self.new }
     {
-        let found = self.rounds.pick(core, &mut self.sleepers, self.next)?;
+        let found = first_from(&mut self.lines, &mut self.awake, core, self.next)?;
         self.next = found.queue + 1;
         Some(found.pick)
     }

@@ -1,21 +1,21 @@
 -- The channels of all connections, each once, and the consumers that are counted on them.
-use Rattle.channels.proofs.Imports.{◌≡◌, ◌+◌, ◌≤◌, ◌<◌, ◌∷◌, ◌++◌, [], ℕ, zero, suc, List, length, get_or, Bool, true, false, Option, Some, None, inl, inr, refl, sym, ap, subst, ◌∙◌, arith, cond, sum_by, AllPairs, ◌⊎◌, min, IsDistinct, AllByRecursion, lookup, keys_of, values_of, eqb-true, false≢true, sum_by-cons, sum_by-append, IsIn, greatest, ChannelName, Open, Running, channel_at, channel_of, consumers_at, consumers_counted, CountsConsumers}
+use Rattle.channels.proofs.Imports.{◌≡◌, ◌+◌, ◌≤◌, ◌<◌, ◌∷◌, ◌++◌, [], ℕ, zero, suc, List, length, get_or, Bool, true, false, Option, Some, None, inl, inr, refl, sym, ap, subst, ◌∙◌, arith, cond, sum_by, AllPairs, ◌⊎◌, min, IsDistinct, AllByRecursion, lookup, keys_of, values_of, eqb-true, false≢true, sum_by-cons, sum_by-append, IsIn, greatest, ChannelName, Open, Running, channel_at, channel_of, consumers_at, consumers_counted, AllDistinct, CountsConsumers, HasChannels}
 use Rattle.std.proofs.Common.{nat_eq}
 use Rattle.std.proofs.lemmas.Bool.{eq-eqb}
 use Rattle.std.proofs.lemmas.Map.Keys.{IsDistinct-head, IsDistinct-tail}
 
 -- ---- one of a list
 
-front_in : {A : Type 0} (x : A) (xs ys : List A) → IsIn x xs → IsIn x (xs ++ ys)
+pub front_in : {A : Type 0} (x : A) (xs ys : List A) → IsIn x xs → IsIn x (xs ++ ys)
 front_in x [] ys i = absurd i
 front_in x (y ∷ xs) ys (inl e) = inl e
 front_in x (y ∷ xs) ys (inr i) = inr (front_in x xs ys i)
 
-back_in : {A : Type 0} (x : A) (xs ys : List A) → IsIn x ys → IsIn x (xs ++ ys)
+pub back_in : {A : Type 0} (x : A) (xs ys : List A) → IsIn x ys → IsIn x (xs ++ ys)
 back_in x [] ys i = i
 back_in x (y ∷ xs) ys i = inr (back_in x xs ys i)
 
-either_in : {A : Type 0} (x : A) (xs ys : List A) → IsIn x (xs ++ ys) → IsIn x xs ⊎ IsIn x ys
+pub either_in : {A : Type 0} (x : A) (xs ys : List A) → IsIn x (xs ++ ys) → IsIn x xs ⊎ IsIn x ys
 either_in x [] ys i = inr i
 either_in x (y ∷ xs) ys (inl e) = inl (inl e)
 either_in x (y ∷ xs) ys (inr i) = elim (either_in x xs ys i) [
@@ -30,18 +30,14 @@ at_in (x ∷ xs) (suc i) d lt = inr (at_in xs i d (omega (arith, lt)))
 
 -- ---- no two are the same
 
-abbrev Apart : {A : Type 0} → List A → Type 0
-Apart [] = Unit {0}
-Apart (x ∷ xs) = (IsIn x xs → ⊥) × Apart xs
-
-apart_pairs : {A : Type 0} (xs : List A) → Apart xs → AllPairs (λ (x y : A). x ≡ y → ⊥) xs
+apart_pairs : {A : Type 0} (xs : List A) → AllDistinct xs → AllPairs (λ (x y : A). x ≡ y → ⊥) xs
 apart_pairs [] distinct i j d l m = absurd (omega (arith, m))
 apart_pairs (x ∷ xs) distinct zero zero d l m = absurd (omega (arith, l))
 apart_pairs {A} (x ∷ xs) distinct zero (suc j) d l m = λ e. distinct.0 (subst (λ (y : A). IsIn y xs) (sym e) (at_in xs j d (omega (arith, m))))
 apart_pairs (x ∷ xs) distinct (suc i) zero d l m = absurd (omega (arith, l))
 apart_pairs (x ∷ xs) distinct (suc i) (suc j) d l m = apart_pairs xs distinct.1 i j d (omega (arith, l)) (omega (arith, m))
 
-apart_both : {A : Type 0} (xs ys : List A) → Apart xs → Apart ys → ((x : A) → IsIn x xs → IsIn x ys → ⊥) → Apart (xs ++ ys)
+pub apart_both : {A : Type 0} (xs ys : List A) → AllDistinct xs → AllDistinct ys → ((x : A) → IsIn x xs → IsIn x ys → ⊥) → AllDistinct (xs ++ ys)
 apart_both [] ys a b none = b
 apart_both (x ∷ xs) ys a b none = (
   λ i. elim (either_in x xs ys i) [
@@ -90,7 +86,7 @@ its x c h [] i = absurd i
 its x c h (o ∷ os) (inl e) = let number = ap (λ (y : ChannelName). y.number) e in (ap (λ (y : ChannelName). y.connection) e, omega (arith, number))
 its x c h (o ∷ os) (inr i) = let later = its x c (h + 1) os i in let number = later.1 in (later.0, omega (arith, number))
 
-apart_at : (c h : ℕ) (os : List (Option Open)) → Apart (names_at c h os)
+apart_at : (c h : ℕ) (os : List (Option Open)) → AllDistinct (names_at c h os)
 apart_at c h [] = tt
 apart_at c h (o ∷ os) = (λ i. let number = (its (name c h) c (h + 1) os i).1 in absurd (omega (arith, number)), apart_at c (h + 1) os)
 
@@ -102,7 +98,7 @@ none_of x c (l ∷ es) none i e = elim (either_in x (names_at l.0 0 l.1.channels
   | inr h ↦ none_of x c es none.1 h e
 ]
 
-apart_in : (es : List (ℕ × Running)) → IsDistinct nat_eq (keys_of es) → Apart (names_in es)
+apart_in : (es : List (ℕ × Running)) → IsDistinct nat_eq (keys_of es) → AllDistinct (names_in es)
 apart_in [] distinct = tt
 apart_in (e ∷ es) distinct =
     apart_both (names_at e.0 0 e.1.channels) (names_in es) (apart_at e.0 0 e.1.channels) (apart_in es (IsDistinct-tail nat_eq e.0 (keys_of es) distinct))
@@ -160,6 +156,10 @@ all_sum queue (e ∷ es) distinct =
 -- where nothing is left to be counted, the count is the whole
 pub no_more : (count left : ℕ) → left ≡ 0 → count ≤ greatest → count ≡ min (count + left) greatest
 no_more count left none most = omega (arith, none, most)
+
+-- each open channel is one of the list, and none is there twice
+pub all_channels : (es : List (ℕ × Running)) → IsDistinct nat_eq (keys_of es) → HasChannels es
+all_channels es distinct = record { channels = names_in es; all = all_there es; distinct = apart_pairs (names_in es) (apart_in es distinct) }
 
 -- the sum over all connections is the count of all channels
 pub counts_all : (es : List (ℕ × Running)) (queue count : ℕ) → IsDistinct nat_eq (keys_of es) → count ≡ min (sum_by (consumers_counted queue) (values_of es)) greatest → CountsConsumers es queue count

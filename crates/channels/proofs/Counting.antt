@@ -31,10 +31,10 @@ pub same_consumers : (f : CountedConsumer → CountedConsumer) → ((s : Counted
 same_consumers f same [] = refl
 same_consumers f same (s ∷ ss) = ap (λ (c : Consumer). c ∷ consumers_of (map f ss)) (same s) ∙ ap (λ (cs : List Consumer). s.consumer ∷ cs) (same_consumers f same ss)
 
-head_is : (x y : ℕ) (xs ys : List ℕ) → x ∷ xs ≡ y ∷ ys → x ≡ y
+pub head_is : (x y : ℕ) (xs ys : List ℕ) → x ∷ xs ≡ y ∷ ys → x ≡ y
 head_is x y xs ys e = cc
 
-tail_is : (x y : ℕ) (xs ys : List ℕ) → x ∷ xs ≡ y ∷ ys → xs ≡ ys
+pub tail_is : (x y : ℕ) (xs ys : List ℕ) → x ∷ xs ≡ y ∷ ys → xs ≡ ys
 tail_is x y xs ys e = cc
 
 -- each count is changed as what is outstanding changes

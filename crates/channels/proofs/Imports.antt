@@ -1,13 +1,13 @@
 -- The names that several files of these proofs use.
 pub use Rattle.channels.specs.ConnectionsMoving.{MovesAreUnseen, channels_moved, connections_moved, running_moved}
-pub use Rattle.channels.specs.Counting.{CountsConsumers, HasTaker, all_consumers, consumers_at, consumers_counted, is_consumed}
+pub use Rattle.channels.specs.Counting.{AllDistinct, CountsConsumers, HasChannels, HasTaker, all_consumers, consumers_at, consumers_counted, is_consumed}
 pub use Rattle.channels.specs.Deliveries.{AddsConsumer, ConsumesUnnamed, Given, IsMadeUnder, JudgesNamed, JudgesUnnamed, CanMakeConsumer, RefusesUnnamed, consumer_at, may_be_given, may_of, taker_among, taker_at, with_consumer_added, with_given}
 pub use Rattle.channels.specs.Moving.{AreNamedAlike, IsNamedAlike, consumer_moved, open_moved, outstanding_moved, counted_moved}
 pub use Rattle.channels.specs.Names.{AreNamesSpent, IsNextName, server_name}
 pub use Rattle.channels.specs.Open.{HasNoTaker, IsConsumerMade, IsOne, IsTaker, JudgesConsumer, Open, MakesConsumer, ReturnsTaker, consumer_in, open_in, places_of}
 pub use Rattle.channels.specs.Outstanding.{AreInOrder, AreKept, IsTagAt, OutstandingList, given_tag, marked, tag_of, taker_of}
 pub use Rattle.channels.specs.RunningConnections.{HasPlacesBelow, IsChannelSet, PutsChannel, Running, channel_at, channel_in, channel_of, connection_at, connection_of, running_in, with_channel, with_channel_at, with_channel_in}
-pub use Rattle.channels.specs.CountedConsumers.{AreNumbered, AreParts, NoneAbove, NumbersRise, ConsumerCounts, CountsAgree, consumers_of, counted_in, counted_out, counts_of, has_name, is_named, is_numbered, may_held, number_given, taker_held, takes_from, uncounted}
+pub use Rattle.channels.specs.CountedConsumers.{AreNumbered, AreParts, NoneAbove, NumbersRise, TagsAndCountsAgree, TagsDiffer, ConsumerCounts, CountsAgree, consumers_of, IsWoken, counted_in, counted_out, counts_of, has_name, is_named, is_numbered, may_held, number_given, taker_held, takes_from, uncounted}
 pub use Rattle.channels.specs.declared.consumers.Consumer.{Consumer}
 pub use Rattle.channels.specs.declared.consumers.CountedConsumer.{CountedConsumer}
 pub use Rattle.model.specs.Broker.{Channel, new_channel}

@@ -8,6 +8,10 @@ pub mod Numbering
 pub mod Halving
 pub mod Moving
 mod Marking
+pub mod Tagging
+pub mod Seating
+pub mod Awake
+pub mod Listed
 pub mod ConnectionsCounting
 mod Opening
 pub mod Outcomes

@@ -120,6 +120,8 @@ named_made old given queue m h may (made, consumer_room) = record {
   made = λ names there. made_of old given queue m m.consumer_tag old.given.next_name given.consumer_room made names (given_tag (open_in names old) m.consumer_tag h) (given_name (open_in names old) m.consumer_tag h) there;
   outstanding = ap (λ (g : Given). g.outstanding) made;
   places = ap (λ (g : Given). places_of g.consumers) made ∙ places_more old.given.consumers _;
+  number = ap (λ (g : Given). g.next_number) made;
+  listed = ap (λ (g : Given). g.consumers) made;
 }
 
 pub named_refused : (old : Open) (m : Consume) (r : ConsumerRefusal) → (length m.consumer_tag ≡ 0 → ⊥) → JudgesNamed old.given m.consumer_tag (Some r) → JudgesConsumer old m (Some r)
@@ -179,6 +181,9 @@ unnamed_made laws old given queue m tag n none few left is = record {
       (sym (no_tag_name (open_in names old) m.consumer_tag none ∙ ap (λ (k : ℕ). k + 1) (next_is laws names old n is.next))) there;
   outstanding = ap (λ (g : Given). g.outstanding) is.made;
   places = ap (λ (g : Given). places_of g.consumers) is.made ∙ places_more old.given.consumers _;
+  number = ap (λ (g : Given). g.next_number) is.made;
+  listed = ap (λ (g : Given). g.consumers) is.made
+      ∙ ap (λ (t : Text). old.given.consumers ++ record { number = old.given.next_number; tag = t; queue = queue; no_ack = m.no_ack; limit = old.given.each_limit } ∷ []) (sym is.named);
 }
   where
     tagged : (names : List Text) → tag ≡ tag_for (open_in names old) m.consumer_tag

@@ -1,6 +1,7 @@
 -- What passes a test in a mapped list, and how much of it.
-use Rattle.channels.proofs.Imports.{◌≡◌, List, [], ◌∷◌, length, map, refl, sym, ap, ◌∙◌, Bool, true, false, cond, ◌||◌, list_any, length-map, length-filter}
+use Rattle.channels.proofs.Imports.{◌≡◌, List, [], ◌∷◌, length, map, find, refl, sym, ap, ◌∙◌, Bool, true, false, cond, ◌||◌, Option, Some, list_any, length-map, length-filter}
 use Rattle.std.proofs.Common.{filter, count_by}
+use Rattle.std.specs.Prelude.{option_map}
 
 pub filter-map : {X Y : Type 0} (f : X → Y) (p : Y → Bool) (xs : List X) → filter p (map f xs) ≡ map f (filter (λ x. p (f x)) xs)
 filter-map f p [] = refl
@@ -15,6 +16,14 @@ pub count_by-map : {X Y : Type 0} (f : X → Y) (p : Y → Bool) (xs : List X) �
 count_by-map {Y = Y} f p xs =
     sym (length-filter p (map f xs)) ∙ ap (λ (ys : List Y). length ys) (filter-map f p xs)
     ∙ length-map (filter (λ x. p (f x)) xs) f ∙ length-filter (λ x. p (f x)) xs
+
+pub find-map : {X Y : Type 0} (f : X → Y) (p : Y → Bool) (xs : List X) → option_map f (find (λ x. p (f x)) xs) ≡ find p (map f xs)
+find-map f p [] = refl
+find-map f p (x ∷ xs) = go (p (f x)) (find-map f p xs)
+  where
+    go : (b : Bool) → option_map f (find (λ y. p (f y)) xs) ≡ find p (map f xs) → option_map f (cond b (Some x) (find (λ y. p (f y)) xs)) ≡ cond b (Some (f x)) (find p (map f xs))
+    go true e = refl
+    go false e = e
 
 pub list_any-map : {X Y : Type 0} (f : X → Y) (p : Y → Bool) (xs : List X) → list_any p (map f xs) ≡ list_any (λ x. p (f x)) xs
 list_any-map f p [] = refl

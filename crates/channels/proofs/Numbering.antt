@@ -1,20 +1,20 @@
 -- Consumers by their numbers, and what they may be given.
-use Rattle.channels.proofs.Imports.{◌≡◌, inl, inr, ℕ, ◌+◌, ◌<◌, List, [], ◌∷◌, ◌++◌, map, find, Bool, true, false, cond, Option, Some, None, refl, sym, ap, subst, ◌∙◌, arith, ◌||◌, is_some, IfSome, IsSome, AllByRecursion, eqb-true, false≢true, Text, IsIn, is_to, is_delivery, is_below, count_to, count_given, has_tag_left, taker_of, consumers_of, is_numbered, AreNumbered, Given, may_of, taker_among, may_be_given, consumer_at, taker_at, Open, consumer_in, open_in, IsOne, IsTaker, HasNoTaker, ReturnsTaker, outstanding_in, Delivery, Consumer, CountedConsumer}
+use Rattle.channels.proofs.Imports.{◌≡◌, inl, inr, ℕ, ◌+◌, ◌<◌, List, [], ◌∷◌, ◌++◌, map, find, Bool, true, false, cond, Option, Some, None, refl, sym, ap, subst, ◌∙◌, arith, ◌||◌, is_some, IfSome, IsSome, AllByRecursion, eqb-true, ne_eqb, false≢true, Text, IsIn, is_to, is_delivery, is_below, count_to, count_given, has_tag_left, taker_of, consumers_of, is_numbered, AreNumbered, Given, may_of, taker_among, may_be_given, consumer_at, taker_at, Open, consumer_in, open_in, IsOne, IsTaker, HasNoTaker, ReturnsTaker, outstanding_in, Delivery, Consumer, CountedConsumer}
 use Rattle.std.proofs.Common.{filter, count_by}
 use Rattle.std.specs.Prelude.{◌==◌, ◌&&◌, option_map, if◌then◌else◌}
 use Rattle.std.proofs.lemmas.Bool.{eq-eqb}
 use Rattle.model.specs.Broker as seen
 use Rattle.model.specs.Consuming as said
 use Rattle.channels.specs.Consumers.{AreBelow}
-use Rattle.channels.proofs.Mapped.{count_by-map}
+use Rattle.channels.proofs.Mapped.{count_by-map, find-map}
 
 -- ---- numbers that rise
 
-all_push : {X : Type 0} (P : X → Type 0) (xs : List X) (x : X) → AllByRecursion P xs → P x → AllByRecursion P (xs ++ x ∷ [])
+pub all_push : {X : Type 0} (P : X → Type 0) (xs : List X) (x : X) → AllByRecursion P xs → P x → AllByRecursion P (xs ++ x ∷ [])
 all_push P [] x h p = (p, tt)
 all_push P (y ∷ ys) x (q, h) p = (q, all_push P ys x h p)
 
-all_filter : {X : Type 0} (P : X → Type 0) (p : X → Bool) (xs : List X) → AllByRecursion P xs → AllByRecursion P (filter p xs)
+pub all_filter : {X : Type 0} (P : X → Type 0) (p : X → Bool) (xs : List X) → AllByRecursion P xs → AllByRecursion P (filter p xs)
 all_filter P p [] h = tt
 all_filter {X = X} P p (x ∷ xs) (q, h) = go (p x) (all_filter P p xs h)
   where
@@ -22,7 +22,7 @@ all_filter {X = X} P p (x ∷ xs) (q, h) = go (p x) (all_filter P p xs h)
     go true a = (q, a)
     go false a = a
 
-all_in : {X : Type 0} (P : X → Type 0) (x : X) (xs : List X) → AllByRecursion P xs → IsIn x xs → P x
+pub all_in : {X : Type 0} (P : X → Type 0) (x : X) (xs : List X) → AllByRecursion P xs → IsIn x xs → P x
 all_in P x [] h i = absurd i
 all_in P x (y ∷ ys) (q, h) (inl e) = subst P (sym e) q
 all_in P x (y ∷ ys) (q, h) (inr i) = all_in P x ys h i
@@ -46,27 +46,21 @@ numbered_filter next p (c ∷ cs) (lt, (above, rest)) = go (p c) (numbered_filte
 
 -- the counted consumer with a number has the consumer with that number
 pub counted_is : (number : ℕ) (consumers : List CountedConsumer) → option_map (λ (s : CountedConsumer). s.consumer) (find (is_numbered number) consumers) ≡ find (λ (c : Consumer). c.number == number) (consumers_of consumers)
-counted_is number [] = refl
-counted_is number (s ∷ ss) = go (s.consumer.number == number) (counted_is number ss)
-  where
-    go : (b : Bool) → option_map (λ (s : CountedConsumer). s.consumer) (find (is_numbered number) ss) ≡ find (λ (c : Consumer). c.number == number) (consumers_of ss)
-        → option_map (λ (s : CountedConsumer). s.consumer) (cond b (Some s) (find (is_numbered number) ss)) ≡ cond b (Some s.consumer) (find (λ (c : Consumer). c.number == number) (consumers_of ss))
-    go true e = refl
-    go false e = e
+counted_is number consumers = find-map (λ (s : CountedConsumer). s.consumer) (λ (c : Consumer). c.number == number) consumers
 
 -- What is found of a number: it has the number, is one of the list, and no other of the list has it.
-record IsAlone (number : ℕ) (cs : List Consumer) (k : Consumer) : Type 0 where
-  numbered : k.number ≡ number
-  listed : IsIn k cs
-  only : (x : Consumer) → IsIn x cs → x.number ≡ number → x ≡ k
+pub record IsAlone (number : ℕ) (cs : List Consumer) (k : Consumer) : Type 0 where
+  pub numbered : k.number ≡ number
+  pub listed : IsIn k cs
+  pub only : (x : Consumer) → IsIn x cs → x.number ≡ number → x ≡ k
 
-some_is : {X : Type 0} (x y : X) → Some x ≡ Some y → x ≡ y
+pub some_is : {X : Type 0} (x y : X) → Some x ≡ Some y → x ≡ y
 some_is x y h = cc
 
-not_none : {X : Type 0} (x : X) → Some x ≡ None → ⊥
+pub not_none : {X : Type 0} (x : X) → Some x ≡ None → ⊥
 not_none x h = false≢true (sym (ap is_some h))
 
-found : (next number : ℕ) (cs : List Consumer) (k : Consumer) → AreNumbered next cs → find (λ (c : Consumer). c.number == number) cs ≡ Some k → IsAlone number cs k
+pub found : (next number : ℕ) (cs : List Consumer) (k : Consumer) → AreNumbered next cs → find (λ (c : Consumer). c.number == number) cs ≡ Some k → IsAlone number cs k
 found next number [] k h e = absurd (not_none k (sym e))
 found next number (c ∷ cs) k (lt, (above, rest)) e = go (c.number == number) refl (found next number cs k rest) e
   where
@@ -91,6 +85,15 @@ found next number (c ∷ cs) k (lt, (above, rest)) e = go (c.number == number) r
         later : IsAlone number cs k → (x : Consumer) → IsIn x (c ∷ cs) → x.number ≡ number → x ≡ k
         later one x (inl s) m = absurd (false≢true (sym t ∙ eq-eqb c.number number (ap (λ (d : Consumer). d.number) (sym s) ∙ m)))
         later one x (inr i) m = one.only x i m
+
+-- a consumer of the list is found by its number
+pub found_at : (next : ℕ) (cs : List Consumer) (k : Consumer) → AreNumbered next cs → IsIn k cs → find (λ (c : Consumer). c.number == k.number) cs ≡ Some k
+found_at next [] k h i = absurd i
+found_at next (c ∷ cs) k h (inl is) =
+    ap (λ (b : Bool). cond b (Some c) (find (λ (x : Consumer). x.number == k.number) cs)) (eq-eqb c.number k.number (ap (λ (x : Consumer). x.number) (sym is))) ∙ ap Some (sym is)
+found_at next (c ∷ cs) k (lt, (above, rest)) (inr i) =
+    let more = all_in (λ (x : Consumer). c.number < x.number) k cs above i in
+    ap (λ (b : Bool). cond b (Some c) (find (λ (x : Consumer). x.number == k.number) cs)) (ne_eqb c.number k.number (λ same. omega (arith, more, same))) ∙ found_at next cs k rest i
 
 found_below : (next number : ℕ) (cs : List Consumer) → AreNumbered next cs → IsSome (find (λ (c : Consumer). c.number == number) cs) → number < next
 found_below next number [] h s = absurd (false≢true s)
@@ -120,12 +123,12 @@ in_names names k [] i = i
 in_names names k (c ∷ cs) (inl e) = inl (ap (consumer_in names) e)
 in_names names k (c ∷ cs) (inr i) = inr (in_names names k cs i)
 
-record IsOf (names : List Text) (x : seen.Consumer) (cs : List Consumer) : Type 0 where
-  consumer : Consumer
-  listed : IsIn consumer cs
-  same : x ≡ consumer_in names consumer
+pub record IsOf (names : List Text) (x : seen.Consumer) (cs : List Consumer) : Type 0 where
+  pub consumer : Consumer
+  pub listed : IsIn consumer cs
+  pub same : x ≡ consumer_in names consumer
 
-of_names : (names : List Text) (x : seen.Consumer) (cs : List Consumer) → IsIn x (map (consumer_in names) cs) → IsOf names x cs
+pub of_names : (names : List Text) (x : seen.Consumer) (cs : List Consumer) → IsIn x (map (consumer_in names) cs) → IsOf names x cs
 of_names names x [] i = absurd i
 of_names names x (c ∷ cs) (inl e) = record { consumer = c; listed = inl refl; same = e }
 of_names names x (c ∷ cs) (inr i) = let o = of_names names x cs i in record { consumer = o.consumer; listed = inr o.listed; same = o.same }
@@ -178,7 +181,7 @@ is_taker ch number k rise e may = let one = found ch.given.next_number number ch
   may = λ names. may_in names ch k ∙ sym (may_at ch.given number k e) ∙ may;
 }
 
-cannot : (ch : Open) (number : ℕ) → AreNumbered ch.given.next_number ch.given.consumers → may_be_given ch.given number ≡ false → HasNoTaker ch number
+pub cannot : (ch : Open) (number : ℕ) → AreNumbered ch.given.next_number ch.given.consumers → may_be_given ch.given number ≡ false → HasNoTaker ch number
 cannot ch number rise may names x i m = go (consumer_at ch.given number) refl (of_names names x ch.given.consumers i)
   where
     go : (r : Option Consumer) → consumer_at ch.given number ≡ r → IsOf names x ch.given.consumers → said.may_take (open_in names ch) x ≡ false

@@ -24,7 +24,7 @@ found_apart {X} c d (y ∷ ys) w n = go (nat_eq c y.0) refl (found_apart c d ys 
     go false t more = ap (λ (o : Option X). cond (nat_eq d y.0) (Some y.1) o) more
 
 -- an open channel is within the list
-within : (xs : List (Option Open)) (i : ℕ) (x : Open) → get_or xs i None ≡ Some x → i < length xs
+pub within : (xs : List (Option Open)) (i : ℕ) (x : Open) → get_or xs i None ≡ Some x → i < length xs
 within [] i x e = absurd (none-some x e)
 within (y ∷ ys) zero x e = omega arith
 within (y ∷ ys) (suc i) x e = let lt = within ys i x e in omega (arith, lt)

@@ -1,6 +1,6 @@
 -- The consumers of a channel, each with the number of its unacknowledged messages (own).
 use Rattle.std.specs.Prelude.{◌≡◌, ◌<◌, ◌+◌, ◌-◌, ℕ, List, [], ◌∷◌, map, find, count_by, length, slice_index_or}
-use Rattle.std.specs.Prelude.{Bool, false, ◌==◌, ◌&&◌, ◌||◌, if◌then◌else◌, Option, Some, None}
+use Rattle.std.specs.Prelude.{Bool, true, false, ◌==◌, ◌&&◌, ◌||◌, if◌then◌else◌, Option, Some, None}
 use Rattle.std.specs.List.{AllByRecursion}
 use Rattle.std.specs.Str.{bytes_eq}
 use Rattle.model.specs.Words.{Text}
@@ -64,6 +64,10 @@ abbrev pub may_held : ℕ → ℕ → Option CountedConsumer → Bool
 may_held limit given None = false
 may_held limit given (Some s) = s.consumer.no_ack || (is_below s.consumer.limit s.held && is_below limit given)
 
+-- the consumer is awake, as `Awake` says of the index of its queue and its number, if it may be given one more message
+abbrev pub IsWoken : ℕ → ℕ → (ℕ → ℕ → Type 0) → CountedConsumer → Type 0
+IsWoken limit given Awake s = may_held limit given (Some s) ≡ true → Awake s.consumer.queue s.consumer.number
+
 -- the consumer, if it exists and `may_held` says that it may be given one more message
 abbrev pub taker_held : ℕ → ℕ → Option CountedConsumer → Option Consumer
 taker_held limit given None = None
@@ -78,6 +82,11 @@ pub record CountsAgree (s : ConsumerCounts) (outstanding : List Delivery) : Type
 abbrev pub AreNumbered : ℕ → List Consumer → Type 0
 AreNumbered next [] = Unit {0}
 AreNumbered next (c ∷ cs) = (c.number < next) × (AllByRecursion (λ (d : Consumer). c.number < d.number) cs × AreNumbered next cs)
+
+-- no two of the consumers have the same tag
+abbrev pub TagsDiffer : List Consumer → Type 0
+TagsDiffer [] = Unit {0}
+TagsDiffer (c ∷ cs) = AllByRecursion (λ (d : Consumer). c.tag ≡ d.tag → ⊥) cs × TagsDiffer cs
 
 -- the consumers' numbers ascend
 abbrev pub NumbersRise : List Consumer → Type 0
@@ -97,11 +106,11 @@ number_given (To_consumer number) = number
 abbrev pub NoneAbove : ℕ → List Delivery → Type 0
 NoneAbove most given = (number : ℕ) → most < number → count_to taker_of number given ≡ 0
 
--- delivery tag `last` is below `next_tag`, the counts are right for the deliveries `outstanding`, the consumers' numbers ascend below `next`, and
--- no delivery went to a number above `most`
+-- delivery tag `last` is below `next_tag`, the counts are right for the deliveries `outstanding`, the consumers' numbers ascend below `next`, no
+-- delivery went to a number above `most`, and the consumers' tags differ
 abbrev pub TagsAndCountsAgree : ℕ → ℕ → ConsumerCounts → List Delivery → ℕ → ℕ → Type 0
 TagsAndCountsAgree last next_tag s outstanding next most =
-    (last < next_tag) × CountsAgree s outstanding × AreNumbered next s.consumers × NoneAbove most outstanding
+    (last < next_tag) × CountsAgree s outstanding × AreNumbered next s.consumers × NoneAbove most outstanding × TagsDiffer s.consumers
 
 -- the deliveries `outstanding` are `gone` and `left` together: for each property `p`, the two have as many with it as `outstanding`
 abbrev pub AreParts : List Delivery → List Delivery → List Delivery → Type 0

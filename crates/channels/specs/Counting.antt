@@ -1,5 +1,5 @@
 -- How many consumers take from a queue.
-use Rattle.std.specs.Prelude.{◌≡◌, ℕ, List, Bool, Option, Some, None, AllPairs, sum_by, min, nat_lt}
+use Rattle.std.specs.Prelude.{◌≡◌, ℕ, List, [], ◌∷◌, Bool, Option, Some, None, AllPairs, sum_by, min, nat_lt}
 use Rattle.std.specs.Map.{values_of}
 use Rattle.model.specs.Topology.{IsIn}
 use Rattle.model.specs.Step.{greatest}
@@ -16,6 +16,17 @@ consumers_at queue (Some ch) = consumers_from queue ch
 -- how many consumers on all channels of a connection take from the queue at index `queue`
 abbrev pub consumers_counted : ℕ → Running → ℕ
 consumers_counted queue l = sum_by (consumers_at queue) l.channels
+
+-- no entry occurs twice
+abbrev pub AllDistinct : {X : Type 0} → List X → Type 0
+AllDistinct [] = Unit {0}
+AllDistinct (x ∷ xs) = (IsIn x xs → ⊥) × AllDistinct xs
+
+-- A list of distinct channels has every open one.
+pub record HasChannels (connections : List (ℕ × Running)) : Type 0 where
+  pub channels : List ChannelName
+  pub all : (c h : ℕ) (ch : Open) → channel_of connections c h ≡ Some ch → IsIn (record { connection = c; number = h }) channels
+  pub distinct : AllPairs (λ (x y : ChannelName). x ≡ y → ⊥) channels
 
 -- `count` is the number of consumers on all channels together that take from the queue at index `queue`, at most 2^64 - 1.
 pub record CountsConsumers (connections : List (ℕ × Running)) (queue count : ℕ) : Type 0 where

@@ -4,6 +4,7 @@ use Rattle.std.specs.Prelude.{Bool, true, false, ◌==◌, ◌&&◌, if◌then�
 use Rattle.std.specs.List.{list_any}
 use Rattle.model.specs.Words.{Text}
 use Rattle.model.specs.Step.{greatest}
+use Rattle.model.specs.Topology.{IsIn}
 use Rattle.model.specs.Prefetch.{may_hold, has_tag_left}
 use Rattle.model.specs.declared.messages.Taker.{Taker}
 use Rattle.channels.specs.Outstanding.{taker_of}
@@ -72,6 +73,12 @@ taker_among limit outstanding c = if may_of limit outstanding c then c else None
 abbrev pub FindsTaker : ConsumerCounts → ℕ → ℕ → Option Consumer → Type 0
 FindsTaker s number limit result = (outstanding : List Delivery) → CountsAgree s outstanding
     → result ≡ taker_among limit outstanding (consumer_numbered number s.consumers)
+
+-- each consumer that may be given one more message under the channel's `limit` is awake, as `Awake` says of the index of its queue and its
+-- number, whatever deliveries the counts are of
+abbrev pub WakesAble : ℕ → (ℕ → ℕ → Type 0) → ConsumerCounts → Type 0
+WakesAble limit Awake s = (outstanding : List Delivery) → CountsAgree s outstanding
+    → (k : Consumer) → IsIn k s.consumers → may_of limit outstanding (Some k) ≡ true → Awake k.queue k.number
 
 -- a tag is left, and the consumer with this number is the channel's and may be given one more message
 abbrev pub may_be_given : Given → ℕ → Bool

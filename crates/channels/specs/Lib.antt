@@ -10,4 +10,6 @@ pub mod Open
 pub mod Outstanding
 pub mod Placed
 pub mod CountedConsumers
+pub mod Seats
 pub mod Spans
+pub mod Waking

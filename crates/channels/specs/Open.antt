@@ -84,6 +84,10 @@ pub record IsConsumerMade (old : Open) (queue : ℕ) (m : Consume) (tag : Text) 
   -- the deliveries are unchanged, and so are the queues of the other consumers
   pub outstanding : new.given.outstanding ≡ old.given.outstanding
   pub places : places_of new.given.consumers ≡ places_of old.given.consumers ++ queue ∷ []
+  -- it has the next number, and is the last of the channel's consumers
+  pub number : new.given.next_number ≡ old.given.next_number + 1
+  pub listed : new.given.consumers ≡ old.given.consumers
+      ++ record { number = old.given.next_number; tag = tag; queue = queue; no_ack = m.no_ack; limit = old.given.each_limit } ∷ []
 
 -- the refusal of a consumer as the model has it: its reply code, which closes the connection
 abbrev pub consumer_refusal : ConsumerRefusal → Refusal

@@ -1,5 +1,5 @@
 -- The running connections, each with its open channels.
-use Rattle.std.specs.Prelude.{◌≡◌, ◌≤◌, ◌==◌, false, ℕ, List, length, [], Bool, Option, Some, None, nat_eq, slice_index_or, slice_set, option_map}
+use Rattle.std.specs.Prelude.{◌≡◌, ◌≤◌, ◌==◌, true, false, ℕ, List, length, [], Bool, Option, Some, None, nat_eq, slice_index_or, slice_set, option_map}
 use Rattle.std.specs.Map.{lookup, set_value}
 use Rattle.model.specs.Words.{Text}
 use Rattle.model.specs.Step.{channels_up_to, paused}
@@ -16,6 +16,11 @@ pub record Running : Type 0 where
 -- the open channel with this number
 abbrev pub channel_in : Running → ℕ → Option Open
 channel_in l h = slice_index_or l.channels h None
+
+-- channel `h` is the one with this number, or any channel if there is none
+abbrev pub is_number : Option ℕ → ℕ → Bool
+is_number None h = true
+is_number (Some number) h = h == number
 
 -- the open channel with this number as the model has it, if queues have these names, by index
 abbrev pub channel_seen : List Text → Running → ℕ → Option Channel

@@ -1,6 +1,6 @@
 //! An open channel: its confirm numbers, its delivery tags, its unacknowledged deliveries, and its consumers with their limits.
 
-ghost use Rattle.std.specs.Prelude.{◌≡◌, ◌+◌, ◌*◌, ◌<◌, ◌≤◌, List, length, None, Some, true, false, IfSome, OnOk, OnErr, option_map, nat_lt};
+ghost use Rattle.std.specs.Prelude.{◌≡◌, ℕ, ◌+◌, ◌*◌, ◌<◌, ◌≤◌, List, length, None, Some, true, false, IfSome, IfNone, OnOk, OnErr, option_map, nat_lt};
 ghost use Rattle.model.specs.Words.{Text as Word};
 ghost use Rattle.model.specs.Consuming.{is_in_use, without_consumer};
 ghost use Rattle.model.specs.Step.{started, next_of, is_spent};
@@ -15,14 +15,18 @@ ghost use Rattle.channels.specs.Open.{JudgesConsumer, MakesConsumer, IsOne, Retu
 ghost use Rattle.channels.specs.Consumers.{AreBelow};
 ghost use Rattle.channels.specs.Moving.{open_moved};
 ghost use Rattle.channels.specs.Outstanding.{tag_of};
+ghost use Rattle.channels.specs.Seats.{IsSeatAt, IsTagged};
+ghost use Rattle.channels.specs.CountedConsumers.{NumbersRise};
+ghost use Rattle.channels.specs.Waking.{AreWoken};
 
-use crate::consumers::{ConsumeError, Consumer, ConsumerRefusal, held_by, number_of};
+use crate::consumers::{ConsumeError, Consumer, ConsumerRefusal, Seat, held_by, number_of};
 use crate::counted_consumers::CountedConsumers;
 use crate::names::{Name, next_name};
 use crate::pending::Unsettled;
 use crate::settled::Settled;
 use crate::spans::Span;
 use crate::tags::{count_waiting, settled_of, span_of};
+use crate::waking::Wakes;
 use laws::next_tags_are_found;
 use model::{Consume, Delivery, Qos, Taker, Text};
 use std::alloc::{AllocError, Global};
@@ -281,6 +285,54 @@ impl Channel {
         ensures seen { (names : List Word) → open_in names self.new ≡ without_consumer (open_in names self.old) tag.now }
     {
         self.consumers.remove_by_tag(tag);
+    }
+
+    /// Returns the seat of the channel's consumer with this tag; `None` if no consumer has the tag.
+    pub fn tagged(&self, tag: &[u8]) -> Option<Seat>
+        ensures some { IfSome result (λ s. IsTagged self.now tag.now s) }
+        ensures none { IfNone result ((names : List Word) → is_in_use tag.now (open_in names self.now).consumers ≡ false) }
+    {
+        self.consumers.tagged(tag)
+    }
+
+    /// Remembers `place` as the guess of the index of the consumer with this number among those of its queue. Does nothing if the channel has
+    /// no such consumer.
+    pub fn seat(&mut self, number: u64, place: usize)
+        ensures { self.new ≡ self.old }
+    {
+        self.consumers.seat(number, place);
+    }
+
+    /// Returns the number of the channel's consumers.
+    pub fn consumer_count(&self) -> usize
+        ensures { result ≡ length self.now.given.consumers }
+    {
+        self.consumers.len()
+    }
+
+    /// Returns the seat of the consumer at this index among the channel's, in the order in which they were made.
+    pub fn seat_at(&self, index: usize) -> Seat
+        requires { index < length self.now.given.consumers }
+        ensures { IsSeatAt self.now.given.consumers index result }
+    {
+        self.consumers.seat_at(index)
+    }
+
+    /// Wakes each consumer that can take a message now, by `waker`. This is channel `channel` of `connection`. Never allocates.
+    pub fn wake<W: Wakes>(&mut self, connection: u64, channel: u16, waker: &mut W)
+        ensures same { self.new ≡ self.old }
+        ensures awake { AreWoken (λ q. W.is_awake waker.new q connection channel) self.old }
+        ensures stay { (q c h n : ℕ) → W.is_awake waker.old q c h n → W.is_awake waker.new q c h n }
+        ensures on { (start : W) → W.goes_on start waker.old → W.goes_on start waker.new }
+    {
+        self.consumers.wake(connection, channel, self.limit, waker);
+    }
+
+    /// Shows that the numbers of the channel's consumers ascend. Does nothing at run time.
+    pub fn ghost_numbers_rise(&self)
+        ensures { NumbersRise self.now.given.consumers }
+    {
+        let _ = &self.next_number;
     }
 
     /// Returns the number of the next consumer. No consumer had it yet, and each has a smaller one.

@@ -10,6 +10,7 @@ ghost use Rattle.channels.specs.Lends.{LentArePut};
 
 use crate::channels::Channel;
 use crate::running::RunningConnection;
+use crate::waking::Wakes;
 use model::Delivery;
 use std::alloc::{AllocError, Global};
 use std::collections::HashMap;
@@ -37,7 +38,8 @@ impl RunningConnections {
     ghost use Rattle.channels.specs.Lends.{LendsConnection, LendsChannel};
     ghost use Rattle.model.specs.Broker.{with_one, with_row};
     ghost use Rattle.model.specs.Placed.{waiting};
-    ghost use Rattle.channels.specs.Counting.{CountsConsumers, HasTaker, is_consumed};
+    ghost use Rattle.channels.specs.Counting.{CountsConsumers, HasChannels, HasTaker, is_consumed};
+    ghost use Rattle.channels.specs.Waking.{AreWokenOn};
     ghost use Rattle.channels.specs.ConnectionsMoving.{connections_moved};
     ghost use Rattle.channels.specs.RunningConnections.{running_in, connection_of, channel_of, outstanding_on, PutsChannel, OpensConnection, HoldsConnections};
     ghost use Rattle.channels.specs.RunningConnections.{HasPlacesBelow, SetsPaused};
@@ -122,6 +124,13 @@ impl RunningConnections {
         self.connections.values();
     }
 
+    /// Shows that some list of distinct channels has every open one. Does nothing at run time.
+    pub fn ghost_channels_are_listed(&self)
+        ensures { HasChannels self.now }
+    {
+        self.connections.values();
+    }
+
     /// Makes `connection` a running one, with channels 1 to `channels` open and new, and no slots for others. Returns the earlier connection of
     /// this number, if any. Fails only if an allocation fails; nothing has changed then.
     pub fn open(
@@ -143,11 +152,12 @@ impl RunningConnections {
         }
     }
 
-    /// Removes the connection with its channels.
-    pub fn remove(&mut self, connection: u64)
-        ensures { HoldsConnections self.new (with_one (connection_of self.old) connection None) (with_row (channel_of self.old) connection (λ h. None)) }
+    /// Removes the connection with its channels, and returns it.
+    pub fn remove(&mut self, connection: u64) -> Option<RunningConnection>
+        ensures holds { HoldsConnections self.new (with_one (connection_of self.old) connection None) (with_row (channel_of self.old) connection (λ h. None)) }
+        ensures before { result ≡ running_in self.old connection }
     {
-        self.connections.remove(&connection);
+        self.connections.remove(&connection)
     }
 
     /// Sets whether the connection is paused, if it is running.
@@ -179,13 +189,38 @@ impl RunningConnections {
         }
     }
 
-    /// Replaces the open channel with this number by `channel`, or removes it if that is `None`.
-    pub fn put(&mut self, connection: u64, number: u16, channel: Option<Channel>)
+    /// Replaces the open channel with this number by `channel`, or removes it if that is `None`, and returns it.
+    pub fn put(&mut self, connection: u64, number: u16, channel: Option<Channel>) -> Option<Channel>
         requires { IsSome (channel_of self.old connection number) }
-        ensures { PutsChannel self.old connection number channel self.new }
+        ensures put { PutsChannel self.old connection number channel self.new }
+        ensures before { result ≡ channel_of self.old connection number }
+    {
+        match self.connections.get_mut(&connection) {
+            Some(running) => running.put(number, channel),
+            None => None,
+        }
+    }
+
+    /// Remembers `place` as the guess of the index of the consumer with this number on the channel, among those of its queue. Does
+    /// nothing if there is no such consumer.
+    pub fn seat(&mut self, connection: u64, channel: u16, number: u64, place: usize)
+        ensures { self.new ≡ self.old }
     {
         if let Some(running) = self.connections.get_mut(&connection) {
-            running.put(number, channel);
+            running.seat(channel, number, place);
+        }
+    }
+
+    /// Wakes each consumer of the channel, or of each channel of the connection if there is no number, that can take a message once the connection
+    /// isn't paused, by `waker`. Never allocates.
+    pub fn wake<W: Wakes>(&mut self, connection: u64, channel: Option<u16>, waker: &mut W)
+        ensures same { self.new ≡ self.old }
+        ensures awake { AreWokenOn (λ q. W.is_awake waker.new q connection) (channel_of self.old connection) channel }
+        ensures stay { (q c h n : ℕ) → W.is_awake waker.old q c h n → W.is_awake waker.new q c h n }
+        ensures on { (start : W) → W.goes_on start waker.old → W.goes_on start waker.new }
+    {
+        if let Some(running) = self.connections.get_mut(&connection) {
+            running.wake(connection, channel, waker);
         }
     }
 

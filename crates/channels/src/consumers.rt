@@ -28,11 +28,23 @@ pub struct Consumer {
     pub limit: u16,
 }
 
-/// A consumer with the number of its unacknowledged messages.
+/// A consumer with the number of its unacknowledged messages, and a guess of its index in the order of its queue's consumers.
 #[derive(Drop)]
 pub(crate) struct CountedConsumer {
     pub(crate) consumer: Consumer,
     pub(crate) held: usize,
+    pub(crate) place: usize,
+}
+
+/// A consumer's number and queue, and where it may be among the consumers of its queue.
+#[derive(Clone, Copy, PartialEq, Eq, Debug, Drop)]
+pub struct Seat {
+    /// Its number on its channel.
+    pub number: u64,
+    /// The index of its queue.
+    pub queue: usize,
+    /// A guess of its index in the order of its queue's consumers, which promises nothing.
+    pub place: usize,
 }
 
 /// Why a consumer is refused, with the reply code.
@@ -98,7 +110,7 @@ fn search(consumers: &[CountedConsumer], number: u64) -> Option<usize>
 
 /// Returns the index of the consumer with this number, by binary search, since numbers ascend. If it isn't found so, looks at each consumer, so that
 /// `None` is right in any order.
-fn place_of_consumer(consumers: &[CountedConsumer], number: u64) -> Option<usize>
+pub(crate) fn place_of_consumer(consumers: &[CountedConsumer], number: u64) -> Option<usize>
     ensures some { IfSome result (λ place. IsConsumerAt consumers.now number place) }
     ensures none { result ≡ None → find (is_numbered number) consumers.now ≡ None }
 {
@@ -301,7 +313,7 @@ fn is_room(limit: u16, held: usize) -> bool
 
 /// Returns whether the consumer of `counted` may be given one more message: it needs no acknowledgements, or neither its own prefetch nor the
 /// channel's `limit` is used up. All consumers of the channel together have `given` unacknowledged messages.
-fn may_hold(counted: &CountedConsumer, limit: u16, given: usize) -> bool
+pub(crate) fn may_hold(counted: &CountedConsumer, limit: u16, given: usize) -> bool
     ensures { result ≡ may_held limit given (Some counted.now) }
 {
     counted.consumer.no_ack

@@ -3,9 +3,11 @@
 ghost use Rattle.std.specs.Prelude.{◌≡◌};
 
 use crate::consumers::{
-    Consumer, CountedConsumer, consumer_of, count_from, count_in, count_out, given_to_all,
+    Consumer, CountedConsumer, Seat, consumer_of, count_from, count_in, count_out, given_to_all,
     is_in_use, may_one, one_if_consumed, remove_tagged, renumber, taker_of,
 };
+use crate::seats::{remember, seat_at, seat_tagged};
+use crate::waking::{Wakes, wake_all};
 use model::{Delivery, Taker};
 use std::alloc::{AllocError, Global};
 use std::marker::Model;
@@ -34,14 +36,15 @@ impl Model for CountedConsumers {
 
 impl CountedConsumers {
     ghost use Rattle.std.specs.Prelude.{◌≡◌, ◌+◌, ◌-◌, ◌<◌, ◌≤◌, ◌^◌, ◌++◌, ◌∷◌, [], ℕ, List, length, filter, count_by, map};
-    ghost use Rattle.std.specs.Prelude.{not, option_map, OnOk, OnErr};
+    ghost use Rattle.std.specs.Prelude.{not, find, option_map, OnOk, OnErr};
     ghost use Rattle.std.specs.List.{list_any, All};
     ghost use Rattle.model.specs.Prefetch.{count_to};
     ghost use Rattle.channels.specs.Outstanding.{taker_of};
     ghost use Rattle.model.specs.Placed.{waiting};
     ghost use Rattle.channels.specs.CountedConsumers.{CountsAgree, AreParts, NumbersRise, consumer_numbered, consumers_of, is_named, takes_from};
-    ghost use Rattle.channels.specs.Deliveries.{may_of, FindsTaker};
+    ghost use Rattle.channels.specs.Deliveries.{may_of, FindsTaker, WakesAble};
     ghost use Rattle.channels.specs.Moving.{consumer_moved, outstanding_moved};
+    ghost use Rattle.channels.specs.Seats.{IsSeatAt, ReturnsSeat};
     ghost use Rattle.model.specs.declared.deliveries.Delivery.{Delivery as Given};
 
     /// Makes an empty list. Never allocates.
@@ -128,8 +131,11 @@ impl CountedConsumers {
         ensures counted { (given : List Given) → CountsAgree self.old given
             → held ≡ count_to taker_of consumer.number given → CountsAgree self.new given }
     {
-        self.consumers
-            .push_reserved(CountedConsumer { consumer, held });
+        self.consumers.push_reserved(CountedConsumer {
+            consumer,
+            held,
+            place: 0,
+        });
     }
 
     /// Removes the consumers with this tag. Their unacknowledged messages still count among those of all consumers together.
@@ -141,6 +147,28 @@ impl CountedConsumers {
         remove_tagged(&mut self.consumers, tag);
     }
 
+    /// Returns the seat of the first consumer with this tag, if one has it.
+    pub(crate) fn tagged(&self, tag: &[u8]) -> Option<Seat>
+        ensures { ReturnsSeat (find (is_named tag.now) self.now.consumers) result }
+    {
+        seat_tagged(&self.consumers, tag)
+    }
+
+    /// Returns the seat of the consumer at this index.
+    pub(crate) fn seat_at(&self, index: usize) -> Seat
+        requires { index < length self.now.consumers }
+        ensures { IsSeatAt self.now.consumers index result }
+    {
+        seat_at(&self.consumers, index)
+    }
+
+    /// Remembers `place` for the consumer with this number, if it exists.
+    pub(crate) fn seat(&mut self, number: u64, place: usize)
+        ensures { self.new ≡ self.old }
+    {
+        remember(&mut self.consumers, number, place);
+    }
+
     /// Sets each queue's index to the one that `indices` has for it. Never allocates.
     pub(crate) fn renumber(&mut self, indices: &[usize])
         ensures consumers { self.new.consumers ≡ map (consumer_moved indices.now) self.old.consumers }
@@ -148,6 +176,29 @@ impl CountedConsumers {
         ensures counted { (given : List Given) → CountsAgree self.old given → CountsAgree self.new (map (outstanding_moved indices.now) given) }
     {
         renumber(&mut self.consumers, indices);
+    }
+
+    /// Wakes each consumer that may be given one more message; `limit` is the channel's prefetch.
+    pub(crate) fn wake<W: Wakes>(
+        &mut self,
+        connection: u64,
+        channel: u16,
+        limit: u16,
+        waker: &mut W,
+    )
+        ensures same { self.new ≡ self.old }
+        ensures awake { WakesAble limit (λ q. W.is_awake waker.new q connection channel) self.old }
+        ensures stay { (q c h n : ℕ) → W.is_awake waker.old q c h n → W.is_awake waker.new q c h n }
+        ensures on { (start : W) → W.goes_on start waker.old → W.goes_on start waker.new }
+    {
+        wake_all(
+            &mut self.consumers,
+            connection,
+            channel,
+            limit,
+            self.given,
+            waker,
+        );
     }
 
     /// Counts a message that is given out to `by`.

@@ -2,7 +2,11 @@
 
 use crate::channels::Channel;
 use crate::consumers::Consumer;
-use crate::slots::{count_consumers, open_at, open_channels, put_at, renumber_each};
+use crate::slots::{
+    count_consumers, open_at, open_channels, put_at, renumber_each, set_place_at, wake_at,
+    wake_channels,
+};
+use crate::waking::Wakes;
 use model::Delivery;
 use std::alloc::{AllocError, Global};
 use std::marker::Model;
@@ -41,6 +45,7 @@ impl RunningConnection {
     ghost use Rattle.channels.specs.ConnectionsMoving.{running_moved};
     ghost use Rattle.channels.specs.RunningConnections.{channel_in, outstanding_on, PutsIn};
     ghost use Rattle.channels.specs.Lends.{LendsChannelIn};
+    ghost use Rattle.channels.specs.Waking.{AreWokenOn};
 
     /// Makes a connection with channels 1 to `channels` open and new. Fails only if an allocation fails.
     pub(crate) fn new(
@@ -167,12 +172,34 @@ impl RunningConnection {
         open_at(&mut self.channels, number, channel)
     }
 
-    /// Replaces the open channel with this number by `channel`, or removes it if that is `None`.
-    pub(crate) fn put(&mut self, number: u16, channel: Option<Channel>)
+    /// Replaces the open channel with this number by `channel`, or removes it if that is `None`, and returns it.
+    pub(crate) fn put(&mut self, number: u16, channel: Option<Channel>) -> Option<Channel>
         requires { IsSome (channel_in self.old number) }
-        ensures { PutsIn self.old number channel self.new }
+        ensures puts { PutsIn self.old number channel self.new }
+        ensures before { result ≡ channel_in self.old number }
     {
-        put_at(&mut self.channels, number, channel);
+        put_at(&mut self.channels, number, channel)
+    }
+
+    /// Remembers `place` for the consumer with number `number` on the channel, if it exists.
+    pub(crate) fn seat(&mut self, channel: u16, number: u64, place: usize)
+        ensures { self.new ≡ self.old }
+    {
+        set_place_at(&mut self.channels, channel, number, place);
+    }
+
+    /// Wakes each consumer of the channel, or of each channel if there is no number, that can take a message once the connection isn't paused, by
+    /// `waker`. This is connection `connection`. Never allocates.
+    pub fn wake<W: Wakes>(&mut self, connection: u64, channel: Option<u16>, waker: &mut W)
+        ensures same { self.new ≡ self.old }
+        ensures awake { AreWokenOn (λ q. W.is_awake waker.new q connection) (channel_in self.old) channel }
+        ensures stay { (q c h n : ℕ) → W.is_awake waker.old q c h n → W.is_awake waker.new q c h n }
+        ensures on { (start : W) → W.goes_on start waker.old → W.goes_on start waker.new }
+    {
+        match channel {
+            Some(number) => wake_at(&mut self.channels, connection, number, waker),
+            None => wake_channels(&mut self.channels, connection, waker),
+        }
     }
 
     /// Sets whether the connection is paused.

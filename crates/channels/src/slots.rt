@@ -1,18 +1,21 @@
 //! The channel slots of a connection, by channel number.
 
 ghost use Rattle.std.specs.Prelude.{◌≡◌, ◌+◌, ◌<◌, ◌≤◌, ◌^◌, ◌∷◌, ◌++◌, None, Option, Some, IsSome, IfOk, OnOk, OnErr, replicate, slice_index_or, List, map};
-ghost use Rattle.std.specs.Prelude.{min, sum_by, option_map, vec_capacity, vec_len, ℕ};
+ghost use Rattle.std.specs.Prelude.{min, sum_by, option_map, length, vec_capacity, vec_len, ℕ};
 ghost use Rattle.channels.specs.Moving.{open_moved};
 ghost use Rattle.channels.specs.ConnectionsMoving.{channels_moved};
 ghost use Rattle.model.specs.Words.{Text as Name};
 ghost use Rattle.model.specs.Broker.{new_channel};
 ghost use Rattle.model.specs.Step.{greatest};
-ghost use Rattle.channels.specs.Open.{open_in};
+ghost use Rattle.channels.specs.Open.{Open, open_in};
 ghost use Rattle.channels.specs.RunningConnections.{IsChannelSet};
 ghost use Rattle.channels.specs.Counting.{consumers_at};
+ghost use Rattle.channels.specs.Waking.{AreWoken};
 
 use crate::channels::Channel;
+use crate::waking::Wakes;
 use std::alloc::{AllocError, Global};
+use std::mem;
 
 /// Makes slots for channels 0 to `count`, of which all but 0 are open and new. Fails only if an allocation fails.
 pub(crate) fn open_channels(alloc: Global, count: u16) -> Result<Vec<Option<Channel>>, AllocError>
@@ -59,14 +62,90 @@ pub(crate) fn open_at(
     Ok(())
 }
 
-/// Replaces the open channel with this number by `channel`, or removes it if that is `None`.
-pub(crate) fn put_at(channels: &mut [Option<Channel>], number: u16, channel: Option<Channel>)
+/// Replaces the open channel with this number by `channel`, or removes it if that is `None`, and returns it.
+pub(crate) fn put_at(
+    channels: &mut [Option<Channel>],
+    number: u16,
+    channel: Option<Channel>,
+) -> Option<Channel>
     requires { IsSome (slice_index_or channels.old number None) }
-    ensures { IsChannelSet channels.old number channel channels.new }
+    ensures set { IsChannelSet channels.old number channel channels.new }
+    ensures before { result ≡ slice_index_or channels.old number None }
 {
     let at = number as usize;
     if at < channels.len() {
-        channels[at] = channel;
+        return mem::replace(&mut channels[at], channel);
+    }
+    None
+}
+
+/// Remembers `place` for the consumer with number `number` of the channel in `slot`, if it exists.
+fn set_place_in(slot: &mut Option<Channel>, number: u64, place: usize)
+    ensures { slot.new ≡ slot.old }
+{
+    if let Some(channel) = slot {
+        channel.seat(number, place);
+    }
+}
+
+/// Remembers `place` for the consumer with number `number` of channel `at`, if it exists.
+pub(crate) fn set_place_at(channels: &mut [Option<Channel>], at: u16, number: u64, place: usize)
+    ensures { channels.new ≡ channels.old }
+{
+    let at = at as usize;
+    if at < channels.len() {
+        set_place_in(&mut channels[at], number, place);
+    }
+}
+
+/// Wakes each consumer of channel `number`, in `slot`, that can take a message now.
+fn wake_in<W: Wakes>(slot: &mut Option<Channel>, connection: u64, number: u16, waker: &mut W)
+    ensures same { slot.new ≡ slot.old }
+    ensures awake { (ch : Open) → slot.old ≡ Some ch → AreWoken (λ q. W.is_awake waker.new q connection number) ch }
+    ensures stay { (q c h n : ℕ) → W.is_awake waker.old q c h n → W.is_awake waker.new q c h n }
+    ensures on { (start : W) → W.goes_on start waker.old → W.goes_on start waker.new }
+{
+    let Some(channel) = slot else {
+        return;
+    };
+    channel.wake(connection, number, waker);
+}
+
+/// Wakes each consumer of channel `number` that can take a message now.
+pub(crate) fn wake_at<W: Wakes>(
+    channels: &mut [Option<Channel>],
+    connection: u64,
+    number: u16,
+    waker: &mut W,
+)
+    ensures same { channels.new ≡ channels.old }
+    ensures awake { (ch : Open) → slice_index_or channels.old number None ≡ Some ch
+        → AreWoken (λ q. W.is_awake waker.new q connection number) ch }
+    ensures stay { (q c h n : ℕ) → W.is_awake waker.old q c h n → W.is_awake waker.new q c h n }
+    ensures on { (start : W) → W.goes_on start waker.old → W.goes_on start waker.new }
+{
+    let at = number as usize;
+    if at >= channels.len() {
+        return;
+    }
+    wake_in(&mut channels[at], connection, number, waker);
+}
+
+/// Wakes each consumer of each of `channels` that can take a message now.
+pub(crate) fn wake_channels<W: Wakes>(
+    channels: &mut [Option<Channel>],
+    connection: u64,
+    waker: &mut W,
+)
+    requires { length channels.old ≤ 2 ^ 16 }
+    ensures same { channels.new ≡ channels.old }
+    ensures awake { (h : ℕ) (ch : Open) → slice_index_or channels.old h None ≡ Some ch
+        → AreWoken (λ q. W.is_awake waker.new q connection h) ch }
+    ensures stay { (q c h n : ℕ) → W.is_awake waker.old q c h n → W.is_awake waker.new q c h n }
+    ensures on { (start : W) → W.goes_on start waker.old → W.goes_on start waker.new }
+{
+    for at in 0..channels.len() {
+        wake_in(&mut channels[at], connection, at as u16, waker);
     }
 }
 

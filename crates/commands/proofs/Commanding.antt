@@ -1,6 +1,7 @@
 -- What is left to be done of a command is done.
 use Rattle.commands.proofs.Names.{◌≡◌, ℕ, Option, None, Result, Ok, sym, subst, IfOk, IfOk-weaker, AllocError, OnConnection, Content, Method, Stop, Done, Acted, Kept, broker_of, topology_kept, AnswersOn, UnlessPerformed, CanFinish}
 use Rattle.std.proofs.Common.{Some}
+use Rattle.commands.specs.Counted.{AreCounted}
 use Rattle.commands.specs.Steps.{AddressesLeft, AddressesReplies, FinishesOn}
 use Rattle.commands.specs.declared.commands.asking.Left as asked
 use Rattle.commands.specs.declared.commands.Done.TheVariants.{Left}
@@ -18,6 +19,9 @@ module _ (old mid : Kept) (c h : ℕ) (m : Method) (content : Option Content) (l
   -- it can be done
   pub left_can : CanFinish (topology_kept mid) ((broker_of mid).channel c h) l
   left_can = let (conn, at, judged) = decided in subst (λ (k : Kept). CanFinish (topology_kept k) ((broker_of k).channel c h) l) (sym same) (m, judged.1)
+
+  pub left_counted : (IsCount : ℕ → ℕ → Type 0) → AreCounted old IsCount → AreCounted mid IsCount
+  left_counted IsCount counted = subst (λ (k : Kept). AreCounted k IsCount) (sym same) counted
 
   -- and what it does is what the command does
   pub left_done : (new : Kept) (done : Result Acted AllocError) → IfOk done (λ a. FinishesOn mid c h l a.step new)

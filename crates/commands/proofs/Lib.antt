@@ -2,7 +2,6 @@ pub mod Names
 pub mod Consuming
 mod Declaring
 mod Delivered
-pub mod Ending
 mod Freed
 mod Getting
 mod GivenOut
@@ -27,3 +26,4 @@ mod Settlements
 mod Consumes
 pub mod Making
 pub mod Settled
+mod Woken

@@ -7,10 +7,11 @@ pub use Rattle.channels.specs.Open.{HasNoTaker, IsConsumerMade, IsTaker, JudgesC
 pub use Rattle.channels.specs.Outstanding.{tag_of}
 pub use Rattle.channels.specs.Placed.{IsPlaced, TakeWithin}
 pub use Rattle.channels.specs.RunningConnections.{HoldsConnections, OpensConnection, PutsChannel, channel_at, channel_in, channel_of, channel_seen, connection_at, connection_of, limits_of, outstanding_on, running_in, seen_in, with_channel_in, with_running}
+pub use Rattle.channels.specs.CountedConsumers.{NumbersRise}
 pub use Rattle.channels.specs.CountedConsumers.{is_named, takes_from}
 pub use Rattle.channels.specs.Spans.{IsSpan, ReturnsSpan, settled_by}
 pub use Rattle.commands.specs.Commands.{Answers, AnswersHere, AnswersOn, Asks, CanCommand, CanFinish, ComesTo, Commands, DeliversHere, GivesHere, HasSpelling, IsAddressedBy, IsNotPerformed, SettlesHere, Side, Turns, UnlessPerformed, WantsNone, done_of, left_of, seen, state_of}
-pub use Rattle.commands.specs.Ended.{AllConsumersStay, AllRunStill, LeavesChannel, OtherConsumersStay, OthersRunStill, ReportsConsumersOn, ReportsEnd, cancels_one, ends_of, has_consumers}
+pub use Rattle.commands.specs.Ended.{AllConsumersStay, CancelsAt, EmptiesChannel, EmptiesConnection, LosesConnection, LosesConsumer, ReportsEnds, cancels_one, ends_of}
 pub use Rattle.commands.specs.Freed.{AreReturnedAt, AreReturnedFrom}
 pub use Rattle.commands.specs.Judged.{HasChannel, IsQueueIndex, JudgesLarge, opens_or_closes, refusal_by, refusal_of_number, refusal_seen, stop_of}
 pub use Rattle.commands.specs.Picked.{CannotTake, DeliversTo, IsKeptAs, IsNextPicked, IsPick, IsPickFrom, TakesAs, ReturnsConsumer, ReturnsTaking}

@@ -1,9 +1,10 @@
 -- What is outstanding, and what consumers take, stays within the queues that are there.
-use Rattle.commands.proofs.Names.{◌≡◌, ◌∙◌, ◌<◌, ◌++◌, ◌∷◌, [], ℕ, zero, suc, List, Bool, true, false, Option, None, map, not, inl, inr, refl, sym, ap, subst, arith, option_map, is_some, false≢true, same_Some, All-filter, All, Text, Topology, IsIn, new_channel, with_row, channels_up_to, Taker, Qos, Consume, is_named, open_in, consumer_in, with_qos, given_on, without_named, places_of, IsConsumerMade, outstanding_in, AreWithin, with_limit, Delivery, channel_of, seen_in, PutsChannel, OpensConnection, TakeWithin, IsPlaced, ArePlaced, Kept, topology_kept}
+use Rattle.commands.proofs.Names.{◌≡◌, ◌∙◌, ◌<◌, ◌++◌, ◌∷◌, [], ℕ, zero, suc, List, Bool, true, false, Option, None, map, not, inl, inr, refl, sym, ap, subst, arith, option_map, is_some, false≢true, same_Some, All-filter, All, Text, Topology, IsIn, new_channel, with_row, channels_up_to, Taker, Qos, Consume, is_named, open_in, consumer_in, with_qos, given_on, without_named, places_of, IsConsumerMade, outstanding_in, AreWithin, with_limit, Delivery, channel_of, seen_in, PutsChannel, OpensConnection, TakeWithin, NumbersRise, IsPlaced, ArePlaced, Kept, topology_kept}
 use Rattle.std.proofs.Common.{◌&&◌, ◌==◌, Some, length, if◌then◌else◌}
 use Rattle.model.specs.Broker as seen
 use Rattle.channels.specs.Open.{Open}
 use Rattle.channels.specs.declared.consumers.Consumer.{Consumer}
+use Rattle.channels.proofs.Numbering.{numbered_filter}
 
 -- one channel is another
 pub placed_put : (old new : Kept) (c h : ℕ) (ch : Option Open) → topology_kept new ≡ topology_kept old → PutsChannel old.connections c h ch new.connections
@@ -22,13 +23,16 @@ none_within t given e = subst (AreWithin t) (sym e) (λ i o lt. absurd (omega (a
 none_take : (t : Topology) (consumers : List Consumer) → consumers ≡ [] → TakeWithin t consumers
 none_take t consumers e = subst (TakeWithin t) (sym e) (λ i k lt. absurd (omega (arith, lt)))
 
+none_rise : (consumers : List Consumer) → consumers ≡ [] → NumbersRise consumers
+none_rise consumers e = subst NumbersRise (sym e) (zero, tt)
+
 -- a channel on which nothing is outstanding, and which has no consumer
 pub placed_new : (t : Topology) (ch : Open) → ch.given.outstanding ≡ [] → ch.given.consumers ≡ [] → IsPlaced t ch
-placed_new t ch e f = record { outstanding = none_within t ch.given.outstanding e; consumers = none_take t ch.given.consumers f }
+placed_new t ch e f = record { outstanding = none_within t ch.given.outstanding e; consumers = none_take t ch.given.consumers f; rise = none_rise ch.given.consumers f }
 
 -- a channel is as it was, for all that is outstanding on it and for all its consumers
 pub placed_as : (t : Topology) (ch new : Open) → IsPlaced t ch → new.given.outstanding ≡ ch.given.outstanding → new.given.consumers ≡ ch.given.consumers → IsPlaced t new
-placed_as t ch new placed e f = record { outstanding = subst (AreWithin t) (sym e) placed.outstanding; consumers = subst (TakeWithin t) (sym f) placed.consumers }
+placed_as t ch new placed e f = record { outstanding = subst (AreWithin t) (sym e) placed.outstanding; consumers = subst (TakeWithin t) (sym f) placed.consumers; rise = subst NumbersRise (sym f) placed.rise }
 
 -- this is the channel that is there
 pub placed_some : (t : Topology) (new : Open) → IsPlaced t new → (k : Open) → Some new ≡ Some k → IsPlaced t k
@@ -75,6 +79,7 @@ pub placed_given : (t : Topology) (ch mid : Open) (place arrival : ℕ) (by : Ta
 placed_given t ch mid place arrival by lt same_given same_consumers placed = record {
   outstanding = within_more t mid.given.outstanding _ lt (subst (AreWithin t) (sym same_given) placed.outstanding);
   consumers = subst (TakeWithin t) (sym same_consumers) placed.consumers;
+  rise = subst NumbersRise (sym same_consumers) placed.rise;
 }
 
 -- a qos leaves what is outstanding, and the consumers
@@ -112,11 +117,12 @@ place_more n (x ∷ xs) p lt all zero d l = all zero d (omega arith)
 place_more n (x ∷ xs) p lt all (suc k) d l = place_more n xs p lt (λ i e m. all (suc i) e (omega (arith, m))) k d (omega (arith, l))
 
 -- one consumer more, of a queue that is there
-pub placed_made : (t : Topology) (old new : Open) (place : ℕ) (m : Consume) (tag : Text) → place < length t.queues → IsConsumerMade old place m tag new → IsPlaced t old → IsPlaced t new
-placed_made t old new place m tag lt is_made placed = record {
+pub placed_made : (t : Topology) (old new : Open) (place : ℕ) (m : Consume) (tag : Text) → place < length t.queues → IsConsumerMade old place m tag new → NumbersRise new.given.consumers → IsPlaced t old → IsPlaced t new
+placed_made t old new place m tag lt is_made rise placed = record {
   outstanding = subst (AreWithin t) (sym is_made.outstanding) placed.outstanding;
   consumers = take_at (length t.queues) new.given.consumers
       (subst (All (λ (i : ℕ). i < length t.queues)) (sym is_made.places) (place_more (length t.queues) (places_of old.given.consumers) place lt (places_at (length t.queues) old.given.consumers placed.consumers)));
+  rise = rise;
 }
 
 -- without the consumers of a tag
@@ -124,6 +130,7 @@ pub placed_cancelled : (t : Topology) (ch : Open) (tag : Text) (consumer_room : 
 placed_cancelled t ch tag consumer_room placed = record {
   outstanding = placed.outstanding;
   consumers = All-filter (λ (k : Consumer). not (is_named tag k)) (λ (k : Consumer). k.queue < length t.queues) ch.given.consumers placed.consumers;
+  rise = (placed.rise.0, numbered_filter placed.rise.0 (λ (k : Consumer). not (is_named tag k)) ch.given.consumers placed.rise.1);
 }
 
 -- the consumer takes from a queue that is there

@@ -6,6 +6,7 @@ use Rattle.channels.specs.Moving.{place_now, outstanding_moved, consumer_moved, 
 use Rattle.channels.specs.declared.consumers.Consumer.{Consumer}
 use Rattle.channels.specs.RunningConnections.{Running}
 use Rattle.channels.proofs.ConnectionsMoving.{moved_channel, moved_connection}
+use Rattle.channels.proofs.Moving.{moved_numbered}
 
 -- ---- each of a list
 
@@ -105,6 +106,7 @@ module _ (old : Kept) (t : Topology) (places : List ℕ) (placed : ArePlaced old
   moved_placed c h ch is = record {
     outstanding = all_moved (λ (o : Delivery). o.queue < length t.queues) (outstanding_moved places) ch.given.outstanding (λ o i. within o.queue (outstanding_stands c h ch o is i));
     consumers = all_moved (λ (k : Consumer). k.queue < length t.queues) (consumer_moved places) ch.given.consumers (λ k i. within k.queue (consumer_stands c h ch k is i));
+    rise = let r = (placed c h ch is).rise in (r.0, moved_numbered places r.0 ch.given.consumers r.1);
   }
 
   pub placed_moved : (new : Kept) → topology_kept new ≡ t → new.connections ≡ connections_moved places old.connections → ArePlaced new

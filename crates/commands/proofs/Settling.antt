@@ -44,7 +44,7 @@ all_within c h tag multiple span s ch gone can is lent = gone_within s.topology 
 pub stays_placed : (c h tag room : ℕ) (multiple : Bool) (span : Span) (s : Store) (ch ch' : Open) → CanCommand c h s ch → IsSpan span tag multiple ch.given.outstanding → ch' ≡ without_settled ch span.tag span.multiple room → IsPlaced s.topology ch'
 stays_placed c h tag room multiple span s ch ch' can is e =
     subst (IsPlaced s.topology) (sym (forgotten span tag room multiple ch ch' is e))
-    (record { outstanding = kept_within s.topology tag multiple ch.given.outstanding can.placed.outstanding; consumers = can.placed.consumers })
+    (record { outstanding = kept_within s.topology tag multiple ch.given.outstanding can.placed.outstanding; consumers = can.placed.consumers; rise = can.placed.rise })
 
 -- the channel without what was settled is seen so
 without_seen : (tag room : ℕ) (multiple : Bool) (s s' : Store) (ch ch' : Open) → s'.topology ≡ s.topology → ch' ≡ without_settled ch tag multiple room

@@ -1,76 +1,78 @@
--- Which connections are still running, and which consumers still exist.
-use Rattle.std.specs.Prelude.{◌≡◌, ◌==◌, ◌&&◌, ℕ, Bool, false, None, IsSome, nat_lt, length, if◌then◌else◌}
-use Rattle.model.specs.Broker.{Channel, Consumer, Broker}
+-- Which consumers still exist after an event.
+use Rattle.std.specs.Prelude.{◌≡◌, ◌==◌, ◌&&◌, ℕ, Bool, false, Option, Some, None}
+use Rattle.model.specs.Topology.{IsIn}
+use Rattle.model.specs.Broker.{Broker}
+use Rattle.model.specs.Broker as seen
 use Rattle.model.specs.Consuming.{is_in_use}
+use Rattle.model.specs.declared.methods.Cancel.{Cancel}
 use Rattle.model.specs.declared.methods.Method.{Method}
 use Rattle.model.specs.declared.methods.Method.TheVariants.{BasicCancel}
 use Rattle.model.specs.declared.events.Event.{Event}
-use Rattle.model.specs.declared.events.Event.TheVariants.{Running, Command, TooLarge}
+use Rattle.model.specs.declared.events.Event.TheVariants.{Command, TooLarge}
 use Rattle.laws.specs.Consumers.{WasConsumer}
+use Rattle.channels.specs.Open.{Open}
+use Rattle.channels.specs.RunningConnections.{Running, channel_of, running_in}
+use Rattle.channels.specs.Seats.{IsTagged}
+use Rattle.channels.specs.declared.consumers.Consumer.{Consumer}
+use Rattle.channels.specs.declared.consumers.Seat.{Seat}
 use Rattle.replies.specs.Sent.{connection_of_event}
+use Rattle.commands.specs.State.{Kept, broker_of}
 use Rattle.commands.specs.declared.acted.Ends.{Ends}
-use Rattle.commands.specs.declared.acted.Ends.TheVariants.{Nothing, Consumers, Connection}
-
--- each connection but `c` that was running still is
-abbrev pub OthersRunStill : ℕ → Broker → Broker → Type 0
-OthersRunStill c old new = (d : ℕ) → (d == c) ≡ false → new.connection d ≡ None → old.connection d ≡ None
-
--- each connection that was running still is
-abbrev pub AllRunStill : Broker → Broker → Type 0
-AllRunStill old new = (d : ℕ) → new.connection d ≡ None → old.connection d ≡ None
-
--- What an `Ends` says of connections. `Connection`: `c` is no longer running, and each other that was running still is.
--- `Consumers` and `Nothing`: each that was running still is.
-abbrev pub ReportsEnd : ℕ → Ends → Broker → Broker → Type 0
-ReportsEnd c Connection old new = (new.connection c ≡ None) × OthersRunStill c old new
-ReportsEnd c Consumers old new = AllRunStill old new
-ReportsEnd c Nothing old new = AllRunStill old new
-
--- ---- consumers
+use Rattle.commands.specs.declared.acted.Ends.TheVariants as ended
 
 -- each consumer still exists
 abbrev pub AllConsumersStay : Broker → Broker → Type 0
-AllConsumersStay old new = (c h : ℕ) (k : Consumer) → WasConsumer old c h k → WasConsumer new c h k
+AllConsumersStay old new = (c h : ℕ) (k : seen.Consumer) → WasConsumer old c h k → WasConsumer new c h k
 
--- each consumer of another connection still exists
-abbrev pub OtherConsumersStay : ℕ → Broker → Broker → Type 0
-OtherConsumersStay c old new = (d h : ℕ) (k : Consumer) → (d == c) ≡ false → WasConsumer old d h k → WasConsumer new d h k
+-- The consumer at `s` of channel `h` of connection `c` is gone, and each other still exists.
+pub record LosesConsumer (c h : ℕ) (s : Seat) (old new : Kept) : Type 0 where
+  -- it took from the queue that `s` names
+  pub queue : (ch : Open) (k : Consumer) → channel_of old.connections c h ≡ Some ch → IsIn k ch.given.consumers → k.number ≡ s.number → k.queue ≡ s.queue
+  pub gone : (k : seen.Consumer) → WasConsumer (broker_of new) c h k → k.number ≡ s.number → ⊥
+  pub others : (d l : ℕ) (k : seen.Consumer) → (d == c && (l == h && k.number == s.number)) ≡ false → WasConsumer (broker_of old) d l k
+      → WasConsumer (broker_of new) d l k
 
--- A consumer of channel `h` of connection `c` is gone, and each consumer of another channel still exists.
-pub record LeavesChannel (c h : ℕ) (old new : Broker) : Type 0 where
-  pub consumer : Consumer
-  pub was : WasConsumer old c h consumer
-  pub gone : WasConsumer new c h consumer → ⊥
-  pub others : (d l : ℕ) (k : Consumer) → (d == c && l == h) ≡ false → WasConsumer old d l k → WasConsumer new d l k
+-- Channel `h` of connection `c` has no consumer now, and each consumer of another channel still exists.
+pub record EmptiesChannel (c h : ℕ) (old new : Broker) : Type 0 where
+  pub gone : (k : seen.Consumer) → WasConsumer new c h k → ⊥
+  pub others : (d l : ℕ) (k : seen.Consumer) → (d == c && l == h) ≡ false → WasConsumer old d l k → WasConsumer new d l k
 
--- What an `Ends` says of consumers after an event of channel `h` of connection `c`: each still exists; or one of the channel is gone; or `c` ended.
-abbrev pub ReportsConsumersOn : ℕ → ℕ → Ends → Broker → Broker → Type 0
-ReportsConsumersOn c h Nothing old new = AllConsumersStay old new
-ReportsConsumersOn c h Consumers old new = LeavesChannel c h old new
-ReportsConsumersOn c h Connection old new = OtherConsumersStay c old new
+-- Connection `c` has no consumer now, and each consumer of another connection still exists.
+pub record EmptiesConnection (c : ℕ) (old new : Broker) : Type 0 where
+  pub gone : (h : ℕ) (k : seen.Consumer) → WasConsumer new c h k → ⊥
+  pub others : (d l : ℕ) (k : seen.Consumer) → (d == c) ≡ false → WasConsumer old d l k → WasConsumer new d l k
 
--- the event ends consumers: one of its channel is gone; or its connection was running and begins anew. All others still exist.
-abbrev pub MayLeave : Event → Broker → Broker → Type 0
-MayLeave (Running c max k) old new = IsSome (old.connection c) × OtherConsumersStay c old new
-MayLeave (Command c h m content) old new = LeavesChannel c h old new
-MayLeave (TooLarge c h) old new = LeavesChannel c h old new
-MayLeave e old new = ⊥
+-- the consumers of connection `c` are gone, and `o` is what it was before; `None` if it was not running
+abbrev pub LosesConnection : ℕ → Option Running → Kept → Kept → Type 0
+LosesConnection c o old new = (o ≡ running_in old.connections c) × EmptiesConnection c (broker_of old) (broker_of new)
 
--- What an `Ends` says of consumers after an event: each still exists; or some are gone as `MayLeave` says; or the event's connection ended.
-abbrev pub ReportsConsumers : Event → Ends → Broker → Broker → Type 0
-ReportsConsumers e Nothing old new = AllConsumersStay old new
-ReportsConsumers e Consumers old new = MayLeave e old new
-ReportsConsumers e Connection old new = OtherConsumersStay (connection_of_event e) old new
+-- What an `Ends` says of consumers after an event of channel `h` of connection `c`.
+abbrev pub ReportsEnds : ℕ → ℕ → Ends → Kept → Kept → Type 0
+ReportsEnds c h ended.Nothing old new = AllConsumersStay (broker_of old) (broker_of new)
+ReportsEnds c h (ended.Consumer s) old new = LosesConsumer c h s old new
+ReportsEnds c h (ended.Channel o) old new = (o ≡ channel_of old.connections c h) × EmptiesChannel c h (broker_of old) (broker_of new)
+ReportsEnds c h (ended.Connection o) old new = LosesConnection c o old new
 
--- the channel has a consumer
-abbrev pub has_consumers : Channel → Bool
-has_consumers ch = nat_lt 0 (length ch.consumers)
+-- the channel that an event belongs to; 0 if it is not that of a command or of a publish
+abbrev pub channel_of_event : Event → ℕ
+channel_of_event (Command c h m content) = h
+channel_of_event (TooLarge c h) = h
+channel_of_event e = 0
 
--- the command cancels a consumer that the channel has
-abbrev pub cancels_one : Channel → Method → Bool
+-- The method cancels the consumer of this channel that waits at `s`.
+pub record CancelsAt (o : Option Open) (m : Method) (s : Seat) : Type 0 where
+  pub cancel : Cancel
+  pub is : m ≡ BasicCancel cancel
+  pub channel : Open
+  pub there : o ≡ Some channel
+  pub tagged : IsTagged channel cancel.consumer_tag s
+
+-- whether the method cancels a consumer that the channel has
+abbrev pub cancels_one : seen.Channel → Method → Bool
 cancels_one ch (BasicCancel m) = is_in_use m.consumer_tag ch.consumers
 cancels_one ch _ = false
 
--- what an event that ends no connection ends: consumers if `leaves`, otherwise nothing
-abbrev pub ends_of : Bool → Ends
-ends_of leaves = if leaves then Consumers else Nothing
+-- what an event ends that cancels the consumer at `s`, or none
+abbrev pub ends_of : Option Seat → Ends
+ends_of None = ended.Nothing
+ends_of (Some s) = ended.Consumer s

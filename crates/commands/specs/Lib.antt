@@ -1,4 +1,5 @@
 pub mod Commands
+pub mod Counted
 pub mod Ended
 pub mod Freed
 pub mod Judged
@@ -7,3 +8,4 @@ pub mod Picked
 pub mod NewConsumers
 pub mod State
 pub mod Steps
+pub mod Woken

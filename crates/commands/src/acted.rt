@@ -1,17 +1,19 @@
 //! The outcome of an event.
 
+use channels::{Channel, RunningConnection, Seat};
 use replies::Step;
 
 /// What an event ends.
-#[derive(Clone, Copy, PartialEq, Eq, Debug, Drop)]
+#[derive(Drop)]
 pub enum Ends {
-    /// Nothing: each connection that was running still is, and each consumer still exists.
+    /// Nothing: each consumer still exists.
     Nothing,
-    /// At least one consumer of the event's channel; or, if a running connection begins anew, all consumers that it had. Each connection
-    /// that was running still is.
-    Consumers,
-    /// The event's connection, with its consumers. Each other connection that was running still is.
-    Connection,
+    /// A consumer of the event's channel, which was cancelled.
+    Consumer(Seat),
+    /// All consumers of the event's channel: the channel as it was.
+    Channel(Option<Channel>),
+    /// All consumers of the event's connection, which is gone or begins anew: the connection as it was, if it was running.
+    Connection(Option<RunningConnection>),
 }
 
 /// The outcome of an event.
@@ -28,7 +30,7 @@ impl Acted {
     ghost use Rattle.commands.specs.Ended.{ends_of};
     ghost use Rattle.commands.specs.declared.acted.Ends.TheVariants as ended;
 
-    /// Makes the outcome of an event that ends no connection and no consumer.
+    /// Makes the outcome of an event that ends no consumer.
     pub(crate) fn staying(step: Step) -> Acted
         ensures { result ≡ record { step = step; ends = ended.Nothing } }
     {
@@ -38,14 +40,13 @@ impl Acted {
         }
     }
 
-    /// Makes the outcome of an event that ends no connection, and ends consumers if `leaves`.
-    pub(crate) fn leaving(step: Step, leaves: bool) -> Acted
-        ensures { result ≡ record { step = step; ends = ends_of leaves } }
+    /// Makes the outcome of an event that ends the consumer at `seat`, if any, and no other.
+    pub(crate) fn ending(step: Step, seat: Option<Seat>) -> Acted
+        ensures { result ≡ record { step = step; ends = ends_of seat } }
     {
-        let ends = if leaves {
-            Ends::Consumers
-        } else {
-            Ends::Nothing
+        let ends = match seat {
+            Some(seat) => Ends::Consumer(seat),
+            None => Ends::Nothing,
         };
         Acted { step, ends }
     }

@@ -79,7 +79,7 @@ pub(crate) fn on_channel<'a>(
     ensures addressed { HasSpelling depot.old method.now → IsAddressedBy id.connection result }
     // The frame; a command that was not performed changes nothing.
     ensures topology { depot.new.topology ≡ depot.old.topology }
-    ensures placed { IsPlaced depot.old.topology channel.new }
+    ensures in_range { IsPlaced depot.old.topology channel.new }
     ensures kept { UnlessPerformed result ((depot.new ≡ depot.old) × (channel.new ≡ channel.old)) }
     // A rejection that requeues never fails to allocate, and nothing is opened or closed here.
     ensures quiet { is_requeueing method.now ≡ true → WantsNone result }

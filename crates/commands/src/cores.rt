@@ -12,6 +12,7 @@ mod running;
 
 use crate::acted::{Acted, Ends};
 use crate::commands::{Done, Left, on_channel, on_none};
+use crate::counts::Counts;
 use crate::refusals::{Refusal, Stop, judge_large};
 use channels::{RunningConnections, ghost_lent_channels_are_put};
 use depot::Depot;
@@ -64,7 +65,8 @@ impl Core {
     ghost use Rattle.commands.specs.State.{broker_of, topology_kept, nothing};
     ghost use Rattle.commands.specs.Steps.{ActsWith, AddressesLeft, AddressesOwn, AddressesReplies, FinishesOn, IsIgnoredOn, IsRequeuedOn};
     ghost use Rattle.commands.specs.Commands.{AnswersOn, CanFinish, IsAddressedBy, IsNotPerformed, UnlessPerformed, WantsNone};
-    ghost use Rattle.commands.specs.Ended.{AllRunStill, ReportsConsumers, ReportsConsumersOn, ReportsEnd};
+    ghost use Rattle.commands.specs.Counted.{AreCounted};
+    ghost use Rattle.commands.specs.Ended.{channel_of_event, ReportsEnds};
     ghost use Rattle.commands.specs.Judged.{is_requeueing, opens_or_closes, IsAsked, IsLargeIgnored, WantsNoMemory, JudgesLarge};
     ghost use Rattle.replies.specs.Sent.{AreAddressed, connection_of_event};
 
@@ -101,7 +103,6 @@ impl Core {
         ensures addressed { IsMethod method.now → AreCarried (broker_of self.old) → IfSome result (IsAddressedBy id.connection) }
         // The frame; a command that was not performed changes nothing.
         ensures topology { topology_kept self.new ≡ topology_kept self.old }
-        ensures running { AllRunStill (broker_of self.old) (broker_of self.new) }
         ensures kept { IfSome result (λ r. UnlessPerformed r (self.new ≡ self.old)) }
         // A rejection that requeues never fails to allocate, and nothing is opened or closed here.
         ensures quiet { is_requeueing method.now ≡ true → IfSome result WantsNone }
@@ -135,16 +136,22 @@ impl Core {
     }
 
     /// Does `left`, what a command asks for that needs more than its channel. Fails only if an allocation fails; nothing has changed then.
-    fn finish(&mut self, alloc: Global, id: ChannelId, left: Left<'_>) -> Result<Acted, AllocError>
+    fn finish<N: Counts>(
+        &mut self,
+        alloc: Global,
+        id: ChannelId,
+        left: Left<'_>,
+        counts: &N,
+    ) -> Result<Acted, AllocError>
         requires agreed { IsAgreed (broker_of self.old) }
+        requires counted { AreCounted self.old (N.is_count counts.now) }
         requires runs { IsSome ((broker_of self.old).connection id.connection) }
         requires can { CanFinish (topology_kept self.old) ((broker_of self.old).channel id.connection id.number) left }
         // The promise: the model's step for the method, whose sends go to this connection.
         ensures ok { IfOk result (λ a. FinishesOn self.old id.connection id.number left.entry a.step self.new) }
         ensures addressed { IfOk result (λ a. AddressesLeft self.old id.connection id.number left.entry a.step.sends.items) }
         // What ends.
-        ensures ended { IfOk result (λ a. ReportsEnd id.connection a.ends (broker_of self.old) (broker_of self.new)) }
-        ensures stay { IfOk result (λ a. ReportsConsumersOn id.connection id.number a.ends (broker_of self.old) (broker_of self.new)) }
+        ensures ended { IfOk result (λ a. ReportsEnds id.connection id.number a.ends self.old self.new) }
         // The frame; a failure changes nothing.
         ensures topology { topology_kept self.new ≡ topology_kept self.old }
         ensures err { OnErr result (self.new ≡ self.old) }
@@ -155,39 +162,33 @@ impl Core {
                 let step = self.open_channel(alloc, connection, number)?;
                 Ok(Acted::staying(step))
             }
-            Left::AnswerClose => {
-                let leaves = self.has_consumers(id);
-                let step = self.answer_close(alloc, connection, number)?;
-                Ok(Acted::leaving(step, leaves))
-            }
+            Left::AnswerClose => self.answer_close(alloc, connection, number),
             Left::AnswerClosing => {
                 let step = self.answer_closing(alloc, connection, number)?;
                 Ok(Acted::staying(step))
             }
-            Left::EndChannel => {
-                let leaves = self.has_consumers(id);
-                let step = self.end_channel(alloc, connection, number);
-                Ok(Acted::leaving(step, leaves))
-            }
+            Left::EndChannel => Ok(self.end_channel(alloc, connection, number)),
             Left::CloseConnection => {
                 self.close_connection(alloc, connection, connection_close_ok(connection))
             }
             Left::FindQueue(place, declare) => {
-                let step = self.find_queue(alloc, connection, number, place, declare)?;
+                let step = self.find_queue(alloc, connection, number, place, declare, counts)?;
                 Ok(Acted::staying(step))
             }
         }
     }
 
     /// Performs or refuses a command; does nothing if its connection is not running. Fails only if an allocation fails; nothing has changed then.
-    fn command(
+    fn command<N: Counts>(
         &mut self,
         alloc: Global,
         id: ChannelId,
         method: &Method,
         content: &Option<Content>,
+        counts: &N,
     ) -> Result<Acted, AllocError>
-        requires { IsAgreed (broker_of self.old) }
+        requires agreed { IsAgreed (broker_of self.old) }
+        requires counted { AreCounted self.old (N.is_count counts.now) }
         // The promise: the model's step for the command.
         ensures ok { IfOk result (λ a. ActsWith self.old (event_is.Command id.connection id.number method.now content.now) a.step self.new) }
         // A rejection that requeues and an ignored command never fail.
@@ -195,17 +196,16 @@ impl Core {
         ensures ignored { IsIgnoredOn self.old id.connection id.number method.now → IsOk result }
         ensures addressed { IfOk result (λ a. AddressesReplies (broker_of self.old) id.connection method.now a.step.sends.items) }
         // What ends.
-        ensures ended { IfOk result (λ a. ReportsEnd id.connection a.ends (broker_of self.old) (broker_of self.new)) }
-        ensures stay { IfOk result (λ a. ReportsConsumersOn id.connection id.number a.ends (broker_of self.old) (broker_of self.new)) }
+        ensures ended { IfOk result (λ a. ReportsEnds id.connection id.number a.ends self.old self.new) }
         // The frame; a failure changes nothing.
         ensures topology { topology_kept self.new ≡ topology_kept self.old }
         ensures err { OnErr result (self.new ≡ self.old) }
     {
-        let cancels = self.cancels(id, method);
+        let cancelled = self.cancelled(id, method);
         match self.decide(alloc, id, method, content) {
             None => Ok(Acted::staying(Step::nothing(alloc))),
-            Some(Ok(Done::Performed(step))) => Ok(Acted::leaving(step, cancels)),
-            Some(Ok(Done::Left(left))) => self.finish(alloc, id, left),
+            Some(Ok(Done::Performed(step))) => Ok(Acted::ending(step, cancelled)),
+            Some(Ok(Done::Left(left))) => self.finish(alloc, id, left, counts),
             Some(Err(Stop::Refused(refusal))) => {
                 self.refuse(alloc, id.connection, id.number, method.ids(), refusal)
             }
@@ -227,8 +227,7 @@ impl Core {
         ensures ignored { IsLargeIgnored (broker_of self.old) connection channel ((broker_of self.old).connection connection) → IsOk result }
         ensures addressed { IfOk result (λ a. AreAddressed connection a.step.sends.items) }
         // What ends.
-        ensures ended { IfOk result (λ a. ReportsEnd connection a.ends (broker_of self.old) (broker_of self.new)) }
-        ensures stay { IfOk result (λ a. ReportsConsumersOn connection channel a.ends (broker_of self.old) (broker_of self.new)) }
+        ensures ended { IfOk result (λ a. ReportsEnds connection channel a.ends self.old self.new) }
         // The frame; a failure changes nothing.
         ensures topology { topology_kept self.new ≡ topology_kept self.old }
         ensures err { OnErr result (self.new ≡ self.old) }
@@ -239,19 +238,24 @@ impl Core {
         }
     }
 
-    /// Performs `event`, and returns what it sends and notes, and what it ends. Consumers are reported as ended only if one on the event's channel
-    /// ended, or if a running connection begins anew. If the event's method can be encoded, each send is for the event's own connection, with a
-    /// method that can be encoded. Fails only if an allocation fails; nothing has changed then. The events `Open`, `First`, `Lose`, `Pause` and
-    /// `Resume`, an ignored command, and a rejection that requeues never allocate.
-    pub fn step(&mut self, alloc: Global, event: &Event) -> Result<Acted, AllocError>
+    /// Performs `event`, and returns what it sends and notes, and which consumers it ends; `counts` knows how many consumers each queue has. If the
+    /// event's method can be encoded, each send is for the event's own connection, with a method that can be encoded. Fails only if an allocation
+    /// fails; nothing has changed then. The events `Open`, `First`, `Lose`, `Pause` and `Resume`, an ignored command, and a rejection that requeues
+    /// never allocate.
+    pub fn step<N: Counts>(
+        &mut self,
+        alloc: Global,
+        event: &Event,
+        counts: &N,
+    ) -> Result<Acted, AllocError>
         requires agreed { IsAgreed (broker_of self.old) }
+        requires counted { AreCounted self.old (N.is_count counts.now) }
         requires asked { IsAsked event.now }
         // The promise: the model's step, whose sends go to the event's connection.
         ensures ok { IfOk result (λ a. ActsWith self.old event.now a.step self.new) }
         ensures addressed { IfOk result (λ a. AddressesOwn (broker_of self.old) event.now a.step.sends.items) }
-        // What ends: whether the event's connection is still running, and whose consumers may be gone.
-        ensures ended { IfOk result (λ a. ReportsEnd (connection_of_event event.now) a.ends (broker_of self.old) (broker_of self.new)) }
-        ensures stay { IfOk result (λ a. ReportsConsumers event.now a.ends (broker_of self.old) (broker_of self.new)) }
+        // Which consumers end.
+        ensures ended { IfOk result (λ a. ReportsEnds (connection_of_event event.now) (channel_of_event event.now) a.ends self.old self.new) }
         // The frame; a failure changes nothing, and the events that never allocate don't fail.
         ensures topology { topology_kept self.new ≡ topology_kept self.old }
         ensures err { OnErr result (self.new ≡ self.old) }
@@ -264,9 +268,11 @@ impl Core {
                 channel_max,
                 channels,
             } => {
-                let ran = self.runs(*connection);
-                self.open(alloc, *connection, *channel_max, *channels)?;
-                Ok(Acted::leaving(Step::nothing(alloc), ran))
+                let before = self.open(alloc, *connection, *channel_max, *channels)?;
+                Ok(Acted {
+                    step: Step::nothing(alloc),
+                    ends: Ends::Connection(before),
+                })
             }
             Event::Command {
                 connection,
@@ -278,7 +284,7 @@ impl Core {
                     connection: *connection,
                     number: *channel,
                 };
-                self.command(alloc, id, method, content)
+                self.command(alloc, id, method, content, counts)
             }
             Event::TooLarge {
                 connection,
@@ -293,10 +299,10 @@ impl Core {
                 self.close_connection(alloc, *connection, send)
             }
             Event::Lose { connection } => {
-                self.go(*connection);
+                let before = self.go(*connection);
                 Ok(Acted {
                     step: Step::nothing(alloc),
-                    ends: Ends::Connection,
+                    ends: Ends::Connection(before),
                 })
             }
             Event::Pause { connection } => {

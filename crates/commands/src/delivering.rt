@@ -28,7 +28,7 @@ pub(crate) fn deliver_on(
     ensures none { IfOk result (λ s. s.sends.items ≡ [] → (depot.new ≡ depot.old) × (channel.new ≡ channel.old)) }
     // The frame; a failure changes nothing.
     ensures topology { depot.new.topology ≡ depot.old.topology }
-    ensures placed { IsPlaced depot.old.topology channel.new }
+    ensures in_range { IsPlaced depot.old.topology channel.new }
     ensures err { OnErr result ((depot.new ≡ depot.old) × (channel.new ≡ channel.old)) }
 {
     let Some(consumer) = channel.taker(pick.number) else {

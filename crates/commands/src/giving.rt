@@ -34,7 +34,7 @@ pub(crate) fn give_out(
     ensures notes { OnOk result (NotesGiving depot.old index no_ack notes.old.items notes.new.items) }
     // The frame; a failure changes nothing but the capacity of `notes`.
     ensures topology { depot.new.topology ≡ depot.old.topology }
-    ensures placed { IsPlaced depot.old.topology channel.new }
+    ensures in_range { IsPlaced depot.old.topology channel.new }
     ensures err { OnErr result ((depot.new ≡ depot.old) × (channel.new ≡ channel.old)) }
 {
     depot.ghost_is_named(index);

@@ -7,6 +7,7 @@
 mod acted;
 mod commands;
 mod cores;
+mod counts;
 mod delivering;
 mod freeing;
 mod giving;
@@ -15,4 +16,5 @@ mod refusals;
 
 pub use acted::{Acted, Ends};
 pub use cores::Core;
+pub use counts::Counts;
 pub use picks::{Pick, Taking};

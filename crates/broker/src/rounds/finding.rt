@@ -1,30 +1,17 @@
-//! What a pick finds at a waiter.
+//! Who takes from a queue, and who can take a message from it now.
 
-ghost use Rattle.std.specs.Prelude.{◌≡◌, ◌<◌, false, length};
-ghost use Rattle.depot.specs.Store.{HasReady};
-ghost use Rattle.commands.specs.State.{topology_kept};
-ghost use Rattle.broker.specs.declared.rounds.finding.Found.TheVariants.{Over};
-ghost use Rattle.broker.specs.Rounds.{is_able, is_of, FindsWaiter};
+ghost use Rattle.std.specs.Prelude.{◌≡◌};
+ghost use Rattle.broker.specs.Lines.{is_consumer};
+ghost use Rattle.broker.specs.Rounds.{is_of};
 
-use crate::rounds::waiters::Waiter;
 use commands::{Core, Pick, Taking};
+use waiting_lines::{Takers, Tests};
 
-/// What a pick finds at a waiter in the round of a queue that has a ready message.
-#[derive(Clone, Copy, PartialEq, Eq, Debug, Drop)]
-pub(crate) enum Found {
-    /// The waiter is awake, and a delivery can be made to its consumer.
-    Able,
-    /// The waiter is awake, and its consumer can't take a message now.
-    Unable,
-    /// The waiter can be passed over: it sleeps, or its consumer is gone or takes from another queue.
-    Over,
-}
-
-/// Returns whether a delivery can be made to the waiter's consumer.
-pub(crate) fn is_able(found: Found) -> bool
-    ensures { result ≡ is_able found }
+/// Returns whether the two are the same consumer.
+pub(crate) fn is_same(one: Pick, other: Pick) -> bool
+    ensures { result ≡ is_consumer one other }
 {
-    matches!(found, Found::Able)
+    one.connection == other.connection && one.channel == other.channel && one.number == other.number
 }
 
 /// Returns whether the consumer `pick` exists and takes from the queue at index `queue`.
@@ -39,27 +26,42 @@ pub(crate) fn is_of(core: &Core, queue: usize, pick: Pick) -> bool
     }
 }
 
-/// Returns `found` if `place` is the queue's index, otherwise [`Found::Over`].
-fn found_at(place: usize, queue: usize, found: Found) -> Found
-    ensures here { place ≡ queue → result ≡ found }
-    ensures elsewhere { (place ≡ queue → ⊥) → result ≡ Over }
-{
-    if place == queue { found } else { Found::Over }
+/// The test of one consumer.
+#[derive(Clone, Copy, Debug, Drop)]
+pub(crate) struct Same {
+    pub pick: Pick,
 }
 
-/// Returns what a pick finds at `waiter` in the round of the queue at index `queue`. Looks the consumer up once.
-pub(crate) fn find(core: &Core, queue: usize, waiter: Waiter) -> Found
-    requires within { queue < length (topology_kept core.now).queues }
-    requires ready { HasReady core.now.store queue }
-    ensures { FindsWaiter core.now queue waiter result }
-{
-    if waiter.asleep {
-        return Found::Over;
+impl Tests<Pick> for Same {
+    ghost use Rattle.broker.specs.Lines.{is_consumer};
+
+    ghost passes = { λ s p. is_consumer p s.pick };
+
+    fn passes(&self, item: &Pick) -> bool {
+        is_same(*item, self.pick)
     }
-    core.ghost_is_kept();
-    match core.taking(waiter.pick) {
-        Taking::Gone => Found::Over,
-        Taking::Nothing(place) => found_at(place, queue, Found::Unable),
-        Taking::From(place) => found_at(place, queue, Found::Able),
+}
+
+/// The consumers of the queue at index `queue`, which has a ready message.
+#[derive(Drop)]
+pub(crate) struct QueueTakers<'a> {
+    pub core: &'a Core,
+    pub queue: usize,
+}
+
+impl Takers<Pick> for QueueTakers<'_> {
+    ghost use Rattle.broker.specs.Rounds.{CanTakeFrom, CannotTakeFrom};
+
+    ghost can = { λ t p. CanTakeFrom t.core.now t.queue p };
+
+    ghost cannot = { λ t p. CannotTakeFrom t.core.now t.queue p };
+
+    fn may_take(&self, item: &Pick) -> bool {
+        self.core.ghost_is_kept();
+        match self.core.taking(*item) {
+            Taking::Gone => false,
+            Taking::Nothing(_) => false,
+            Taking::From(place) => place == self.queue,
+        }
     }
 }

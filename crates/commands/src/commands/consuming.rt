@@ -27,13 +27,14 @@ pub(crate) fn consume(
     requires { IsPlaced depot.now.topology channel.old }
     ensures commands { CommandsPlain id.connection id.number depot.now channel.old (BasicConsume consume.now) result depot.now channel.new }
     ensures addressed { IfOk result (λ s. IsMethod (BasicConsume consume.now) → AreAddressed id.connection s.sends.items) }
-    ensures placed { IsPlaced depot.now.topology channel.new }
+    ensures in_range { IsPlaced depot.now.topology channel.new }
     ensures err { OnErr result (channel.new ≡ channel.old) }
 {
     let place = check_consume(depot.topology(), channel, consume)?;
     let mut step = Step::nothing(alloc);
     step.sends.reserve_exact(1)?;
     let tag = channel.consume(alloc, place, consume)?;
+    channel.ghost_numbers_rise();
     answer_consume(&mut step, id.connection, id.number, consume.no_wait, tag);
     Ok(step)
 }
@@ -48,7 +49,7 @@ pub(crate) fn cancel(
 ) -> Result<Step, Stop>
     ensures commands { CommandsOnChannel id.connection id.number channel.old (BasicCancel cancel.now) result channel.new }
     ensures addressed { IfOk result (λ s. IsMethod (BasicCancel cancel.now) → AreAddressed id.connection s.sends.items) }
-    ensures placed { (t : Topology) → IsPlaced t channel.old → IsPlaced t channel.new }
+    ensures in_range { (t : Topology) → IsPlaced t channel.old → IsPlaced t channel.new }
     ensures err { OnErr result (channel.new ≡ channel.old) }
 {
     let step = answer_cancel(alloc, id.connection, id.number, cancel)?;

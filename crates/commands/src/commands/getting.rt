@@ -29,7 +29,7 @@ pub(crate) fn get(
     ensures addressed { IfOk result (λ s. HasSpelling depot.old (BasicGet get.now) → AreAddressed id.connection s.sends.items) }
     // The frame; a failure changes nothing.
     ensures topology { depot.new.topology ≡ depot.old.topology }
-    ensures placed { IsPlaced depot.old.topology channel.new }
+    ensures in_range { IsPlaced depot.old.topology channel.new }
     ensures err { OnErr result ((depot.new ≡ depot.old) × (channel.new ≡ channel.old)) }
 {
     let place = check_queue(depot.topology(), &get.queue)?;

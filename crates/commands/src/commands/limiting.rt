@@ -23,7 +23,7 @@ pub(crate) fn limit(
 ) -> Result<Step, Stop>
     ensures commands { CommandsOnChannel id.connection id.number channel.old (BasicQos qos.now) result channel.new }
     ensures addressed { IfOk result (λ s. AreAddressed id.connection s.sends.items) }
-    ensures placed { (t : Topology) → IsPlaced t channel.old → IsPlaced t channel.new }
+    ensures in_range { (t : Topology) → IsPlaced t channel.old → IsPlaced t channel.new }
     ensures err { OnErr result (channel.new ≡ channel.old) }
 {
     check_implemented(qos.prefetch_size == 0)?;

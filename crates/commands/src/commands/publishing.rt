@@ -27,7 +27,7 @@ pub(crate) fn select(
 ) -> Result<Step, Stop>
     ensures commands { CommandsOnChannel id.connection id.number channel.old (ConfirmSelect no_wait) result channel.new }
     ensures addressed { IfOk result (λ s. AreAddressed id.connection s.sends.items) }
-    ensures placed { (t : Topology) → IsPlaced t channel.old → IsPlaced t channel.new }
+    ensures in_range { (t : Topology) → IsPlaced t channel.old → IsPlaced t channel.new }
     ensures err { OnErr result (channel.new ≡ channel.old) }
 {
     let step = answer_select(alloc, id.connection, id.number, no_wait)?;
@@ -68,7 +68,7 @@ pub(crate) fn publish(
     ensures addressed { IfOk result (λ s. IsMethod (BasicPublish publish.now) → AreAddressed id.connection s.sends.items) }
     // The frame; a failure changes nothing.
     ensures topology { depot.new.topology ≡ depot.old.topology }
-    ensures placed { IsPlaced depot.old.topology channel.new }
+    ensures in_range { IsPlaced depot.old.topology channel.new }
     ensures err { OnErr result ((depot.new ≡ depot.old) × (channel.new ≡ channel.old)) }
 {
     let none = Content {

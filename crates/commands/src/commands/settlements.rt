@@ -31,7 +31,7 @@ pub(crate) fn ack(
     ensures addressed { IfOk result (λ s. AreAddressed id.connection s.sends.items) }
     // The frame; a failure changes nothing.
     ensures topology { depot.new.topology ≡ depot.old.topology }
-    ensures placed { IsPlaced depot.old.topology channel.new }
+    ensures in_range { IsPlaced depot.old.topology channel.new }
     ensures err { OnErr result ((depot.new ≡ depot.old) × (channel.new ≡ channel.old)) }
 {
     let span = check_settling(channel, ack.delivery_tag, ack.multiple)?;
@@ -55,7 +55,7 @@ fn requeue(
     ensures settles { OnOk result (RequeuesHere id.connection id.number depot.old channel.old tag multiple depot.new channel.new) }
     // The frame; a refusal changes nothing.
     ensures topology { depot.new.topology ≡ depot.old.topology }
-    ensures placed { IsPlaced depot.old.topology channel.new }
+    ensures in_range { IsPlaced depot.old.topology channel.new }
     ensures err { OnErr result ((depot.new ≡ depot.old) × (channel.new ≡ channel.old)) }
 {
     let span = check_settling(channel, tag, multiple)?;
@@ -80,7 +80,7 @@ pub(crate) fn nack(
     ensures addressed { IfOk result (λ s. AreAddressed id.connection s.sends.items) }
     // The frame; a failure changes nothing, and a requeueing nack never fails to allocate.
     ensures topology { depot.new.topology ≡ depot.old.topology }
-    ensures placed { IsPlaced depot.old.topology channel.new }
+    ensures in_range { IsPlaced depot.old.topology channel.new }
     ensures err { OnErr result ((depot.new ≡ depot.old) × (channel.new ≡ channel.old)) }
     ensures quiet { nack.now.requeue ≡ true → WantsNone result }
 {
@@ -121,7 +121,7 @@ pub(crate) fn recover(
     ensures addressed { IfOk result (λ s. AreAddressed id.connection s.sends.items) }
     // The frame; a failure changes nothing.
     ensures topology { depot.new.topology ≡ depot.old.topology }
-    ensures placed { IsPlaced depot.old.topology channel.new }
+    ensures in_range { IsPlaced depot.old.topology channel.new }
     ensures err { OnErr result ((depot.new ≡ depot.old) × (channel.new ≡ channel.old)) }
 {
     check_implemented(is_requeue)?;

@@ -9,7 +9,7 @@ use replies::{Step, channel_close, channel_close_ok, connection_close};
 use std::alloc::{AllocError, Global};
 
 impl Core {
-    ghost use Rattle.std.specs.Prelude.{◌≡◌, [], None, Some, true, false, IsSome, IfOk, IsOk, OnOk, OnErr};
+    ghost use Rattle.std.specs.Prelude.{◌≡◌, [], ℕ, None, Some, true, false, IsSome, IfOk, IsOk, OnErr};
     ghost use Rattle.model.specs.Agreement.{IsAgreed};
     ghost use Rattle.model.specs.Grammar.{ids};
     ghost use Rattle.model.specs.Sending.{IsAddressed};
@@ -19,12 +19,12 @@ impl Core {
     ghost use Rattle.commands.specs.State.{broker_of, channel_on, topology_kept};
     ghost use Rattle.commands.specs.Steps.{AnswersClose, PerformsOn, RefusesOn, ReplacesChannel, SendsOne};
     ghost use Rattle.channels.specs.Open.{Open};
-    ghost use Rattle.commands.specs.Ended.{OtherConsumersStay, ReportsConsumersOn, ReportsEnd};
+    ghost use Rattle.commands.specs.Ended.{ReportsEnds};
     ghost use Rattle.commands.specs.declared.acted.Ends.TheVariants as ended;
     ghost use Rattle.commands.specs.Judged.{refusal_seen, HasChannel};
     ghost use Rattle.replies.specs.Sent.{AreAddressed};
 
-    /// Sends `send`, a close or close-ok, and removes the connection. Consumers of other connections stay.
+    /// Sends `send`, a close or close-ok, and removes the connection.
     pub(crate) fn close_connection(
         &mut self,
         alloc: Global,
@@ -36,24 +36,23 @@ impl Core {
         // The promise: `send` is all that is sent, and the connection is gone.
         ensures ok { IfOk result (λ a. SendsOne a.step send (with_gone (broker_of self.old) connection) self.new) }
         ensures addressed { IfOk result (λ a. AreAddressed connection a.step.sends.items) }
-        // What ends.
-        ensures ended { IfOk result (λ a. ReportsEnd connection a.ends (broker_of self.old) (broker_of self.new)) }
-        ensures reported { IfOk result (λ a. a.ends ≡ ended.Connection) }
-        ensures stay { OnOk result (OtherConsumersStay connection (broker_of self.old) (broker_of self.new)) }
+        // What ends: the connection's consumers, whichever of its channels asked for it.
+        ensures ended { IfOk result (λ a. (h : ℕ) → ReportsEnds connection h a.ends self.old self.new) }
         // The frame; a failure changes nothing.
         ensures topology { topology_kept self.new ≡ topology_kept self.old }
         ensures err { OnErr result (self.new ≡ self.old) }
     {
         let step = Step::sending(alloc, send)?;
-        self.go(connection);
+        let before = self.go(connection);
         Ok(Acted {
             step,
-            ends: Ends::Connection,
+            ends: Ends::Connection(before),
         })
     }
 
-    /// Requeues the unacknowledged deliveries of the channel, and replaces it by `channel`, or removes it if that is `None`.
-    fn clear(&mut self, connection: u64, number: u16, channel: Option<Channel>)
+    /// Requeues the unacknowledged deliveries of the channel, and replaces it by `channel`, or removes it if that is `None`. Returns the channel as it
+    /// was.
+    fn clear(&mut self, connection: u64, number: u16, channel: Option<Channel>) -> Option<Channel>
         // What the caller knows: the channel is open, and the new one holds nothing and has no consumer.
         requires agreed { IsAgreed (broker_of self.old) }
         requires there { IsSome ((broker_of self.old).channel connection number) }
@@ -61,11 +60,13 @@ impl Core {
         requires free { (k : Open) → channel ≡ Some k → k.given.consumers ≡ [] }
         // The channel is replaced, and what it held is ready again.
         ensures cleared { ReplacesChannel self.old connection number channel self.new }
+        // What ends: its consumers.
+        ensures ended { ReportsEnds connection number (ended.Channel result) self.old self.new }
         ensures topology { topology_kept self.new ≡ topology_kept self.old }
     {
         let held = self.connections.outstanding(connection, number);
         self.depot.requeue(ChannelId { connection, number }, held);
-        self.connections.put(connection, number, channel);
+        self.connections.put(connection, number, channel)
     }
 
     /// Sends `send`, a close, on the channel. The channel awaits close-ok then, and its unacknowledged messages are ready again.
@@ -75,20 +76,25 @@ impl Core {
         connection: u64,
         channel: u16,
         send: Send,
-    ) -> Result<Step, AllocError>
+    ) -> Result<Acted, AllocError>
         requires agreed { IsAgreed (broker_of self.old) }
         requires there { IsSome ((broker_of self.old).channel connection channel) }
         requires addressed { IsAddressed connection send }
         // The promise: `send` is all that is sent, and the channel awaits close-ok.
-        ensures ok { IfOk result (λ s. SendsOne s send (with_closing (broker_of self.old) connection channel) self.new) }
-        ensures addressed { IfOk result (λ s. AreAddressed connection s.sends.items) }
+        ensures ok { IfOk result (λ a. SendsOne a.step send (with_closing (broker_of self.old) connection channel) self.new) }
+        ensures addressed { IfOk result (λ a. AreAddressed connection a.step.sends.items) }
+        // What ends.
+        ensures ended { IfOk result (λ a. ReportsEnds connection channel a.ends self.old self.new) }
         // The frame; a failure changes nothing.
         ensures topology { topology_kept self.new ≡ topology_kept self.old }
         ensures err { OnErr result (self.new ≡ self.old) }
     {
         let step = Step::sending(alloc, send)?;
-        self.clear(connection, channel, Some(Channel::closing(alloc)));
-        Ok(step)
+        let before = self.clear(connection, channel, Some(Channel::closing(alloc)));
+        Ok(Acted {
+            step,
+            ends: Ends::Channel(before),
+        })
     }
 
     /// Handles the client's `channel.close`: replies with close-ok, and removes the channel.
@@ -97,20 +103,25 @@ impl Core {
         alloc: Global,
         connection: u64,
         channel: u16,
-    ) -> Result<Step, AllocError>
+    ) -> Result<Acted, AllocError>
         requires agreed { IsAgreed (broker_of self.old) }
         requires there { IsSome ((broker_of self.old).channel connection channel) }
         requires closing { (channel_on self.old connection channel).is_closing ≡ false }
         // The promise: close-ok is all that is sent, and the channel is gone.
-        ensures ok { IfOk result (λ s. AnswersClose self.old connection channel s self.new) }
-        ensures addressed { IfOk result (λ s. AreAddressed connection s.sends.items) }
+        ensures ok { IfOk result (λ a. AnswersClose self.old connection channel a.step self.new) }
+        ensures addressed { IfOk result (λ a. AreAddressed connection a.step.sends.items) }
+        // What ends.
+        ensures ended { IfOk result (λ a. ReportsEnds connection channel a.ends self.old self.new) }
         // The frame; a failure changes nothing.
         ensures topology { topology_kept self.new ≡ topology_kept self.old }
         ensures err { OnErr result (self.new ≡ self.old) }
     {
         let step = Step::sending(alloc, channel_close_ok(connection, channel))?;
-        self.clear(connection, channel, None);
-        Ok(step)
+        let before = self.clear(connection, channel, None);
+        Ok(Acted {
+            step,
+            ends: Ends::Channel(before),
+        })
     }
 
     /// Handles the client's `channel.close` on a channel that awaits close-ok: replies with close-ok. The channel still awaits the client's.
@@ -128,13 +139,17 @@ impl Core {
     }
 
     /// Handles `channel.close-ok`: removes the channel.
-    pub(crate) fn end_channel(&mut self, alloc: Global, connection: u64, channel: u16) -> Step
+    pub(crate) fn end_channel(&mut self, alloc: Global, connection: u64, channel: u16) -> Acted
         requires { IsSome ((broker_of self.old).channel connection channel) }
-        ensures does { PerformsOn self.old connection channel ChannelCloseOk None result.sends.items result.notes.items self.new }
+        ensures does { PerformsOn self.old connection channel ChannelCloseOk None result.step.sends.items result.step.notes.items self.new }
+        ensures ended { ReportsEnds connection channel result.ends self.old self.new }
         ensures topology { topology_kept self.new ≡ topology_kept self.old }
     {
-        self.connections.put(connection, channel, None);
-        Step::nothing(alloc)
+        let before = self.connections.put(connection, channel, None);
+        Acted {
+            step: Step::nothing(alloc),
+            ends: Ends::Channel(before),
+        }
     }
 
     /// Answers a refused method: ignores it, or closes its channel or its connection with the refusal's reply code and the ids of the method
@@ -154,8 +169,7 @@ impl Core {
         ensures ignored { refusal_seen refusal ≡ said.Ignored → IsOk result }
         ensures addressed { IfOk result (λ a. AreAddressed connection a.step.sends.items) }
         // What ends.
-        ensures ended { IfOk result (λ a. ReportsEnd connection a.ends (broker_of self.old) (broker_of self.new)) }
-        ensures stay { IfOk result (λ a. ReportsConsumersOn connection channel a.ends (broker_of self.old) (broker_of self.new)) }
+        ensures ended { IfOk result (λ a. ReportsEnds connection channel a.ends self.old self.new) }
         // The frame; a failure changes nothing.
         ensures topology { topology_kept self.new ≡ topology_kept self.old }
         ensures err { OnErr result (self.new ≡ self.old) }
@@ -163,13 +177,8 @@ impl Core {
         match refusal {
             Refusal::Ignored => Ok(Acted::staying(Step::nothing(alloc))),
             Refusal::Channel(code) => {
-                let leaves = self.has_consumers(ChannelId {
-                    connection,
-                    number: channel,
-                });
                 let send = channel_close(connection, channel, code, cause);
-                let step = self.close_channel(alloc, connection, channel, send)?;
-                Ok(Acted::leaving(step, leaves))
+                self.close_channel(alloc, connection, channel, send)
             }
             Refusal::Connection(code) => {
                 let send = connection_close(connection, code, cause);

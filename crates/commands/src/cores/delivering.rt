@@ -3,7 +3,7 @@
 use crate::cores::Core;
 use crate::delivering::deliver_on;
 use crate::picks::{Pick, Taking};
-use channels::ghost_lent_channels_are_put;
+use channels::{Wakes, ghost_lent_channels_are_put};
 use depot::ghost_indices_are_named;
 use replies::Step;
 use std::alloc::{AllocError, Global};
@@ -13,6 +13,7 @@ impl Core {
     ghost use Rattle.model.specs.Agreement.{IsAgreed};
     ghost use Rattle.commands.specs.State.{broker_of, topology_kept};
     ghost use Rattle.commands.specs.Picked.{AddressesTo, IsPick, DeliversTo, IsNextPicked, ReturnsTaking};
+    ghost use Rattle.commands.specs.Woken.{AreUp};
 
     /// Returns how many messages have entered queues whose consumers lag behind.
     pub fn lagged(&self) -> u64 {
@@ -43,6 +44,25 @@ impl Core {
             Some(consumer) => Taking::Nothing(consumer.queue),
             None => Taking::Gone,
         }
+    }
+
+    /// Remembers `place` as a guess of the index of the consumer `pick` in the order of its queue's consumers.
+    pub fn seat(&mut self, pick: Pick, place: usize)
+        ensures { self.new ≡ self.old }
+    {
+        self.connections
+            .seat(pick.connection, pick.channel, pick.number, place);
+    }
+
+    /// Wakes the waiters of the consumers of `connection` that can take a message now: of those of `channel`, or of all channels if that is `None`. Each
+    /// is looked for where it was found the last time. Never allocates.
+    pub fn wake<W: Wakes>(&mut self, connection: u64, channel: Option<u16>, waker: &mut W)
+        ensures same { self.new ≡ self.old }
+        // Each of these consumers is awake, or can't take a message now.
+        ensures awake { AreUp connection channel (W.is_awake waker.new) self.old }
+        ensures on { (start : W) → W.goes_on start waker.old → W.goes_on start waker.new }
+    {
+        self.connections.wake(connection, channel, waker);
     }
 
     /// Delivers the first ready message of its queue to the consumer `pick`, to which a delivery can be made. The message leaves the queue if it needs

@@ -1,40 +1,26 @@
-//! Finds out whether an event is about to end consumers.
+//! The consumer that a command is about to cancel.
 
 use crate::cores::Core;
+use channels::Seat;
 use model::{ChannelId, Method};
 
 impl Core {
-    ghost use Rattle.std.specs.Prelude.{◌≡◌, is_some};
-    ghost use Rattle.commands.specs.State.{broker_of, channel_on};
-    ghost use Rattle.commands.specs.Ended.{has_consumers, cancels_one};
+    ghost use Rattle.std.specs.Prelude.{◌≡◌, false, IfNone, IfSome};
+    ghost use Rattle.channels.specs.RunningConnections.{channel_of};
+    ghost use Rattle.commands.specs.State.{channel_on};
+    ghost use Rattle.commands.specs.Ended.{cancels_one, CancelsAt};
 
-    /// Returns whether the connection is running.
-    pub(crate) fn runs(&self, connection: u64) -> bool
-        ensures { result ≡ is_some ((broker_of self.now).connection connection) }
-    {
-        self.connections.get(connection).is_some()
-    }
-
-    /// Returns whether the channel has a consumer.
-    pub(crate) fn has_consumers(&self, id: ChannelId) -> bool
-        ensures { result ≡ has_consumers (channel_on self.now id.connection id.number) }
-    {
-        match self.connections.channel(id.connection, id.number) {
-            Some(channel) => channel.has_consumers(),
-            None => false,
-        }
-    }
-
-    /// Returns whether the command cancels a consumer that the channel has, if it is not refused.
-    pub(crate) fn cancels(&self, id: ChannelId, method: &Method) -> bool
-        ensures { result ≡ cancels_one (channel_on self.now id.connection id.number) method.now }
+    /// Returns where the consumer waits that the command cancels if it is not refused. `None` if it cancels none.
+    pub(crate) fn cancelled(&self, id: ChannelId, method: &Method) -> Option<Seat>
+        ensures some { IfSome result (CancelsAt (channel_of self.now.connections id.connection id.number) method.now) }
+        ensures none { IfNone result (cancels_one (channel_on self.now id.connection id.number) method.now ≡ false) }
     {
         let Method::BasicCancel(cancel) = method else {
-            return false;
+            return None;
         };
         match self.connections.channel(id.connection, id.number) {
-            Some(channel) => channel.has_tagged(cancel.consumer_tag.as_bytes()),
-            None => false,
+            Some(channel) => channel.tagged(cancel.consumer_tag.as_bytes()),
+            None => None,
         }
     }
 }

@@ -15,14 +15,17 @@ impl Core {
     ghost use Rattle.model.specs.Step.{Is};
     ghost use Rattle.depot.specs.Store.{IsStoreWhole};
     ghost use Rattle.depot.specs.Moving.{AreMoved};
+    ghost use Rattle.channels.specs.Counting.{HasChannels};
     ghost use Rattle.commands.specs.State.{broker_of, topology_kept, names_of, ArePlaced};
 
     /// Shows the invariant of a core. Does nothing at run time.
     pub fn ghost_is_kept(&self)
         ensures whole { IsStoreWhole self.now.store }
         ensures placed { ArePlaced self.now }
+        ensures listed { HasChannels self.now.connections }
     {
         self.depot.ghost_is_whole();
+        self.connections.ghost_channels_are_listed();
     }
 
     /// Puts `topology` in force, and returns the new index of each queue; each queue in use is declared in it. Each message stays in the queue of its

@@ -2,27 +2,30 @@
 
 use crate::cores::Core;
 use crate::freeing::requeue_all;
+use channels::RunningConnection;
 use std::alloc::{AllocError, Global};
 
 impl Core {
-    ghost use Rattle.std.specs.Prelude.{◌≡◌, true, false, OnOk, OnErr};
+    ghost use Rattle.std.specs.Prelude.{◌≡◌, true, false, IfOk, OnOk, OnErr};
     ghost use Rattle.model.specs.Agreement.{IsAgreed};
     ghost use Rattle.model.specs.Step.{Is, with_gone, with_paused};
     ghost use Rattle.model.specs.declared.events.Event.TheVariants as event_is;
     ghost use Rattle.commands.specs.State.{broker_of, topology_kept};
     ghost use Rattle.commands.specs.Steps.{ActsAlone};
+    ghost use Rattle.commands.specs.Ended.{LosesConnection};
 
     /// Makes `connection` a running one, with channels 1 to `channels` open and new. The unacknowledged messages of an earlier connection of this
-    /// number are ready again. Fails only if an allocation fails; nothing has changed then.
+    /// number are ready again, and it is returned as it was. Fails only if an allocation fails; nothing has changed then.
     pub fn open(
         &mut self,
         alloc: Global,
         connection: u64,
         channel_max: u16,
         channels: u16,
-    ) -> Result<(), AllocError>
+    ) -> Result<Option<RunningConnection>, AllocError>
         requires { IsAgreed (broker_of self.old) }
         ensures ok { OnOk result (ActsAlone self.old (event_is.Running connection channel_max channels) self.new) }
+        ensures ended { IfOk result (λ before. LosesConnection connection before self.old self.new) }
         ensures topology { topology_kept self.new ≡ topology_kept self.old }
         ensures err { OnErr result (self.new ≡ self.old) }
     {
@@ -30,21 +33,19 @@ impl Core {
             .connections
             .open(alloc, connection, channel_max, channels)?;
         requeue_all(&mut self.depot, connection, before.as_ref());
-        Ok(())
+        Ok(before)
     }
 
-    /// Removes the connection: its unacknowledged messages are ready again.
-    pub(crate) fn go(&mut self, connection: u64)
+    /// Removes the connection: its unacknowledged messages are ready again. Returns it as it was, if it was running.
+    pub(crate) fn go(&mut self, connection: u64) -> Option<RunningConnection>
         requires { IsAgreed (broker_of self.old) }
         ensures gone { Is (with_gone (broker_of self.old) connection) (broker_of self.new) }
+        ensures ended { LosesConnection connection result self.old self.new }
         ensures topology { topology_kept self.new ≡ topology_kept self.old }
     {
-        requeue_all(
-            &mut self.depot,
-            connection,
-            self.connections.get(connection),
-        );
-        self.connections.remove(connection);
+        let before = self.connections.remove(connection);
+        requeue_all(&mut self.depot, connection, before.as_ref());
+        before
     }
 
     /// Sets whether the connection is paused.
@@ -55,13 +56,15 @@ impl Core {
         self.connections.set_paused(connection, is_paused);
     }
 
-    /// Removes a connection that is lost, with its channels: its unacknowledged messages are ready again. Never allocates.
-    pub fn lose(&mut self, connection: u64)
+    /// Removes a connection that is lost, with its channels: its unacknowledged messages are ready again. Returns it as it was, if it was running. Never
+    /// allocates.
+    pub fn lose(&mut self, connection: u64) -> Option<RunningConnection>
         requires { IsAgreed (broker_of self.old) }
         ensures acts { ActsAlone self.old (event_is.Lose connection) self.new }
+        ensures ended { LosesConnection connection result self.old self.new }
         ensures topology { topology_kept self.new ≡ topology_kept self.old }
     {
-        self.go(connection);
+        self.go(connection)
     }
 
     /// Records that the output of `connection` holds 1,048,576 bytes or more. Never allocates.

@@ -59,8 +59,8 @@ returns-in-BasicQos-clause-answers c =
     done_here c.args.channel_max c.args.id.connection c.args.id.number c.args.depot.now c.args.depot.now c.args.channel.now c.limit.new.channel c.args.method.now c.args.content.now c.limit.result _ c.performed-in-BasicQos.ensures (sym c.is_closing.ensures ∙ c.if-is_closing.false) c.if-id-eq0.false (sym c.in_ok-check_number.ensures)
     (rw c.in-BasicQos.is (c.limit.ensures.commands c.args.depot.now c.args.content.now))
 
-pub returns-in-BasicQos-clause-placed : goal.returns-in-BasicQos-clause-placed
-returns-in-BasicQos-clause-placed c = c.limit.ensures.placed c.args.depot.now.topology c.requires.placed
+pub returns-in-BasicQos-clause-in_range : goal.returns-in-BasicQos-clause-in_range
+returns-in-BasicQos-clause-in_range c = c.limit.ensures.in_range c.args.depot.now.topology c.requires.placed
 
 pub returns-in-BasicConsume-clause-answers : goal.returns-in-BasicConsume-clause-answers
 returns-in-BasicConsume-clause-answers c =
@@ -78,8 +78,8 @@ returns-in-BasicCancel-clause-answers c =
 pub returns-in-BasicCancel-clause-addressed : goal.returns-in-BasicCancel-clause-addressed
 returns-in-BasicCancel-clause-addressed c = λ said. performed_addressed c.args.id.connection _ c.cancel.result c.performed-in-BasicCancel.result c.performed-in-BasicCancel.ensures (subst (λ (m : Method). IsMethod m) c.in-BasicCancel.is said.0) c.cancel.ensures.addressed
 
-pub returns-in-BasicCancel-clause-placed : goal.returns-in-BasicCancel-clause-placed
-returns-in-BasicCancel-clause-placed c = c.cancel.ensures.placed c.args.depot.now.topology c.requires.placed
+pub returns-in-BasicCancel-clause-in_range : goal.returns-in-BasicCancel-clause-in_range
+returns-in-BasicCancel-clause-in_range c = c.cancel.ensures.in_range c.args.depot.now.topology c.requires.placed
 
 pub returns-in-BasicPublish-clause-answers : goal.returns-in-BasicPublish-clause-answers
 returns-in-BasicPublish-clause-answers c =
@@ -119,8 +119,8 @@ returns-in-ConfirmSelect-clause-answers c =
     done_here c.args.channel_max c.args.id.connection c.args.id.number c.args.depot.now c.args.depot.now c.args.channel.now c.select.new.channel c.args.method.now c.args.content.now c.select.result _ c.performed-in-ConfirmSelect.ensures (sym c.is_closing.ensures ∙ c.if-is_closing.false) c.if-id-eq0.false (sym c.in_ok-check_number.ensures)
     (rw c.in-ConfirmSelect.is (c.select.ensures.commands c.args.depot.now c.args.content.now))
 
-pub returns-in-ConfirmSelect-clause-placed : goal.returns-in-ConfirmSelect-clause-placed
-returns-in-ConfirmSelect-clause-placed c = c.select.ensures.placed c.args.depot.now.topology c.requires.placed
+pub returns-in-ConfirmSelect-clause-in_range : goal.returns-in-ConfirmSelect-clause-in_range
+returns-in-ConfirmSelect-clause-in_range c = c.select.ensures.in_range c.args.depot.now.topology c.requires.placed
 
 pub returns-in_default-clause-answers : goal.returns-in_default-clause-answers
 returns-in_default-clause-answers c = λ old new conn same turns.

@@ -16,8 +16,8 @@ returns-then-no_ack-clause-notes c =
     let noted : c.take_at.new.notes.items ≡ c.args.notes.now.items ++ left_note Auto q (first_ready (queue_at c.args.depot.now c.args.index)) = grind (arith, common_steps) in
     λ e found. noted ∙ ap (λ (o : Option Entry). c.args.notes.now.items ++ left_note Auto q o) found ∙ ap (λ (b : Bool). c.args.notes.now.items ++ delivery_notes b e.message.number q) (sym c.if-no_ack.true)
 
-pub returns-then-no_ack-clause-placed : goal.returns-then-no_ack-clause-placed
-returns-then-no_ack-clause-placed c =
+pub returns-then-no_ack-clause-in_range : goal.returns-then-no_ack-clause-in_range
+returns-then-no_ack-clause-in_range c =
     subst (IsPlaced c.args.depot.now.topology) (sym c.give_settled.ensures) (placed_as c.args.depot.now.topology c.args.channel.now (settled_on c.args.channel.now) c.requires.can.placed refl refl)
 
 pub take_at-requires-2-clause-free : goal.take_at-requires-2-clause-free
@@ -36,8 +36,8 @@ returns-clause-notes c =
     let q = queue_name c.args.depot.now.topology c.args.index in
     λ e found. c.take_at-2.ensures.notes ∙ ap (λ (b : Bool). c.args.notes.now.items ++ delivery_notes b e.message.number q) (sym c.if-no_ack.false)
 
-pub returns-clause-placed : goal.returns-clause-placed
-returns-clause-placed c =
+pub returns-clause-in_range : goal.returns-clause-in_range
+returns-clause-in_range c =
     subst (IsPlaced c.args.depot.now.topology) (sym c.give.ensures)
     (placed_given c.args.depot.now.topology c.args.channel.now c.reserve.new.self c.args.index c.in-Some.arrival c.args.by c.requires.within
     (ap (λ (x : Open). x.given.outstanding) c.in_ok-reserve.ensures.same) (ap (λ (x : Open). x.given.consumers) c.in_ok-reserve.ensures.same) c.requires.can.placed)

@@ -1,34 +1,22 @@
-use Rattle.broker.proofs.Names.{ℕ, refl, sym, subst, IfSome, CanDeliver, Rounds, HasConsumer, WithTurn, with_turn, Kept, Pick, IsPick, IsPickFrom, pick_from, LinesStay, IsPickedInTurn}
+use Rattle.broker.proofs.Names.{ℕ, refl, sym, subst, IfSome, CanDeliver, Rounds, WithTurn, with_turn, Kept, IsPick, IsPickFrom, pick_from, LinesStay, IsPickedInTurn}
 use Rattle.broker.specs.Turns as seen
-use Rattle.commands.specs.State.{broker_of, topology_kept}
+use Rattle.commands.specs.State.{broker_of}
 use Rattle.broker.proofs.Outcomes.{if_some}
-use Rattle.broker.proofs.Joined.{holds, serves, serves_kept, notes_keep, running_still}
-use Rattle.broker.proofs.Staying.{own_picked, listed_same}
 use Rattle.broker.proofs.Nearer.{picked_in_turn, lines_stay}
 use Rattle.broker.proofs.brokers.Broker.find.Goals as goal
 
 pub returns-clause-none : goal.returns-clause-none
 returns-clause-none c = λ e d can.
     let made : CanDeliver (broker_of c.self.inside.core) d = subst (λ (b : WithTurn). CanDeliver (seen.broker_of b) d) (sym c.self.view_is) can in
-    let p : Pick = record { connection = d; channel = made.number; number = made.consumer.number } in
     let from = pick_from c.self.inside.core d made in
-    let has : HasConsumer (topology_kept c.self.inside.core) (broker_of c.self.inside.core) from.place p = record { consumer = made.consumer; was = (made.channel, made.taker.there, made.taker.its); numbered = refl; within = from.within; named = from.named } in
-    c.pick-self-inside.ensures.none e from.place p (c.self.invariant.joined from.place p has) (record { pick = (made, refl, refl); within = from.within; named = from.named })
+    c.pick-self-inside.ensures.none e from.place (record { connection = d; channel = made.number; number = made.consumer.number }) (record { pick = (made, refl, refl); within = from.within; named = from.named })
 
 pub returns-clause-some : goal.returns-clause-some
 returns-clause-some c =
     if_some c.pick-self-inside.result (λ p. (place : ℕ) × IsPickFrom c.self.inside.core place p) (λ p. IsPick (seen.broker_of c.args.self.now) p) (λ p from. subst (λ (b : WithTurn). IsPick (seen.broker_of b) p) c.self.view_is from.1.pick) c.pick-self-inside.ensures.some
 
 pub invariant_of-self : goal.invariant_of-self
-invariant_of-self c =
-    let kept : Kept = c.self.inside.core in
-    let before : Rounds = c.self.inside.rounds in
-    let after : Rounds = c.pick-self-inside.new.self in
-    serves kept after
-    (serves_kept kept before after c.pick-self-inside.ensures.kept (notes_keep kept before.lists after.lists c.pick-self-inside.ensures.noted) c.pick-self-inside.ensures.len (holds kept before c.self.invariant))
-    (running_still (broker_of kept) (broker_of kept) before.lists after.lists (λ d none. none) c.pick-self-inside.ensures.no_list c.self.invariant.running)
-    (own_picked kept before after c.pick-self-inside.result c.pick-self-inside.ensures.picked c.pick-self-inside.ensures.on c.self.invariant.own)
-    (listed_same kept before.lists after.lists c.pick-self-inside.ensures.same c.self.invariant.listed)
+invariant_of-self c = record { agreed = c.self.invariant.agreed; kept_so = c.pick-self-inside.ensures.kept }
 
 pub returns-clause-in_turn : goal.returns-clause-in_turn
 returns-clause-in_turn c =
@@ -36,7 +24,7 @@ returns-clause-in_turn c =
     let before : Rounds = c.self.inside.rounds in
     let after : Rounds = c.pick-self-inside.new.self in
     subst (λ (b : WithTurn). IfSome c.pick-self-inside.result (λ p. IsPickedInTurn b p (with_turn kept after c.pick-self-inside.result))) c.self.view_is
-    (picked_in_turn kept before after c.self.inside.turn c.pick-self-inside.result (holds kept before c.self.invariant) c.pick-self-inside.ensures.picked)
+    (picked_in_turn kept before after c.self.inside.turn c.pick-self-inside.result c.self.invariant.kept_so c.pick-self-inside.ensures.picked)
 
 pub returns-clause-stay : goal.returns-clause-stay
 returns-clause-stay c = λ none.

@@ -1,41 +1,45 @@
-use Rattle.broker.proofs.Names.{[], None, refl, subst, Lose, Kept, Rounds, loss_ended, WithTurn, with_turn, NoneIsLater}
+use Rattle.broker.proofs.Names.{[], refl, subst, false≢true, WithTurn, with_turn, NoneIsLater, Lose}
 use Rattle.commands.specs.State.{broker_of, topology_kept}
-use Rattle.broker.proofs.Joined.{holds, was_there, serves, serves_asleep, serves_kept, running_but}
-use Rattle.broker.proofs.Leaving.{its_waiters}
-use Rattle.broker.proofs.Staying.{others_stay, other_owners, own_left, listed_left, none_listed}
-use Rattle.broker.proofs.Turning.{none_later, round_same, round_left}
+use Rattle.commands.specs.declared.acted.Ends.TheVariants as ended
+use Rattle.broker.proofs.Joined.{was_there}
+use Rattle.broker.proofs.Stepped.{nobody_new, none_come, kept_after, round_after, named_after, came_once}
+use Rattle.broker.proofs.Turning.{none_later}
 use Rattle.broker.proofs.brokers.Broker.lose.Goals as goal
 
-pub leave-requires-clause-ended : goal.leave-requires-clause-ended
-leave-requires-clause-ended c = λ e.
-    let old : Kept = c.self.inside.core in
-    (loss_ended (topology_kept old) (broker_of old) (broker_of c.lose.new.self) [] [] c.args.connection c.lose.ensures.acts).0
+pub leave-requires-clause-named : goal.leave-requires-clause-named
+leave-requires-clause-named c =
+    named_after c.self.inside.core c.lose-before.new.self c.lose-before.ensures.topology c.args.connection 0 (ended.Connection c.lose-before.result) c.lose-before.ensures.ended c.self.inside.rounds.lines c.self.inside.rounds.lines c.self.invariant.kept_so
+    (none_come c.lose-before.new.self c.self.inside.rounds.lines)
+    c.ghost_is_kept.ensures.whole c.ghost_is_kept.ensures.placed
 
-pub leave-requires-clause-listed : goal.leave-requires-clause-listed
-leave-requires-clause-listed c = its_waiters c.self.inside.core c.self.inside.rounds (record { connection = c.args.connection; channel = None }) c.self.invariant
+pub leave-requires-clause-once : goal.leave-requires-clause-once
+leave-requires-clause-once c =
+    came_once c.self.inside.core c.lose-before.new.self c.lose-before.ensures.topology c.args.connection 0 (ended.Connection c.lose-before.result) c.lose-before.ensures.ended c.self.inside.rounds.lines c.self.inside.rounds.lines c.self.invariant.kept_so
+    (none_come c.lose-before.new.self c.self.inside.rounds.lines)
 
 pub invariant_of-self : goal.invariant_of-self
-invariant_of-self c =
-    let old : Kept = c.self.inside.core in
-    let new : Kept = c.lose.new.self in
-    let before : Rounds = c.self.inside.rounds in
-    let after : Rounds = c.leave.new.self in
-    let ended = loss_ended (topology_kept old) (broker_of old) (broker_of new) [] [] c.args.connection c.lose.ensures.acts in
-    serves new after
-    (serves_kept new before after c.leave.ensures.kept c.leave.ensures.noted.noted c.leave.ensures.len
-    (serves_asleep c.brokers_stay_agreed.ensures.acts c.consumers_are_made.ensures (topology_kept old) old new (Lose c.args.connection) [] [] before c.lose.ensures.acts (λ p. refl) refl refl c.lose.ensures.topology (holds old before c.self.invariant)))
-    (running_but (broker_of old) (broker_of new) before.lists after.lists c.args.connection ended.1 (λ none. c.leave.ensures.gone refl) c.leave.ensures.none c.self.invariant.running)
-    (own_left old new (record { connection = c.args.connection; channel = None }) before.rounds after.rounds c.lose.ensures.topology (other_owners c.args.connection (broker_of old) (broker_of new) (others_stay (topology_kept old) (broker_of old) (broker_of new) (Lose c.args.connection) [] [] c.lose.ensures.acts)) c.self.invariant.own c.leave.ensures.lines)
-    (listed_left old new (record { connection = c.args.connection; channel = None }) before.lists before.lists after.lists c.lose.ensures.topology (other_owners c.args.connection (broker_of old) (broker_of new) (others_stay (topology_kept old) (broker_of old) (broker_of new) (Lose c.args.connection) [] [] c.lose.ensures.acts)) c.self.invariant.listed (none_listed new before.lists) c.leave.ensures.left)
+invariant_of-self c = record {
+  agreed = c.brokers_stay_agreed.ensures.acts (topology_kept c.self.inside.core) (broker_of c.self.inside.core) (broker_of c.lose-before.new.self) (Lose c.args.connection) [] [] c.self.invariant.agreed c.lose-before.ensures.acts;
+  kept_so = kept_after c.self.inside.core c.lose-before.new.self c.lose-before.ensures.topology c.args.connection 0 (ended.Connection c.lose-before.result) c.lose-before.ensures.ended c.self.inside.rounds.lines c.self.inside.rounds.lines c.self.invariant.kept_so
+      (none_come c.lose-before.new.self c.self.inside.rounds.lines)
+      (Lose c.args.connection) [] [] c.lose-before.ensures.acts c.ghost_is_kept-2.ensures.whole c.ghost_is_kept-2.ensures.placed c.leave.new.self.lines c.leave.new.self.lines
+      (nobody_new c.consumers_are_made.ensures c.self.inside.core c.lose-before.new.self (Lose c.args.connection) [] [] c.self.inside.rounds.lines c.lose-before.ensures.acts c.lose-before.ensures.topology refl c.self.invariant.kept_so)
+      c.leave.ensures.left (λ at. refl) c.leave.ensures.asleep c.leave.ensures.len (λ p ch one wants there among same. absurd (false≢true wants));
+}
 
 pub returns-clause-later : goal.returns-clause-later
 returns-clause-later c =
-    let old : Kept = c.self.inside.core in
-    let new : Kept = c.lose.new.self in
-    let before : Rounds = c.self.inside.rounds in
-    let after : Rounds = c.leave.new.self in
-    subst (λ (b : WithTurn). NoneIsLater b (with_turn new after c.self.inside.turn)) c.self.view_is
-    (none_later old new before after c.self.inside.turn c.self.inside.turn c.lose.ensures.topology (holds old before c.self.invariant) c.self.invariant.own
-    (own_left old new (record { connection = c.args.connection; channel = None }) before.rounds after.rounds c.lose.ensures.topology (other_owners c.args.connection (broker_of old) (broker_of new) (others_stay (topology_kept old) (broker_of old) (broker_of new) (Lose c.args.connection) [] [] c.lose.ensures.acts)) c.self.invariant.own c.leave.ensures.lines)
-    (round_left new (record { connection = c.args.connection; channel = None }) before.rounds before.rounds after.rounds (round_same new before.rounds before.rounds (λ at. refl)) c.leave.ensures.lines) c.leave.ensures.next
-    (was_there c.consumers_are_made.ensures (topology_kept old) (broker_of old) (broker_of new) (Lose c.args.connection) [] [] c.lose.ensures.acts refl))
+    subst (λ (b : WithTurn). NoneIsLater b (with_turn c.lose-before.new.self c.leave.new.self c.self.inside.turn)) c.self.view_is
+    (none_later c.self.inside.core c.lose-before.new.self c.self.inside.rounds c.leave.new.self c.self.inside.turn c.self.inside.turn c.lose-before.ensures.topology c.self.invariant.kept_so
+    (kept_after c.self.inside.core c.lose-before.new.self c.lose-before.ensures.topology c.args.connection 0 (ended.Connection c.lose-before.result) c.lose-before.ensures.ended c.self.inside.rounds.lines c.self.inside.rounds.lines c.self.invariant.kept_so
+    (none_come c.lose-before.new.self c.self.inside.rounds.lines)
+    (Lose c.args.connection) [] [] c.lose-before.ensures.acts c.ghost_is_kept-2.ensures.whole c.ghost_is_kept-2.ensures.placed c.leave.new.self.lines c.leave.new.self.lines
+    (nobody_new c.consumers_are_made.ensures c.self.inside.core c.lose-before.new.self (Lose c.args.connection) [] [] c.self.inside.rounds.lines c.lose-before.ensures.acts c.lose-before.ensures.topology refl c.self.invariant.kept_so)
+    c.leave.ensures.left (λ at. refl) c.leave.ensures.asleep c.leave.ensures.len (λ p ch one wants there among same. absurd (false≢true wants))).own
+    (round_after c.self.inside.core c.lose-before.new.self c.lose-before.ensures.topology c.args.connection 0 (ended.Connection c.lose-before.result) c.lose-before.ensures.ended c.self.inside.rounds.lines c.self.inside.rounds.lines c.self.invariant.kept_so
+    (none_come c.lose-before.new.self c.self.inside.rounds.lines)
+    (Lose c.args.connection) [] [] c.lose-before.ensures.acts c.ghost_is_kept-2.ensures.whole c.ghost_is_kept-2.ensures.placed c.leave.new.self.lines c.leave.new.self.lines
+    (nobody_new c.consumers_are_made.ensures c.self.inside.core c.lose-before.new.self (Lose c.args.connection) [] [] c.self.inside.rounds.lines c.lose-before.ensures.acts c.lose-before.ensures.topology refl c.self.invariant.kept_so)
+    c.leave.ensures.left (λ at. refl) c.leave.ensures.asleep c.leave.ensures.len (λ p ch one wants there among same. absurd (false≢true wants)))
+    c.leave.ensures.next
+    (was_there c.consumers_are_made.ensures (topology_kept c.self.inside.core) (broker_of c.self.inside.core) (broker_of c.lose-before.new.self) (Lose c.args.connection) [] [] c.lose-before.ensures.acts refl))

@@ -1,10 +1,8 @@
-use Rattle.broker.proofs.Names.{◌∙◌, ◌≤◌, ℕ, List, Some, length, refl, sym, ap, subst, arith, is_some, false≢true, Topology, IsIn, IsAgreed, Broker, Channel, is_held_as, Is, Entry, Kept, Rounds, Lists, listed_on, AreItsListings, HasNoList}
+use Rattle.broker.proofs.Names.{◌∙◌, ◌≤◌, ℕ, List, Some, length, sym, ap, subst, arith, is_some, false≢true, Topology, IsIn, IsAgreed, Broker, Channel, is_held_as, Is, Entry, Kept, Rounds}
 use Rattle.std.proofs.Common.{◌≡◌}
 use Rattle.std.specs.Prelude.{count_by}
 use Rattle.commands.specs.State.{broker_of, topology_kept, nothing}
-use Rattle.broker.proofs.Joined.{serves, serves_none}
-use Rattle.broker.proofs.Reloading.{own_empty}
-use Rattle.broker.proofs.Rising.{rises_none}
+use Rattle.broker.proofs.Reloading.{kept_empty}
 use Rattle.broker.proofs.brokers.Broker.new.Goals as goal
 
 no_channel : (b : Broker) → Is nothing b → (c h : ℕ) (ch : Channel) → b.channel c h ≡ Some ch → ⊥
@@ -25,7 +23,8 @@ pub invariant_of-result : goal.invariant_of-result
 invariant_of-result c =
     let core : Kept = c.in_ok-core.core in
     let rounds : Rounds = c.in_ok-rounds.rounds in
-    let long : length rounds.rounds ≡ length (topology_kept core).queues = c.in_ok-rounds.ensures.rounds ∙ ap length c.queues.ensures ∙ ap (λ (t : Topology). length t.queues) (sym c.in_ok-core.ensures.topology) in
-    serves core rounds (serves_none core rounds (nothing_agreed (broker_of core) c.in_ok-core.ensures.empty) long (λ d h. c.in_ok-core.ensures.empty.channels d h))
-    (λ d none. subst (λ (ls : Lists). HasNoList ls d) (sym c.in_ok-rounds.ensures.lists) refl) (own_empty core rounds.rounds c.in_ok-rounds.ensures.empty)
-    (λ d h. subst (λ (ls : Lists). AreItsListings core d h (listed_on ls d h)) (sym c.in_ok-rounds.ensures.lists) (record { there = λ l i. absurd i; once = rises_none }))
+    let long : length rounds.lines ≡ length (topology_kept core).queues = c.in_ok-rounds.ensures.lines ∙ ap length c.queues.ensures ∙ ap (λ (t : Topology). length t.queues) (sym c.in_ok-core.ensures.topology) in
+    record {
+      agreed = nothing_agreed (broker_of core) c.in_ok-core.ensures.empty;
+      kept_so = kept_empty core rounds.lines c.in_ok-rounds.ensures.empty long (λ d h. c.in_ok-core.ensures.empty.channels d h);
+    }

@@ -1,27 +1,34 @@
-use Rattle.broker.proofs.Names.{[], refl, subst, Pause, Rounds, Kept, pause_runs, same_stay, WithTurn, with_turn, NoneIsLater}
+use Rattle.broker.proofs.Names.{[], refl, subst, false≢true, WithTurn, with_turn, NoneIsLater, Pause, same_stay}
 use Rattle.commands.specs.State.{broker_of, topology_kept}
-use Rattle.broker.proofs.Joined.{holds, was_there, serves, serves_asleep, running_still}
-use Rattle.broker.proofs.Staying.{own_stays, listed_stays}
-use Rattle.broker.proofs.Turning.{none_later, round_same}
+use Rattle.commands.specs.declared.acted.Ends.TheVariants as ended
+use Rattle.broker.proofs.Joined.{was_there}
+use Rattle.broker.proofs.Stepped.{nobody_new, none_come, none_leave, kept_after, round_after}
+use Rattle.broker.proofs.Turning.{none_later}
 use Rattle.broker.proofs.brokers.Broker.pause.Goals as goal
 
 pub invariant_of-self : goal.invariant_of-self
-invariant_of-self c =
-    let old : Kept = c.self.inside.core in
-    let new : Kept = c.pause.new.self in
-    let rounds : Rounds = c.self.inside.rounds in
-    serves new rounds
-    (serves_asleep c.brokers_stay_agreed.ensures.acts c.consumers_are_made.ensures (topology_kept old) old new (Pause c.args.connection) [] [] rounds c.pause.ensures.acts (λ p. refl) refl refl c.pause.ensures.topology (holds old rounds c.self.invariant))
-    (running_still (broker_of old) (broker_of new) rounds.lists rounds.lists (pause_runs (topology_kept old) (broker_of old) (broker_of new) [] [] c.args.connection c.pause.ensures.acts) (λ d none. none) c.self.invariant.running)
-    (own_stays old new rounds.rounds c.pause.ensures.topology (same_stay (broker_of old) (broker_of new) c.pause.ensures.acts.left.channels) c.self.invariant.own)
-    (listed_stays old new rounds.lists c.pause.ensures.topology (same_stay (broker_of old) (broker_of new) c.pause.ensures.acts.left.channels) c.self.invariant.listed)
+invariant_of-self c = record {
+  agreed = c.brokers_stay_agreed.ensures.acts (topology_kept c.self.inside.core) (broker_of c.self.inside.core) (broker_of c.pause.new.self) (Pause c.args.connection) [] [] c.self.invariant.agreed c.pause.ensures.acts;
+  kept_so = kept_after c.self.inside.core c.pause.new.self c.pause.ensures.topology 0 0 ended.Nothing (same_stay (broker_of c.self.inside.core) (broker_of c.pause.new.self) c.pause.ensures.acts.left.channels) c.self.inside.rounds.lines c.self.inside.rounds.lines c.self.invariant.kept_so
+      (none_come c.pause.new.self c.self.inside.rounds.lines)
+      (Pause c.args.connection) [] [] c.pause.ensures.acts c.ghost_is_kept.ensures.whole c.ghost_is_kept.ensures.placed c.self.inside.rounds.lines c.self.inside.rounds.lines
+      (nobody_new c.consumers_are_made.ensures c.self.inside.core c.pause.new.self (Pause c.args.connection) [] [] c.self.inside.rounds.lines c.pause.ensures.acts c.pause.ensures.topology refl c.self.invariant.kept_so)
+      (none_leave 0 0 c.self.inside.rounds.lines) (λ at. refl) (λ place p i. i) refl (λ p ch one wants there among same. absurd (false≢true wants));
+}
 
 pub returns-clause-later : goal.returns-clause-later
 returns-clause-later c =
-    let old : Kept = c.self.inside.core in
-    let new : Kept = c.pause.new.self in
-    let rounds : Rounds = c.self.inside.rounds in
-    subst (λ (b : WithTurn). NoneIsLater b (with_turn new rounds c.self.inside.turn)) c.self.view_is
-    (none_later old new rounds rounds c.self.inside.turn c.self.inside.turn c.pause.ensures.topology (holds old rounds c.self.invariant) c.self.invariant.own
-    (own_stays old new rounds.rounds c.pause.ensures.topology (same_stay (broker_of old) (broker_of new) c.pause.ensures.acts.left.channels) c.self.invariant.own) (round_same new rounds.rounds rounds.rounds (λ at. refl)) refl
-    (was_there c.consumers_are_made.ensures (topology_kept old) (broker_of old) (broker_of new) (Pause c.args.connection) [] [] c.pause.ensures.acts refl))
+    subst (λ (b : WithTurn). NoneIsLater b (with_turn c.pause.new.self c.self.inside.rounds c.self.inside.turn)) c.self.view_is
+    (none_later c.self.inside.core c.pause.new.self c.self.inside.rounds c.self.inside.rounds c.self.inside.turn c.self.inside.turn c.pause.ensures.topology c.self.invariant.kept_so
+    (kept_after c.self.inside.core c.pause.new.self c.pause.ensures.topology 0 0 ended.Nothing (same_stay (broker_of c.self.inside.core) (broker_of c.pause.new.self) c.pause.ensures.acts.left.channels) c.self.inside.rounds.lines c.self.inside.rounds.lines c.self.invariant.kept_so
+    (none_come c.pause.new.self c.self.inside.rounds.lines)
+    (Pause c.args.connection) [] [] c.pause.ensures.acts c.ghost_is_kept.ensures.whole c.ghost_is_kept.ensures.placed c.self.inside.rounds.lines c.self.inside.rounds.lines
+    (nobody_new c.consumers_are_made.ensures c.self.inside.core c.pause.new.self (Pause c.args.connection) [] [] c.self.inside.rounds.lines c.pause.ensures.acts c.pause.ensures.topology refl c.self.invariant.kept_so)
+    (none_leave 0 0 c.self.inside.rounds.lines) (λ at. refl) (λ place p i. i) refl (λ p ch one wants there among same. absurd (false≢true wants))).own
+    (round_after c.self.inside.core c.pause.new.self c.pause.ensures.topology 0 0 ended.Nothing (same_stay (broker_of c.self.inside.core) (broker_of c.pause.new.self) c.pause.ensures.acts.left.channels) c.self.inside.rounds.lines c.self.inside.rounds.lines c.self.invariant.kept_so
+    (none_come c.pause.new.self c.self.inside.rounds.lines)
+    (Pause c.args.connection) [] [] c.pause.ensures.acts c.ghost_is_kept.ensures.whole c.ghost_is_kept.ensures.placed c.self.inside.rounds.lines c.self.inside.rounds.lines
+    (nobody_new c.consumers_are_made.ensures c.self.inside.core c.pause.new.self (Pause c.args.connection) [] [] c.self.inside.rounds.lines c.pause.ensures.acts c.pause.ensures.topology refl c.self.invariant.kept_so)
+    (none_leave 0 0 c.self.inside.rounds.lines) (λ at. refl) (λ place p i. i) refl (λ p ch one wants there among same. absurd (false≢true wants)))
+    refl
+    (was_there c.consumers_are_made.ensures (topology_kept c.self.inside.core) (broker_of c.self.inside.core) (broker_of c.pause.new.self) (Pause c.args.connection) [] [] c.pause.ensures.acts refl))

@@ -1,6 +1,5 @@
 use Rattle.broker.proofs.Names.{◌∙◌, inl, refl, sym, ap, subst, IsPick, WithTurn, AllInLine}
 use Rattle.broker.specs.Turns.{broker_of}
-use Rattle.broker.proofs.Joined.{holds}
 use Rattle.broker.proofs.Turning.{all_in_line}
 use Rattle.broker.proofs.brokers.Broker.pick.Goals as goal
 
@@ -13,11 +12,11 @@ returns-in-None-clause-again c = λ p is pick.
 
 pub returns-in-Some-clause-complete : goal.returns-in-Some-clause-complete
 returns-in-Some-clause-complete c =
-    subst AllInLine c.self.view_is (all_in_line c.self.inside.core c.self.inside.rounds c.self.inside.turn (holds c.self.inside.core c.self.inside.rounds c.self.invariant) c.self.invariant.own)
+    subst AllInLine c.self.view_is (all_in_line c.self.inside.core c.self.inside.rounds c.self.inside.turn c.self.invariant.kept_so)
 
 pub returns-in-None-clause-complete : goal.returns-in-None-clause-complete
 returns-in-None-clause-complete c =
-    subst AllInLine c.self.view_is (all_in_line c.self.inside.core c.self.inside.rounds c.self.inside.turn (holds c.self.inside.core c.self.inside.rounds c.self.invariant) c.self.invariant.own)
+    subst AllInLine c.self.view_is (all_in_line c.self.inside.core c.self.inside.rounds c.self.inside.turn c.self.invariant.kept_so)
 
 -- the same is told again
 pub returns-in-Some-clause-in_turn : goal.returns-in-Some-clause-in_turn

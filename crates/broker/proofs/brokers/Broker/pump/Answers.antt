@@ -1,9 +1,11 @@
-use Rattle.broker.proofs.Names.{None, refl, sym, subst, Deliver, IsPick, Rounds, IsServing, WithTurn, with_turn, Kept, delivery_runs, NoneIsLater}
-use Rattle.broker.specs.Turns as seen
+use Rattle.broker.proofs.Names.{None, refl, sym, subst, false≢true, Kept, WithTurn, with_turn, NoneIsLater, IsServing, Deliver, IsPick}
 use Rattle.commands.specs.State.{broker_of, topology_kept}
-use Rattle.broker.proofs.Joined.{holds, was_there, serves, serves_asleep, running_still}
-use Rattle.broker.proofs.Staying.{delivery_stays, own_stays, listed_stays}
-use Rattle.broker.proofs.Turning.{none_later, round_same}
+use Rattle.broker.specs.Turns as seen
+use Rattle.commands.specs.declared.acted.Ends.TheVariants as ended
+use Rattle.broker.proofs.Joined.{was_there}
+use Rattle.broker.proofs.Staying.{delivery_stays}
+use Rattle.broker.proofs.Stepped.{nobody_new, none_come, none_leave, kept_after, round_after}
+use Rattle.broker.proofs.Turning.{none_later}
 use Rattle.broker.proofs.Waits.{serves_soon}
 use Rattle.broker.proofs.brokers.Broker.pump.Goals as goal
 
@@ -16,29 +18,34 @@ invariant_of-self c = subst (λ (k : Kept). IsServing k c.self.inside.rounds) (s
 
 -- where the delivery is made
 pub invariant_of-self-2 : goal.invariant_of-self-2
-invariant_of-self-2 c =
-    let old : Kept = c.self.inside.core in
-    let new : Kept = c.deliver.new.self in
-    let rounds : Rounds = c.self.inside.rounds in
-    let acts = c.in_ok-step.ensures.ok.delivery in
-    serves new rounds
-    (serves_asleep c.brokers_stay_agreed.ensures.acts c.consumers_are_made.ensures (topology_kept old) old new (Deliver c.args.pick.connection) _ _ rounds acts (λ p. refl) refl refl c.deliver.ensures.topology (holds old rounds c.self.invariant))
-    (running_still (broker_of old) (broker_of new) rounds.lists rounds.lists (delivery_runs (topology_kept old) (broker_of old) (broker_of new) _ _ c.args.pick.connection acts) (λ d none. none) c.self.invariant.running)
-    (own_stays old new rounds.rounds c.deliver.ensures.topology (delivery_stays (broker_of old) (broker_of new) c.args.pick.connection _ _ c.in_ok-step.ensures.ok.delivery) c.self.invariant.own)
-    (listed_stays old new rounds.lists c.deliver.ensures.topology (delivery_stays (broker_of old) (broker_of new) c.args.pick.connection _ _ c.in_ok-step.ensures.ok.delivery) c.self.invariant.listed)
+invariant_of-self-2 c = record {
+  agreed = c.brokers_stay_agreed.ensures.acts (topology_kept c.self.inside.core) (broker_of c.self.inside.core) (broker_of c.deliver.new.self) (Deliver c.args.pick.connection) c.in_ok-step.step.sends.items c.in_ok-step.step.notes.items c.self.invariant.agreed c.in_ok-step.ensures.ok.delivery;
+  kept_so = kept_after c.self.inside.core c.deliver.new.self c.deliver.ensures.topology 0 0 ended.Nothing (delivery_stays (broker_of c.self.inside.core) (broker_of c.deliver.new.self) c.args.pick.connection _ _ c.in_ok-step.ensures.ok.delivery) c.self.inside.rounds.lines c.self.inside.rounds.lines c.self.invariant.kept_so
+      (none_come c.deliver.new.self c.self.inside.rounds.lines)
+      (Deliver c.args.pick.connection) c.in_ok-step.step.sends.items c.in_ok-step.step.notes.items c.in_ok-step.ensures.ok.delivery c.ghost_is_kept.ensures.whole c.ghost_is_kept.ensures.placed c.self.inside.rounds.lines c.self.inside.rounds.lines
+      (nobody_new c.consumers_are_made.ensures c.self.inside.core c.deliver.new.self (Deliver c.args.pick.connection) c.in_ok-step.step.sends.items c.in_ok-step.step.notes.items c.self.inside.rounds.lines c.in_ok-step.ensures.ok.delivery c.deliver.ensures.topology refl c.self.invariant.kept_so)
+      (none_leave 0 0 c.self.inside.rounds.lines) (λ at. refl) (λ place p i. i) refl (λ p ch one wants there among same. absurd (false≢true wants));
+}
 
 pub returns-clause-addressed : goal.returns-clause-addressed
 returns-clause-addressed c = rw (← c.self.view_is) c.in_ok-step.ensures.addressed
 
 pub returns-clause-later : goal.returns-clause-later
 returns-clause-later c =
-    let old : Kept = c.self.inside.core in
-    let new : Kept = c.deliver.new.self in
-    let rounds : Rounds = c.self.inside.rounds in
-    subst (λ (b : WithTurn). NoneIsLater b (with_turn new rounds None)) c.self.view_is
-    (none_later old new rounds rounds c.self.inside.turn None c.deliver.ensures.topology (holds old rounds c.self.invariant) c.self.invariant.own
-    (own_stays old new rounds.rounds c.deliver.ensures.topology (delivery_stays (broker_of old) (broker_of new) c.args.pick.connection _ _ c.in_ok-step.ensures.ok.delivery) c.self.invariant.own) (round_same new rounds.rounds rounds.rounds (λ at. refl)) refl
-    (was_there c.consumers_are_made.ensures (topology_kept old) (broker_of old) (broker_of new) (Deliver c.args.pick.connection) _ _ c.in_ok-step.ensures.ok.delivery refl))
+    subst (λ (b : WithTurn). NoneIsLater b (with_turn c.deliver.new.self c.self.inside.rounds None)) c.self.view_is
+    (none_later c.self.inside.core c.deliver.new.self c.self.inside.rounds c.self.inside.rounds c.self.inside.turn None c.deliver.ensures.topology c.self.invariant.kept_so
+    (kept_after c.self.inside.core c.deliver.new.self c.deliver.ensures.topology 0 0 ended.Nothing (delivery_stays (broker_of c.self.inside.core) (broker_of c.deliver.new.self) c.args.pick.connection _ _ c.in_ok-step.ensures.ok.delivery) c.self.inside.rounds.lines c.self.inside.rounds.lines c.self.invariant.kept_so
+    (none_come c.deliver.new.self c.self.inside.rounds.lines)
+    (Deliver c.args.pick.connection) c.in_ok-step.step.sends.items c.in_ok-step.step.notes.items c.in_ok-step.ensures.ok.delivery c.ghost_is_kept.ensures.whole c.ghost_is_kept.ensures.placed c.self.inside.rounds.lines c.self.inside.rounds.lines
+    (nobody_new c.consumers_are_made.ensures c.self.inside.core c.deliver.new.self (Deliver c.args.pick.connection) c.in_ok-step.step.sends.items c.in_ok-step.step.notes.items c.self.inside.rounds.lines c.in_ok-step.ensures.ok.delivery c.deliver.ensures.topology refl c.self.invariant.kept_so)
+    (none_leave 0 0 c.self.inside.rounds.lines) (λ at. refl) (λ place p i. i) refl (λ p ch one wants there among same. absurd (false≢true wants))).own
+    (round_after c.self.inside.core c.deliver.new.self c.deliver.ensures.topology 0 0 ended.Nothing (delivery_stays (broker_of c.self.inside.core) (broker_of c.deliver.new.self) c.args.pick.connection _ _ c.in_ok-step.ensures.ok.delivery) c.self.inside.rounds.lines c.self.inside.rounds.lines c.self.invariant.kept_so
+    (none_come c.deliver.new.self c.self.inside.rounds.lines)
+    (Deliver c.args.pick.connection) c.in_ok-step.step.sends.items c.in_ok-step.step.notes.items c.in_ok-step.ensures.ok.delivery c.ghost_is_kept.ensures.whole c.ghost_is_kept.ensures.placed c.self.inside.rounds.lines c.self.inside.rounds.lines
+    (nobody_new c.consumers_are_made.ensures c.self.inside.core c.deliver.new.self (Deliver c.args.pick.connection) c.in_ok-step.step.sends.items c.in_ok-step.step.notes.items c.self.inside.rounds.lines c.in_ok-step.ensures.ok.delivery c.deliver.ensures.topology refl c.self.invariant.kept_so)
+    (none_leave 0 0 c.self.inside.rounds.lines) (λ at. refl) (λ place p i. i) refl (λ p ch one wants there among same. absurd (false≢true wants)))
+    refl
+    (was_there c.consumers_are_made.ensures (topology_kept c.self.inside.core) (broker_of c.self.inside.core) (broker_of c.deliver.new.self) (Deliver c.args.pick.connection) c.in_ok-step.step.sends.items c.in_ok-step.step.notes.items c.in_ok-step.ensures.ok.delivery refl))
 
 pub returns-clause-soon : goal.returns-clause-soon
 returns-clause-soon c = serves_soon c.args.self.now c.args.pick

@@ -1,32 +1,37 @@
-use Rattle.broker.proofs.Names.{[], refl, subst, eqb-true, Resume, Kept, Rounds, resume_runs, same_stay, WithTurn, with_turn, NoneIsLater}
+use Rattle.broker.proofs.Names.{[], refl, sym, subst, Kept, WithTurn, with_turn, NoneIsLater, IsServing, Resume, same_stay, eqb-true}
 use Rattle.commands.specs.State.{broker_of, topology_kept}
-use Rattle.broker.proofs.Joined.{Holds, holds, was_there, serves, serves_still, serves_kept, notes_keep, keeps_all, running_still}
-use Rattle.broker.proofs.Staying.{own_same, own_stays, listed_same, listed_stays}
-use Rattle.broker.proofs.Turning.{none_later, round_same}
+use Rattle.commands.specs.declared.acted.Ends.TheVariants as ended
+use Rattle.broker.proofs.Joined.{was_there}
+use Rattle.broker.proofs.Stepped.{nobody_new, none_come, none_leave, kept_after, round_after}
+use Rattle.broker.proofs.Turning.{none_later}
 use Rattle.broker.proofs.brokers.Broker.resume.Goals as goal
 
 pub invariant_of-self : goal.invariant_of-self
-invariant_of-self c =
-    let old : Kept = c.self.inside.core in
-    let new : Kept = c.resume.new.self in
-    let before : Rounds = c.self.inside.rounds in
-    let after : Rounds = c.wake.new.self in
-    let held : Holds old after =
-    serves_kept old before after (keeps_all old before after c.wake.ensures.kept) (notes_keep old before.lists after.lists c.wake.ensures.noted) c.wake.ensures.len (holds old before c.self.invariant) in
-    serves new after
-    (serves_still c.brokers_stay_agreed.ensures.acts c.consumers_are_made.ensures (topology_kept old) old new (Resume c.args.connection) [] [] after c.resume.ensures.acts
-    (λ place p woken has. c.wake.ensures.woken p (eqb-true p.connection c.args.connection woken, refl) (broker_of old) place (c.self.invariant.joined place p has)) refl refl c.resume.ensures.topology held)
-    (running_still (broker_of old) (broker_of new) before.lists after.lists (resume_runs (topology_kept old) (broker_of old) (broker_of new) [] [] c.args.connection c.resume.ensures.acts) c.wake.ensures.none c.self.invariant.running)
-    (own_stays old new after.rounds c.resume.ensures.topology (same_stay (broker_of old) (broker_of new) c.resume.ensures.acts.left.channels) (own_same old before.rounds after.rounds c.wake.ensures.on.same c.self.invariant.own))
-    (listed_stays old new after.lists c.resume.ensures.topology (same_stay (broker_of old) (broker_of new) c.resume.ensures.acts.left.channels) (listed_same old before.lists after.lists c.wake.ensures.same c.self.invariant.listed))
+invariant_of-self c = subst (λ (k : Kept). IsServing k c.wake.new.waker) (sym c.wake.ensures.same) (record {
+  agreed = c.brokers_stay_agreed.ensures.acts (topology_kept c.self.inside.core) (broker_of c.self.inside.core) (broker_of c.resume.new.self) (Resume c.args.connection) [] [] c.self.invariant.agreed c.resume.ensures.acts;
+  kept_so = kept_after c.self.inside.core c.resume.new.self c.resume.ensures.topology 0 0 ended.Nothing (same_stay (broker_of c.self.inside.core) (broker_of c.resume.new.self) c.resume.ensures.acts.left.channels) c.self.inside.rounds.lines c.self.inside.rounds.lines c.self.invariant.kept_so
+      (none_come c.resume.new.self c.self.inside.rounds.lines)
+      (Resume c.args.connection) [] [] c.resume.ensures.acts c.ghost_is_kept.ensures.whole c.ghost_is_kept.ensures.placed c.self.inside.rounds.lines c.wake.new.waker.lines
+      (nobody_new c.consumers_are_made.ensures c.self.inside.core c.resume.new.self (Resume c.args.connection) [] [] c.self.inside.rounds.lines c.resume.ensures.acts c.resume.ensures.topology refl c.self.invariant.kept_so)
+      (none_leave 0 0 c.self.inside.rounds.lines) (c.wake.ensures.on c.self.inside.rounds (record { len = refl; same = λ at. refl; next = refl }, λ place p i. i)).0.same (c.wake.ensures.on c.self.inside.rounds (record { len = refl; same = λ at. refl; next = refl }, λ place p i. i)).1 (c.wake.ensures.on c.self.inside.rounds (record { len = refl; same = λ at. refl; next = refl }, λ place p i. i)).0.len (λ p ch one wants there among same. c.wake.ensures.awake p ch one (eqb-true p.connection c.args.connection wants) refl there among same);
+})
 
 pub returns-clause-later : goal.returns-clause-later
 returns-clause-later c =
-    let old : Kept = c.self.inside.core in
-    let new : Kept = c.resume.new.self in
-    let before : Rounds = c.self.inside.rounds in
-    let after : Rounds = c.wake.new.self in
-    subst (λ (b : WithTurn). NoneIsLater b (with_turn new after c.self.inside.turn)) c.self.view_is
-    (none_later old new before after c.self.inside.turn c.self.inside.turn c.resume.ensures.topology (holds old before c.self.invariant) c.self.invariant.own
-    (own_stays old new after.rounds c.resume.ensures.topology (same_stay (broker_of old) (broker_of new) c.resume.ensures.acts.left.channels) (own_same old before.rounds after.rounds c.wake.ensures.on.same c.self.invariant.own)) (round_same new before.rounds after.rounds c.wake.ensures.on.same) c.wake.ensures.on.next
-    (was_there c.consumers_are_made.ensures (topology_kept old) (broker_of old) (broker_of new) (Resume c.args.connection) [] [] c.resume.ensures.acts refl))
+    subst (λ (k : Kept). NoneIsLater c.args.self.now (with_turn k c.wake.new.waker c.self.inside.turn)) (sym c.wake.ensures.same)
+    (
+    subst (λ (b : WithTurn). NoneIsLater b (with_turn c.resume.new.self c.wake.new.waker c.self.inside.turn)) c.self.view_is
+    (none_later c.self.inside.core c.resume.new.self c.self.inside.rounds c.wake.new.waker c.self.inside.turn c.self.inside.turn c.resume.ensures.topology c.self.invariant.kept_so
+    (kept_after c.self.inside.core c.resume.new.self c.resume.ensures.topology 0 0 ended.Nothing (same_stay (broker_of c.self.inside.core) (broker_of c.resume.new.self) c.resume.ensures.acts.left.channels) c.self.inside.rounds.lines c.self.inside.rounds.lines c.self.invariant.kept_so
+    (none_come c.resume.new.self c.self.inside.rounds.lines)
+    (Resume c.args.connection) [] [] c.resume.ensures.acts c.ghost_is_kept.ensures.whole c.ghost_is_kept.ensures.placed c.self.inside.rounds.lines c.wake.new.waker.lines
+    (nobody_new c.consumers_are_made.ensures c.self.inside.core c.resume.new.self (Resume c.args.connection) [] [] c.self.inside.rounds.lines c.resume.ensures.acts c.resume.ensures.topology refl c.self.invariant.kept_so)
+    (none_leave 0 0 c.self.inside.rounds.lines) (c.wake.ensures.on c.self.inside.rounds (record { len = refl; same = λ at. refl; next = refl }, λ place p i. i)).0.same (c.wake.ensures.on c.self.inside.rounds (record { len = refl; same = λ at. refl; next = refl }, λ place p i. i)).1 (c.wake.ensures.on c.self.inside.rounds (record { len = refl; same = λ at. refl; next = refl }, λ place p i. i)).0.len (λ p ch one wants there among same. c.wake.ensures.awake p ch one (eqb-true p.connection c.args.connection wants) refl there among same)).own
+    (round_after c.self.inside.core c.resume.new.self c.resume.ensures.topology 0 0 ended.Nothing (same_stay (broker_of c.self.inside.core) (broker_of c.resume.new.self) c.resume.ensures.acts.left.channels) c.self.inside.rounds.lines c.self.inside.rounds.lines c.self.invariant.kept_so
+    (none_come c.resume.new.self c.self.inside.rounds.lines)
+    (Resume c.args.connection) [] [] c.resume.ensures.acts c.ghost_is_kept.ensures.whole c.ghost_is_kept.ensures.placed c.self.inside.rounds.lines c.wake.new.waker.lines
+    (nobody_new c.consumers_are_made.ensures c.self.inside.core c.resume.new.self (Resume c.args.connection) [] [] c.self.inside.rounds.lines c.resume.ensures.acts c.resume.ensures.topology refl c.self.invariant.kept_so)
+    (none_leave 0 0 c.self.inside.rounds.lines) (c.wake.ensures.on c.self.inside.rounds (record { len = refl; same = λ at. refl; next = refl }, λ place p i. i)).0.same (c.wake.ensures.on c.self.inside.rounds (record { len = refl; same = λ at. refl; next = refl }, λ place p i. i)).1 (c.wake.ensures.on c.self.inside.rounds (record { len = refl; same = λ at. refl; next = refl }, λ place p i. i)).0.len (λ p ch one wants there among same. c.wake.ensures.awake p ch one (eqb-true p.connection c.args.connection wants) refl there among same))
+    (c.wake.ensures.on c.self.inside.rounds (record { len = refl; same = λ at. refl; next = refl }, λ place p i. i)).0.next
+    (was_there c.consumers_are_made.ensures (topology_kept c.self.inside.core) (broker_of c.self.inside.core) (broker_of c.resume.new.self) (Resume c.args.connection) [] [] c.resume.ensures.acts refl))
+    )

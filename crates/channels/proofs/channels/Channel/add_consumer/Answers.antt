@@ -1,5 +1,6 @@
-use Rattle.channels.proofs.Imports.{◌≡◌, ◌+◌, ◌++◌, ◌∷◌, [], refl, sym, ap, subst, ◌∙◌, count_to, taker_of, ConsumerCounts, CountsAgree, AreNumbered, NoneAbove, Consumer}
+use Rattle.channels.proofs.Imports.{◌≡◌, ◌+◌, ◌++◌, ◌∷◌, [], refl, sym, ap, subst, ◌∙◌, false, list_any, count_to, taker_of, ConsumerCounts, CountsAgree, AreNumbered, NoneAbove, TagsDiffer, is_named, Open, Consumer}
 use Rattle.channels.proofs.Numbering.{numbered_push}
+use Rattle.channels.proofs.Tagging.{differ_push}
 use Rattle.channels.proofs.channels.Channel.add_consumer.Goals as goal
 
 pub invariant_of-self-2 : goal.invariant_of-self-2
@@ -14,6 +15,8 @@ invariant_of-self-2 c =
       c.push.ensures.counted os (subst (λ (s : ConsumerCounts). CountsAgree s os) (sym c.reserve.ensures.same) was) (c.held_by-held.ensures ∙ ap (count_to taker_of next) c.all.ensures.all),
       subst (AreNumbered (next + 1)) (sym pushed) (numbered_push next old.consumers one refl c.self.invariant.2),
       c.self.invariant.3,
+      subst TagsDiffer (sym pushed)
+          (differ_push old.consumers one (subst (λ (ch : Open). list_any (is_named c.args.tag) ch.given.consumers ≡ false) (sym c.self.view_is) c.requires.free) c.self.invariant.4),
     )
 
 pub held_by-held-requires : goal.held_by-held-requires

@@ -1,6 +1,7 @@
-use Rattle.channels.proofs.Imports.{sym, subst, not, AreNumbered, is_named, Consumer, Open}
+use Rattle.channels.proofs.Imports.{sym, subst, not, AreNumbered, TagsDiffer, is_named, Consumer, Open}
 use Rattle.channels.proofs.Making.{named_out}
 use Rattle.channels.proofs.Numbering.{numbered_filter}
+use Rattle.channels.proofs.Tagging.{differ_filter}
 use Rattle.channels.proofs.channels.Channel.cancel.Goals as goal
 
 pub invariant_of-self : goal.invariant_of-self
@@ -9,6 +10,7 @@ invariant_of-self c = (
   c.remove_by_tag.ensures.counted _ c.self.invariant.1,
   subst (AreNumbered c.self.inside.next_number) (sym c.remove_by_tag.ensures.consumers) (numbered_filter c.self.inside.next_number (λ (x : Consumer). not (is_named c.args.tag.now x)) c.self.inside.consumers.consumers c.self.invariant.2),
   c.self.invariant.3,
+  subst TagsDiffer (sym c.remove_by_tag.ensures.consumers) (differ_filter (λ (x : Consumer). not (is_named c.args.tag.now x)) c.self.inside.consumers.consumers c.self.invariant.4),
 )
 
 pub returns-clause-seen : goal.returns-clause-seen

@@ -1,4 +1,4 @@
-use Rattle.channels.proofs.Imports.{◌<◌, ◌+◌, ◌∙◌, ap, length, length-filter, is_waiting, ℕ, sym, subst, List, kept, tag_of, CountsAgree, AreNumbered, NoneAbove, AreParts, Delivery}
+use Rattle.channels.proofs.Imports.{◌<◌, ◌+◌, ◌∙◌, ap, length, length-filter, is_waiting, ℕ, sym, subst, List, kept, tag_of, CountsAgree, AreNumbered, NoneAbove, TagsDiffer, AreParts, Delivery}
 use Rattle.channels.specs.Spans.{settled_by}
 use Rattle.channels.proofs.Counting.{none_above_kept, taken_parts}
 use Rattle.channels.proofs.Marking.{taken_count}
@@ -22,4 +22,5 @@ invariant_of-self c =
           (c.count_out.ensures.counted _ _ (subst (λ (ds : List Delivery). AreParts os ds left) (sym gone) (taken_parts os c.args.span.tag c.args.span.multiple)) c.self.invariant.1),
       subst (AreNumbered c.self.inside.next_number) (sym c.count_out.ensures.consumers) c.self.invariant.2,
       subst (NoneAbove c.self.inside.most_given) (sym c.forget.ensures.outstanding) (none_above_kept c.self.inside.most_given os c.args.span.tag c.args.span.multiple c.self.invariant.3),
+      subst TagsDiffer (sym c.count_out.ensures.consumers) c.self.invariant.4,
     )

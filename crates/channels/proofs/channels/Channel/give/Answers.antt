@@ -1,4 +1,4 @@
-use Rattle.channels.proofs.Imports.{◌≡◌, ◌-◌, ◌<◌, ◌∙◌, ℕ, number_given, List, ap, refl, sym, subst, arith, length, length-append, All, NoneAbove, CountsAgree, AreNumbered, Delivery}
+use Rattle.channels.proofs.Imports.{◌≡◌, ◌-◌, ◌<◌, ◌∙◌, ℕ, number_given, List, ap, refl, sym, subst, arith, length, length-append, All, NoneAbove, CountsAgree, AreNumbered, TagsDiffer, Delivery}
 use Rattle.std.specs.Prelude.{max}
 use Rattle.channels.proofs.Counting.{counts_small, none_above_give}
 use Rattle.channels.proofs.channels.Channel.give.Goals as goal
@@ -20,6 +20,7 @@ invariant_of-self c =
       subst (AreNumbered c.self.inside.next_number) (sym c.count_in.ensures.consumers) c.self.invariant.2,
       subst (λ (m : ℕ). NoneAbove m c.push.new.self.outstanding) (sym (most ∙ ap (max c.self.inside.most_given) c.number_of.ensures))
           (subst (NoneAbove (max c.self.inside.most_given (number_given c.args.by))) (sym c.push.ensures.outstanding) (none_above_give c.self.inside.most_given os one c.self.invariant.3)),
+      subst TagsDiffer (sym c.count_in.ensures.consumers) c.self.invariant.4,
     )
 
 pub returns : goal.returns

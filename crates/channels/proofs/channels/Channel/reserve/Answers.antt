@@ -7,4 +7,5 @@ invariant_of-self c = (
   subst (CountsAgree c.self.inside.consumers) (sym c.reserve.ensures.outstanding) c.self.invariant.1,
   c.self.invariant.2,
   subst (NoneAbove c.self.inside.most_given) (sym c.reserve.ensures.outstanding) c.self.invariant.3,
+  c.self.invariant.4,
 )

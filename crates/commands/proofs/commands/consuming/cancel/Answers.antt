@@ -11,5 +11,5 @@ returns-clause-commands c = λ s content old new turns.
     c.cancel.ensures.seen (queue_names s.topology.queues) ∙ ap (λ (tag : Text). without_consumer (seen s ch) tag) c.as_bytes.ensures in
     (refl, cancelled c.args.id.connection c.args.id.number s ch left c.args.cancel.now c.in_ok-step.step.sends.items c.in_ok-step.step.notes.items old new c.in_ok-step.ensures.sends c.in_ok-step.ensures.notes same turns)
 
-pub returns-clause-placed : goal.returns-clause-placed
-returns-clause-placed c = λ t placed. subst (IsPlaced t) (sym c.cancel.ensures.whole) (placed_cancelled t c.args.channel.now c.as_bytes.result.now c.cancel.new.self.given.consumer_room placed)
+pub returns-clause-in_range : goal.returns-clause-in_range
+returns-clause-in_range c = λ t placed. subst (IsPlaced t) (sym c.cancel.ensures.whole) (placed_cancelled t c.args.channel.now c.as_bytes.result.now c.cancel.new.self.given.consumer_room placed)

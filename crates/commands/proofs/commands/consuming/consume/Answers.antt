@@ -48,6 +48,6 @@ returns c =
       addressed = λ said.
           c.answer_consume.ensures.addressed
           (subst (λ (tag : Text). length tag < 256) (sym (c.in_ok-tag.ensures.named names)) (tag_short (seen s ch) m (none_against s.topology (seen s ch) m free) said.1.1.0));
-      placed = placed_made s.topology ch c.consume.new.self c.in_ok-place.place m c.in_ok-tag.tag at.within c.in_ok-tag.ensures c.requires;
+      in_range = placed_made s.topology ch c.consume.new.self c.in_ok-place.place m c.in_ok-tag.tag at.within c.in_ok-tag.ensures c.ghost_numbers_rise.ensures c.requires;
       err = tt;
     }

@@ -1,4 +1,4 @@
-use Rattle.commands.proofs.Names.{◌∷◌, [], ◌∙◌, sym, ap, subst, queue_names, limited, reply, Send, BasicQosOk, IsPlaced, TakeWithin, AreWithin, seen}
+use Rattle.commands.proofs.Names.{◌∷◌, [], ◌∙◌, sym, ap, subst, queue_names, limited, reply, Send, BasicQosOk, NumbersRise, IsPlaced, TakeWithin, AreWithin, seen}
 use Rattle.commands.proofs.Placing.{same_limited, same_consumers_limited}
 use Rattle.commands.proofs.Stepping.{limited_is}
 use Rattle.commands.proofs.Turning.{does_here}
@@ -13,10 +13,11 @@ returns-clause-commands c = λ s content old new turns. (
       (ap (seen s) c.limit.ensures ∙ limited_is (queue_names s.topology.queues) c.args.channel.now c.args.qos.now) turns,
 )
 
-pub returns-clause-placed : goal.returns-clause-placed
-returns-clause-placed c = λ t placed.
+pub returns-clause-in_range : goal.returns-clause-in_range
+returns-clause-in_range c = λ t placed.
     subst (IsPlaced t) (sym c.limit.ensures)
     (record {
       outstanding = subst (AreWithin t) (sym (same_limited c.args.channel.now c.args.qos.now)) placed.outstanding;
       consumers = subst (TakeWithin t) (sym (same_consumers_limited c.args.channel.now c.args.qos.now)) placed.consumers;
+      rise = subst NumbersRise (sym (same_consumers_limited c.args.channel.now c.args.qos.now)) placed.rise;
     })

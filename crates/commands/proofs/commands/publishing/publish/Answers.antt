@@ -77,5 +77,5 @@ returns-clause-addressed c = λ said.
 pub returns-clause-topology : goal.returns-clause-topology
 returns-clause-topology c = c.in_ok-routed.ensures.ok.publishes.topology
 
-pub returns-clause-placed : goal.returns-clause-placed
-returns-clause-placed c = subst (IsPlaced c.args.depot.now.topology) (sym c.count_publish.ensures) (record { outstanding = c.requires.placed.outstanding; consumers = c.requires.placed.consumers })
+pub returns-clause-in_range : goal.returns-clause-in_range
+returns-clause-in_range c = subst (IsPlaced c.args.depot.now.topology) (sym c.count_publish.ensures) (record { outstanding = c.requires.placed.outstanding; consumers = c.requires.placed.consumers; rise = c.requires.placed.rise })

@@ -11,5 +11,5 @@ returns-clause-commands c = λ s content old new turns.
           c.in_ok-step.ensures.sends c.in_ok-step.ensures.notes (ap (seen s) c.select.ensures) turns,
     )
 
-pub returns-clause-placed : goal.returns-clause-placed
-returns-clause-placed c = λ t placed. subst (IsPlaced t) (sym c.select.ensures) (record { outstanding = placed.outstanding; consumers = placed.consumers })
+pub returns-clause-in_range : goal.returns-clause-in_range
+returns-clause-in_range c = λ t placed. subst (IsPlaced t) (sym c.select.ensures) (record { outstanding = placed.outstanding; consumers = placed.consumers; rise = placed.rise })

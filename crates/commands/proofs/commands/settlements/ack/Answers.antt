@@ -20,7 +20,7 @@ returns-clause-commands c = λ content old new turns. (
 pub returns-clause-topology : goal.returns-clause-topology
 returns-clause-topology c = c.in_ok-ack.ensures.ok.topology
 
-pub returns-clause-placed : goal.returns-clause-placed
-returns-clause-placed c =
+pub returns-clause-in_range : goal.returns-clause-in_range
+returns-clause-in_range c =
     stays_placed c.args.id.connection c.args.id.number c.args.ack.now.delivery_tag c.forget_span.new.self.given.room c.args.ack.now.multiple c.in_ok-span.span c.args.depot.now c.args.channel.now c.forget_span.new.self c.requires
     c.in_ok-span.ensures.span c.forget_span.ensures.settled

@@ -40,4 +40,4 @@ invariant_of-self c =
     let ch = c.deliver_on.new.channel in
     let new : Kept = record { store = c.deliver_on.new.depot; connections = c.channel_mut.follows.lender ch } in
     let there : channel_of old.connections c.args.pick.connection c.args.pick.channel ≡ Some c.in-Some.channel.now = sym c.channel_mut.ensures.value ∙ ap option_copied_mut c.in-Some.is in
-    put_placed c.ghost_lent_channels_are_put.ensures old new c.args.pick.connection c.args.pick.channel c.in-Some.channel.now ch there (c.channel_mut.follows.holds ch) c.deliver_on.ensures.topology c.deliver_on.ensures.placed c.self.invariant
+    put_placed c.ghost_lent_channels_are_put.ensures old new c.args.pick.connection c.args.pick.channel c.in-Some.channel.now ch there (c.channel_mut.follows.holds ch) c.deliver_on.ensures.topology c.deliver_on.ensures.in_range c.self.invariant

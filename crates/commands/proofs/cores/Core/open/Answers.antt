@@ -1,7 +1,8 @@
-use Rattle.commands.proofs.Names.{◌≡◌, ◌∙◌, ap, refl, by_connection, running_in, Kept, topology_kept}
+use Rattle.commands.proofs.Names.{◌≡◌, ◌∙◌, ap, refl, by_connection, running_in, Kept, broker_of, topology_kept}
 use Rattle.std.specs.Option.{option_copied}
 use Rattle.commands.proofs.Freed.{connection_is_freed, within_at}
 use Rattle.commands.proofs.Placing.{placed_opened}
+use Rattle.commands.proofs.Remaining.{opened_empties}
 use Rattle.commands.proofs.Stepping.{IsFreed, opened_is}
 use Rattle.commands.proofs.cores.Core.open.Goals as goal
 
@@ -18,8 +19,10 @@ returns c =
     let before : option_copied c.as_ref.result ≡ running_in old.connections c.args.connection = c.as_ref.ensures.value ∙ c.in_ok-before.ensures.before in
     let freed : IsFreed (by_connection c.args.connection) old.store new.store =
     connection_is_freed old c.args.self.now c.args.connection (option_copied c.as_ref.result) new.store c.self.view_is c.requires before c.requeue_all.ensures in
+    let opened = opened_is old new c.args.connection c.args.channel_max c.args.channels freed c.in_ok-before.ensures.ok in
     record {
-      ok = rw (← c.self.view_is) (record { sent = refl; noted = refl; left = opened_is old new c.args.connection c.args.channel_max c.args.channels freed c.in_ok-before.ensures.ok });
+      ok = rw (← c.self.view_is) (record { sent = refl; noted = refl; left = opened });
+      ended = rw (← c.self.view_is) (c.in_ok-before.ensures.before, opened_empties (broker_of old) (broker_of new) c.args.connection c.args.channel_max c.args.channels opened);
       topology = freed.topology ∙ ap topology_kept c.self.view_is;
       err = tt;
     }
