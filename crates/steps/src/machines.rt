@@ -1,5 +1,6 @@
 //! A machine on which calls fail as if an allocation failed.
 
+use crate::wires::Fault;
 use notes::Notes;
 use runs::{Delivered, Machine, ReloadFault};
 use std::alloc::{AllocError, Global};
@@ -26,8 +27,14 @@ pub(crate) struct Refusals {
 }
 
 impl Refusals {
-    /// Refuses the call with this `number`, and each of the `kind`.
-    pub(crate) fn new(number: u64, kind: Option<Call>) -> Refusals {
+    /// Refuses the calls that `fault` names, if they are the machine's.
+    pub(crate) fn new(fault: Fault<'_>) -> Refusals {
+        let (number, kind) = match fault.calls {
+            "call" => (fault.number, None),
+            "opens" => (0, Some(Call::Open)),
+            "pumps" => (0, Some(Call::Pump)),
+            _ => (0, None),
+        };
         Refusals {
             number,
             kind,

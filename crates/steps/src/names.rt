@@ -1,7 +1,34 @@
-//! Bytes that a file of scenarios calls by a name. Start with [`Names`].
+//! Bytes that a file of scenarios calls by a name, and the steps that it writes with them. Start with [`Names::step_of`].
 
+use crate::worlds::{Step, number_at};
 use line_parts::{LineAnswer, Unanswered, bytes_of, number_of};
 use std::alloc::Global;
+
+/// The kinds of steps that are followed by neither numbers nor bytes.
+const OF_TEXT: [&str; 2] = ["reload", "ask-route"];
+
+/// The kinds of steps that are followed by one number and bytes.
+const OF_ONE_NUMBER: [&str; 9] = [
+    "in",
+    "all",
+    "answer",
+    "begins",
+    "ends",
+    "has",
+    "write",
+    "serve-client",
+    "run-unopened",
+];
+
+/// The kinds of steps whose answer is bytes: what is wanted is written as bytes are.
+const ANSWERING_BYTES: [&str; 6] = [
+    "took",
+    "output",
+    "there",
+    "awaited",
+    "answer",
+    "serve-client",
+];
 
 /// A name and its bytes.
 #[derive(Drop)]
@@ -46,7 +73,7 @@ impl<'a> Names<'a> {
     }
 
     /// Returns the bytes of the words in `text`. Fails with [`Unanswered::Form`] if one is neither a name nor hex.
-    pub(crate) fn bytes_of(&self, out: &mut LineAnswer, text: &str) -> Vec<u8> {
+    fn bytes_of(&self, out: &mut LineAnswer, text: &str) -> Vec<u8> {
         let mut bytes = Vec::new(out.alloc());
         for word in text.split(' ') {
             self.put_word(out, &mut bytes, word);
@@ -59,6 +86,59 @@ impl<'a> Names<'a> {
         let (name, text) = line.split_once(' ').unwrap_or((line, ""));
         let bytes = self.bytes_of(out, text);
         out.push(&mut self.all, Named { name, bytes });
+    }
+
+    /// Returns the step that `line` writes. Fails with [`Unanswered::Form`] if its numbers or its bytes are none.
+    pub(crate) fn step_of<'s>(&self, out: &mut LineAnswer, line: &'s str) -> Step<'s> {
+        let (kind, text) = line.split_once(' ').unwrap_or((line, ""));
+        let count = numbers_of(kind);
+        let (first, rest) = number_if(out, count > 0, text);
+        let (second, rest) = number_if(out, count > 1, rest);
+        let (third, rest) = number_if(out, count > 2, rest);
+        let written = if count > 0 { rest } else { "" };
+        let bytes = self.bytes_of(out, written);
+        Step {
+            kind,
+            text,
+            first,
+            second,
+            third,
+            bytes,
+        }
+    }
+
+    /// Returns the answer that a step of the kind `kind` should have, if `text` is what the file says of it.
+    pub(crate) fn wanted(&self, out: &mut LineAnswer, kind: &str, text: &str) -> LineAnswer {
+        let mut wanted = LineAnswer::new(out.alloc());
+        if ANSWERING_BYTES.contains(&kind) {
+            let bytes = self.bytes_of(out, text);
+            wanted.put_hex(bytes.as_slice());
+        } else {
+            wanted.put(text);
+        }
+        wanted
+    }
+}
+
+/// Returns how many numbers follow the kind `kind` of a step, before its bytes, if it has any.
+fn numbers_of(kind: &str) -> u8 {
+    if OF_TEXT.contains(&kind) {
+        0
+    } else if OF_ONE_NUMBER.contains(&kind) {
+        1
+    } else if kind == "client" {
+        2
+    } else {
+        3
+    }
+}
+
+/// Returns the number at the front of `text`, and what follows it; 0 and the whole text unless `is_there`.
+fn number_if<'s>(out: &mut LineAnswer, is_there: bool, text: &'s str) -> (u64, &'s str) {
+    if is_there {
+        number_at(out, text)
+    } else {
+        (0, text)
     }
 }
 

@@ -1,17 +1,14 @@
 //! Steps of clients that are served over sockets of the system. Start with [`Peers`].
 
-use crate::names::Names;
 use crate::setups::Disk;
-use crate::wires::engine_of;
-use crate::worlds::{World, first_number};
+use crate::worlds::{Step, World, number_at, put_failure};
 use engine::Engine;
 use line_parts::{LineAnswer, Unanswered};
 use scenario_outcomes::{earliest_end, expect_past};
 use scenario_parts::Watched;
 use serving::{Server, serve};
 use sockets::Sockets;
-use std::alloc::Global;
-use std::io::{ErrorKind, Read as _, Write as _};
+use std::io::{self, ErrorKind, Read as _, Write as _};
 use std::net::{Net, OpenStream as _, SocketAddr, TcpStream};
 use std::time::{Duration, Instant};
 
@@ -48,6 +45,23 @@ fn listening(rt: &HostRuntime, out: &mut LineAnswer, patience: u64) -> Option<So
     Some(sockets.with_patience(rt, Duration::from_millis(patience)))
 }
 
+/// Writes `bytes`.
+fn write_all<S: io::Write>(out: &mut LineAnswer, client: &mut S, bytes: &[u8]) {
+    put_failure(out, client.write_all(bytes), "not written");
+}
+
+/// Appends what can be read now to `bytes`, and returns whether the other side may write more.
+fn is_read<S: io::Read>(out: &mut LineAnswer, client: &mut S, bytes: &mut Vec<u8>) -> bool {
+    match client.read_to_end(bytes) {
+        Ok(_) => false,
+        Err(error) if error.kind() == ErrorKind::WouldBlock => true,
+        Err(_) => {
+            out.put("not read");
+            true
+        }
+    }
+}
+
 impl<'a, N: Net> Peers<'a, N> {
     /// Returns a server over the definitions file of `FILE PATIENCE`, without clients.
     pub(crate) fn new(
@@ -56,10 +70,9 @@ impl<'a, N: Net> Peers<'a, N> {
         out: &mut LineAnswer,
         asked: &str,
     ) -> Option<Peers<'a, N>> {
-        let (file, patience) = asked.split_once(' ').unwrap_or((asked, "0"));
-        let (patience, _) = first_number(out, patience);
-        let setup = disk.plain_setup(out, file)?;
-        let engine = engine_of(out, setup)?;
+        let (file, patience) = asked.split_once(' ').unwrap_or((asked, ""));
+        let (patience, _) = number_at(out, patience);
+        let engine = disk.engine(out, file)?;
         let sockets = listening(disk.rt, out, patience)?;
         match Server::new(out.alloc(), engine) {
             Ok(server) => Some(Peers {
@@ -81,12 +94,10 @@ impl<'a, N: Net> Peers<'a, N> {
     /// Connects a client.
     fn connect(&mut self, out: &mut LineAnswer) {
         let Ok(address) = self.sockets.sockets.local_addr() else {
-            out.put("no address");
-            return;
+            return out.put("no address");
         };
         let Ok(client) = TcpStream::connect(self.net, address) else {
-            out.put("not connected");
-            return;
+            return out.put("not connected");
         };
         if client.set_nonblocking(true).is_err() {
             out.put("waits");
@@ -96,56 +107,53 @@ impl<'a, N: Net> Peers<'a, N> {
         }
     }
 
-    /// Writes `bytes` as a client.
-    fn write(&mut self, out: &mut LineAnswer, client: u64, bytes: &[u8]) {
-        match self.clients.get_mut(client as usize) {
-            Some(Some(client)) => {
-                if client.write_all(bytes).is_err() {
-                    out.put("not written");
-                }
-            }
+    /// Writes the bytes of `step` as its client.
+    fn write(&mut self, out: &mut LineAnswer, step: &Step<'_>) {
+        match self.clients.get_mut(step.first as usize) {
+            Some(Some(client)) => write_all(out, client, step.bytes.as_slice()),
             _ => out.put("no client"),
         }
     }
 
     /// Appends the bytes that a client can read now to `bytes`.
     fn read(&mut self, out: &mut LineAnswer, client: u64, bytes: &mut Vec<u8>) {
-        let Some(Some(client)) = self.clients.get_mut(client as usize) else {
-            out.put("no client");
-            return;
-        };
-        match client.read_to_end(bytes) {
-            Ok(_) => self.is_open = false,
-            Err(error) if error.kind() == ErrorKind::WouldBlock => self.is_open = true,
-            Err(_) => out.put("not read"),
+        match self.clients.get_mut(client as usize) {
+            Some(Some(client)) => self.is_open = is_read(out, client, bytes),
+            _ => out.put("no client"),
         }
     }
 
-    /// Serves until a client has read `wanted` bytes, or its socket is closed. Returns what it read.
-    fn read_served(&mut self, out: &mut LineAnswer, client: u64, wanted: u64) -> Vec<u8> {
+    /// Appends what a client can read now.
+    fn put_there(&mut self, out: &mut LineAnswer, client: u64) {
+        let mut bytes = Vec::new(out.alloc());
+        self.read(out, client, &mut bytes);
+        out.put_hex(bytes.as_slice());
+    }
+
+    /// Serves until a client has read `wanted` bytes, or its socket is closed. Appends what it read.
+    fn put_awaited(&mut self, out: &mut LineAnswer, client: u64, wanted: u64) {
         let mut bytes = Vec::new(out.alloc());
         for _ in 0..PATIENCE {
             self.read(out, client, &mut bytes);
             if !self.is_open || bytes.len() as u64 >= wanted {
                 break;
             }
-            self.serve(out.alloc(), 1);
+            self.serve(out, 1);
         }
-        bytes
+        out.put_hex(bytes.as_slice());
     }
 
     /// Does `rounds` rounds. Rounds in which nothing comes wait.
-    fn serve(&mut self, alloc: Global, rounds: u64) {
-        serve(alloc, &mut self.server, &mut self.sockets, rounds);
+    fn serve(&mut self, out: &mut LineAnswer, rounds: u64) {
+        serve(out.alloc(), &mut self.server, &mut self.sockets, rounds);
     }
 
     /// Serves until `count` sockets were closed, and appends the number of those that were.
     fn await_closes(&mut self, out: &mut LineAnswer, count: u64) {
         for _ in 0..PATIENCE {
-            if self.sockets.closes >= count {
-                break;
+            if self.sockets.closes < count {
+                self.serve(out, 1);
             }
-            self.serve(out.alloc(), 1);
         }
         out.put_number(self.sockets.closes);
     }
@@ -186,100 +194,36 @@ impl<'a, N: Net> Peers<'a, N> {
         }
     }
 
-    /// Takes a step of a client that writes or goes away, or of its socket.
-    fn answer_of(
-        &mut self,
-        out: &mut LineAnswer,
-        names: &Names<'_>,
-        kind: &str,
-        client: u64,
-        rest: &str,
-    ) {
-        match kind {
-            "write" => {
-                let bytes = names.bytes_of(out, rest);
-                self.write(out, client, bytes.as_slice());
-            }
-            "in" => {
-                let bytes = names.bytes_of(out, rest);
-                self.write(out, client, bytes.as_slice());
-                self.serve(out.alloc(), TURNS);
-            }
-            "drop" => self.drop_client(out, client),
-            "totals" => self.put_totals(out, client),
-            _ => self.answer_of_reading(out, kind, client, rest),
-        }
-    }
-
-    /// Takes a step of a client that reads.
-    fn answer_of_reading(&mut self, out: &mut LineAnswer, kind: &str, client: u64, rest: &str) {
-        match kind {
-            "there" => {
-                let mut bytes = Vec::new(out.alloc());
-                self.read(out, client, &mut bytes);
-                out.put_hex(bytes.as_slice());
-            }
-            "awaited" => {
-                let (wanted, _) = first_number(out, rest);
-                let bytes = self.read_served(out, client, wanted);
-                out.put_hex(bytes.as_slice());
-            }
-            "frames" => {
-                let (wanted, _) = first_number(out, rest);
-                let bytes = self.read_served(out, client, wanted);
-                out.put_number(bytes.len() as u64);
-                out.put(" in ");
-                out.put_number(count_frames(bytes.as_slice()).unwrap_or(0));
-            }
+    /// Takes a step that looks at the sockets, or waits for them.
+    fn answer_of_sockets(&mut self, out: &mut LineAnswer, step: &Step<'_>) {
+        match step.kind {
+            "totals" => self.put_totals(out, step.first),
+            "closes" => out.put_number(self.sockets.closes),
+            "await-closes" => self.await_closes(out, step.first),
+            "short-writes" => out.put_yes_or_no(self.sockets.short_writes > 0),
+            "open" => out.put_yes_or_no(self.is_open),
+            "moment" => self.set_moment(out, step.first),
+            "past" => out.put_yes_or_no(self.is_past()),
             _ => out.fail(Unanswered::Form),
         }
     }
 }
 
-/// Returns what follows the first frame of `bytes`, or `None` if `bytes` doesn't begin with a whole frame.
-fn behind_frame(bytes: &[u8]) -> Option<&[u8]> {
-    let [_, _, _, a, b, c, d, ref rest @ ..] = *bytes else {
-        return None;
-    };
-    let size = u32::from_be_bytes([a, b, c, d]);
-    let (_, rest) = rest.split_at_checked(size as usize)?;
-    match rest {
-        [206, rest @ ..] => Some(rest),
-        _ => None,
-    }
-}
-
-/// Returns the number of frames of which `bytes` consist, or `None` if they aren't frames.
-fn count_frames(bytes: &[u8]) -> Option<u64> {
-    let mut rest = bytes;
-    let mut count = 0u64;
-    for _ in 0..bytes.len() {
-        if rest.is_empty() {
-            break;
-        }
-        rest = behind_frame(rest)?;
-        count = count.saturating_add(1);
-    }
-    if rest.is_empty() { Some(count) } else { None }
-}
-
 impl<'a, N: Net> World for Peers<'a, N> {
-    fn answer(&mut self, out: &mut LineAnswer, names: &Names<'_>, kind: &str, asked: &str) {
-        match kind {
+    fn answer(&mut self, out: &mut LineAnswer, step: &Step<'_>) {
+        let client = step.first;
+        match step.kind {
             "connect" => self.connect(out),
-            "closes" => out.put_number(self.sockets.closes),
-            "short-writes" => out.put_yes_or_no(self.sockets.short_writes > 0),
-            "open" => out.put_yes_or_no(self.is_open),
-            "past" => out.put_yes_or_no(self.is_past()),
-            _ => {
-                let (number, rest) = first_number(out, asked);
-                match kind {
-                    "serve" => self.serve(out.alloc(), number),
-                    "await-closes" => self.await_closes(out, number),
-                    "moment" => self.set_moment(out, number),
-                    _ => self.answer_of(out, names, kind, number, rest),
-                }
+            "write" => self.write(out, step),
+            "in" => {
+                self.write(out, step);
+                self.serve(out, TURNS);
             }
+            "serve" => self.serve(out, step.first),
+            "drop" => self.drop_client(out, client),
+            "there" => self.put_there(out, client),
+            "awaited" => self.put_awaited(out, client, step.second),
+            _ => self.answer_of_sockets(out, step),
         }
     }
 

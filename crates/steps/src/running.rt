@@ -1,29 +1,17 @@
 //! Runs the scenarios of files. Start with [`run_file`].
 
 use crate::engines::Calls;
-use crate::machines::Call;
 use crate::names::Names;
 use crate::peers::Peers;
 use crate::setups::Disk;
 use crate::wires::{Fault, Served};
 use crate::worlds::World;
 use line_parts::{LineAnswer, Unanswered, number_of};
-use memory_wire::FailingCall;
 use scenario_outcomes::Sums;
 use std::{fs, io};
 
 /// The mark before the name of a scenario.
 const MARK: &str = "\n==== ";
-
-/// The kinds of steps whose answer is bytes: what is wanted is written as bytes are.
-const OF_BYTES: [&str; 6] = [
-    "took",
-    "output",
-    "there",
-    "awaited",
-    "answer",
-    "serve-client",
-];
 
 /// The most characters of an answer that are printed.
 const SHOWN: usize = 400;
@@ -56,8 +44,9 @@ fn put_lack(wrong: &mut LineAnswer, lack: Unanswered) {
     }
 }
 
-/// Appends the beginning of an answer.
+/// Appends an answer that is not the wanted one, or its beginning if it is long.
 fn put_got(wrong: &mut LineAnswer, text: &str) {
+    wrong.put(" got ");
     match text.get(..SHOWN) {
         Some(beginning) => {
             wrong.put(beginning);
@@ -74,25 +63,18 @@ fn compare(wrong: &mut LineAnswer, step: &str, answer: &LineAnswer, wanted: &str
         put_lack(wrong, lack);
     } else if answer.text() != wanted {
         wrong.put(step);
-        wrong.put(" got ");
         put_got(wrong, answer.text());
     }
 }
 
-/// Takes a step, and appends what is wrong.
-fn take_step<W: World>(world: &mut W, names: &Names<'_>, wrong: &mut LineAnswer, step: &str) {
-    let (question, wanted) = step.rsplit_once(" -> ").unwrap_or((step, ""));
-    let (kind, asked) = question.split_once(' ').unwrap_or((question, ""));
+/// Takes the step that a line writes, and appends what is wrong.
+fn take_step<W: World>(world: &mut W, names: &Names<'_>, wrong: &mut LineAnswer, line: &str) {
+    let (question, wanted) = line.rsplit_once(" -> ").unwrap_or((line, ""));
     let mut answer = LineAnswer::new(wrong.alloc());
-    world.answer(&mut answer, names, kind, asked);
-    if OF_BYTES.contains(&kind) {
-        let bytes = names.bytes_of(&mut answer, wanted);
-        let mut hex = LineAnswer::new(wrong.alloc());
-        hex.put_hex(bytes.as_slice());
-        compare(wrong, step, &answer, hex.text());
-    } else {
-        compare(wrong, step, &answer, wanted);
-    }
+    let step = names.step_of(&mut answer, question);
+    let wanted = names.wanted(&mut answer, step.kind, wanted);
+    world.answer(&mut answer, &step);
+    compare(wrong, line, &answer, wanted.text());
 }
 
 /// Returns whether nothing is wrong yet.
@@ -100,38 +82,37 @@ fn is_right(wrong: &LineAnswer) -> bool {
     wrong.len() == 0 && wrong.lack().is_none()
 }
 
-/// Takes the steps of a line: `STEP; STEP`, or `N times: STEP; STEP`.
-fn take_steps<W: World>(world: &mut W, names: &Names<'_>, wrong: &mut LineAnswer, line: &str) {
-    let (times, steps) = line.split_once(" times: ").unwrap_or(("1", line));
-    for _ in 0..number_of(wrong, times) {
-        for step in steps.split("; ") {
-            if is_right(wrong) {
-                take_step(world, names, wrong, step);
-            }
+/// Takes steps, up to the first that is wrong: `STEP; STEP`.
+fn take_steps<W: World>(world: &mut W, names: &Names<'_>, wrong: &mut LineAnswer, steps: &str) {
+    for step in steps.split("; ") {
+        if is_right(wrong) {
+            take_step(world, names, wrong, step);
         }
     }
 }
 
-/// Returns whether each of `conditions` is so.
+/// Returns whether each of `conditions` is so; none are so.
 fn are_so<W: World>(world: &W, conditions: &str) -> bool {
     for condition in conditions.split(", ") {
-        if !world.is_so(condition) {
+        if !condition.is_empty() && !world.is_so(condition) {
             return false;
         }
     }
     true
 }
 
-/// Takes the steps of a line, unless it is `if CONDITION, CONDITION: STEPS` and one of the conditions isn't so.
+/// Takes the steps of a line: `STEPS`, `COUNT times: STEPS`, or either behind `if CONDITION, CONDITION: `, if each of these is so.
 fn take_line<W: World>(world: &mut W, names: &Names<'_>, wrong: &mut LineAnswer, line: &str) {
-    match line.strip_prefix("if ") {
-        None => take_steps(world, names, wrong, line),
-        Some(rest) => {
-            let (conditions, steps) = rest.split_once(": ").unwrap_or(("", rest));
-            if are_so(&*world, conditions) {
-                take_steps(world, names, wrong, steps);
-            }
-        }
+    let (conditions, rest) = match line.strip_prefix("if ") {
+        Some(rest) => rest.split_once(": ").unwrap_or((rest, "")),
+        None => ("", line),
+    };
+    if !are_so(&*world, conditions) {
+        return;
+    }
+    let (times, steps) = rest.split_once(" times: ").unwrap_or(("1", rest));
+    for _ in 0..number_of(wrong, times) {
+        take_steps(world, names, wrong, steps);
     }
 }
 
@@ -148,27 +129,13 @@ fn take_lines<W: World>(world: &mut W, names: &Names<'_>, wrong: &mut LineAnswer
     }
 }
 
-/// Returns the wire's call that `word` names, or `None` for `call`, which is any call of the machine that may allocate.
-fn failing_call(wrong: &mut LineAnswer, word: &str) -> Option<FailingCall> {
-    match word {
-        "accept" => Some(FailingCall::Accept),
-        "read" => Some(FailingCall::Read),
-        "write" => Some(FailingCall::Write),
-        "call" => None,
-        _ => {
-            wrong.fail(Unanswered::Form);
-            None
-        }
-    }
-}
-
 /// Takes the steps of clients that are served in memory, with a fault. Returns whether a call failed by it.
 fn take_served(
     disk: Disk<'_>,
     names: &Names<'_>,
     wrong: &mut LineAnswer,
     file: &str,
-    fault: Fault,
+    fault: Fault<'_>,
     lines: &str,
 ) -> bool {
     match Served::new(disk, wrong, file, fault) {
@@ -180,21 +147,18 @@ fn take_served(
     }
 }
 
-/// Takes the steps once for each call of the kind `call`, which fails in that run, and returns the number of these runs.
+/// Takes the steps once for each of `calls`, which fails in that run, and returns the number of these runs.
 fn fail_each(
     disk: Disk<'_>,
     names: &Names<'_>,
     wrong: &mut LineAnswer,
     file: &str,
-    call: Option<FailingCall>,
+    calls: &str,
     lines: &str,
 ) -> u64 {
     for count in 0..MOST_RUNS {
-        let fault = Fault {
-            call,
-            count: count.saturating_add(1),
-            always: None,
-        };
+        let number = count.saturating_add(1);
+        let fault = Fault { calls, number };
         if !take_served(disk, names, wrong, file, fault, lines) || !is_right(wrong) {
             return count;
         }
@@ -202,41 +166,35 @@ fn fail_each(
     MOST_RUNS
 }
 
-/// Compares the numbers of runs with those that are wanted, unless a step is wrong.
-fn compare_runs(wrong: &mut LineAnswer, asked: &str, answer: &LineAnswer, wanted: &str) {
+/// Takes the steps with calls that fail in turn: `CALLS CALLS -> RUNS RUNS`. Compares the numbers of runs with those that are wanted, unless a step is wrong.
+fn run_each(
+    disk: Disk<'_>,
+    names: &Names<'_>,
+    wrong: &mut LineAnswer,
+    file: &str,
+    asked: &str,
+    lines: &str,
+) {
+    let (words, wanted) = asked.split_once(" -> ").unwrap_or((asked, ""));
+    let mut answer = LineAnswer::new(wrong.alloc());
+    for calls in words.split(' ') {
+        answer.put_space();
+        answer.put_number(fail_each(disk, names, wrong, file, calls, lines));
+    }
     if is_right(wrong) {
-        compare(wrong, asked, answer, wanted);
+        compare(wrong, words, &answer, wanted);
     }
 }
 
-/// Runs a scenario of clients that are served in memory: `FILE`, `FILE refuse KIND`, or `FILE each CALL CALL -> RUNS RUNS`.
+/// Runs a scenario of clients that are served in memory: `FILE`, `FILE refuse CALLS`, or `FILE each CALLS CALLS -> RUNS RUNS`.
 fn run_served(disk: Disk<'_>, names: &Names<'_>, wrong: &mut LineAnswer, asked: &str, lines: &str) {
-    if let Some((file, each)) = asked.split_once(" each ") {
-        let (words, wanted) = each.split_once(" -> ").unwrap_or((each, ""));
-        let mut answer = LineAnswer::new(wrong.alloc());
-        for word in words.split(' ') {
-            let call = failing_call(wrong, word);
-            answer.put_space();
-            answer.put_number(fail_each(disk, names, wrong, file, call, lines));
+    match asked.split_once(" each ") {
+        Some((file, each)) => run_each(disk, names, wrong, file, each, lines),
+        None => {
+            let (file, calls) = asked.split_once(" refuse ").unwrap_or((asked, ""));
+            let fault = Fault { calls, number: 0 };
+            take_served(disk, names, wrong, file, fault, lines);
         }
-        compare_runs(wrong, asked, &answer, wanted);
-        return;
-    }
-    let (file, kind) = asked.split_once(" refuse ").unwrap_or((asked, ""));
-    let fault = Fault {
-        call: None,
-        count: 0,
-        always: refused_kind(kind),
-    };
-    take_served(disk, names, wrong, file, fault, lines);
-}
-
-/// Returns the kind of the machine's calls that `word` names.
-fn refused_kind(word: &str) -> Option<Call> {
-    match word {
-        "opens" => Some(Call::Open),
-        "pumps" => Some(Call::Pump),
-        _ => None,
     }
 }
 

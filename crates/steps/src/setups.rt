@@ -1,8 +1,9 @@
 //! Reads the files that a broker is set up by. Start with [`Disk::setup`].
 
-use certificate::{Certificate, admit};
+use certificate::{Certificate, Checked, admit};
 use definitions::read_definitions;
-use engine::Setup;
+use engine::{Engine, Setup};
+use exchange_graph::Topology;
 use guarantees::read_guarantees;
 use line_parts::{LineAnswer, Unanswered, cut};
 use std::fs;
@@ -37,6 +38,13 @@ impl Disk<'_> {
         setup_of(out, bytes.as_slice(), b"{\"guarantees\":[]}", b"[]")
     }
 
+    /// Returns an engine over the definitions file `definitions`, without guarantees.
+    pub(crate) fn engine(&self, out: &mut LineAnswer, definitions: &str) -> Option<Engine> {
+        let (checked, users) = self.plain_setup(out, definitions)?.into_parts();
+        let engine = Engine::new(out.alloc(), checked, users);
+        out.value_of(engine, Unanswered::Memory)
+    }
+
     /// Returns what the files `DEFINITIONS GUARANTEES CERTIFICATES` put in force.
     pub(crate) fn setup(&self, out: &mut LineAnswer, files: &str) -> Option<Setup> {
         let (definitions, rest) = cut(out, files);
@@ -53,6 +61,22 @@ impl Disk<'_> {
     }
 }
 
+/// Admits a topology under the guarantees and certificates that two files state. Otherwise fails with [`Unanswered::File`].
+fn admitted(
+    out: &mut LineAnswer,
+    topology: Topology,
+    guarantees: &[u8],
+    certificates: &[u8],
+) -> Option<Checked> {
+    let alloc = out.alloc();
+    let guarantees = read_guarantees(alloc, guarantees, &topology);
+    let guarantees = out.value_of(guarantees, Unanswered::File)?;
+    let certificates = Certificate::read(alloc, certificates);
+    let certificates = out.value_of(certificates, Unanswered::File)?;
+    let checked = admit(alloc, topology, guarantees, certificates.as_slice());
+    out.value_of(checked, Unanswered::File)
+}
+
 /// Returns what the three files state, if they are admitted. Otherwise fails with [`Unanswered::File`].
 fn setup_of(
     out: &mut LineAnswer,
@@ -60,14 +84,8 @@ fn setup_of(
     guarantees: &[u8],
     certificates: &[u8],
 ) -> Option<Setup> {
-    let alloc = out.alloc();
-    let definitions = out.value_of(read_definitions(alloc, definitions), Unanswered::File)?;
-    let (topology, users) = definitions.into_parts();
-    let guarantees = read_guarantees(alloc, guarantees, &topology);
-    let guarantees = out.value_of(guarantees, Unanswered::File)?;
-    let certificates = Certificate::read(alloc, certificates);
-    let certificates = out.value_of(certificates, Unanswered::File)?;
-    let checked = admit(alloc, topology, guarantees, certificates.as_slice());
-    let checked = out.value_of(checked, Unanswered::File)?;
+    let definitions = read_definitions(out.alloc(), definitions);
+    let (topology, users) = out.value_of(definitions, Unanswered::File)?.into_parts();
+    let checked = admitted(out, topology, guarantees, certificates)?;
     Some(Setup::new(checked, users))
 }
