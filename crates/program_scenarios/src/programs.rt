@@ -89,37 +89,77 @@ fn expect_found(disk: &mut Disk<'_>, alloc: Global, bytes: &[u8], is: bool) -> R
     expect("the file is compared rightly", found == is)
 }
 
+/// Checks that the written file has the bytes [`CERTIFICATES`].
+fn expect_text(disk: &mut Disk<'_>, alloc: Global) -> Result<(), Unmet> {
+    let text = value_of("read", disk.read(alloc, WRITTEN))?;
+    expect_bytes("the file", text.as_slice(), CERTIFICATES)
+}
+
+/// Checks that the written file differs from a text that is longer: its bytes as numbers.
+fn expect_not_longer(disk: &mut Disk<'_>, alloc: Global) -> Result<(), Unmet> {
+    let longer = value_of("format", format!(in alloc; "{CERTIFICATES:?}"))?;
+    expect_found(disk, alloc, longer.as_bytes(), false)
+}
+
+/// Checks that the written file differs from each of `parts`.
+fn expect_no_part(disk: &mut Disk<'_>, alloc: Global, parts: &[&[u8]]) -> Result<(), Unmet> {
+    for part in parts {
+        expect_found(disk, alloc, part, false)?;
+    }
+    Ok(())
+}
+
 /// Checks that certificates that the program wrote are read back, accepted, and compared in parts.
 pub(crate) fn a_file_that_is_written_is_read_back(rt: &HostRuntime) -> Result<(), Unmet> {
     let alloc = rt.alloc();
-    write(rt)?;
     let mut disk = Disk { rt };
-    let text = value_of("read", disk.read(alloc, WRITTEN))?;
-    expect_bytes("the file", text.as_slice(), CERTIFICATES)?;
+    write(rt)?;
+    expect_text(&mut disk, alloc)?;
     expect_found(&mut disk, alloc, CERTIFICATES, true)?;
-    expect_found(&mut disk, alloc, &CERTIFICATES[1..], false)?;
-    expect_found(&mut disk, alloc, &CERTIFICATES[..9], false)?;
-    expect_found(&mut disk, alloc, b"", false)?;
-    let longer = value_of("format", format!(in alloc; "{CERTIFICATES:?}"))?;
-    expect_found(&mut disk, alloc, longer.as_bytes(), false)?;
+    let parts: [&[u8]; 3] = [&CERTIFICATES[1..], &CERTIFICATES[..9], b""];
+    expect_no_part(&mut disk, alloc, parts.as_slice())?;
+    expect_not_longer(&mut disk, alloc)?;
     let words = ["warren", "verify", TWO_KEYS, ORDERS, WRITTEN];
     expect_run(rt, words.as_slice(), 0, b"1 ok\n", b"")?;
     remove(rt)
+}
+
+/// Returns `count` bytes 7, of which the last is `last`.
+fn sevens(alloc: Global, count: usize, last: u8) -> Result<Vec<u8>, Unmet> {
+    let mut bytes = value_of("vec", vec![in alloc; 7u8; count])?;
+    if let Some(byte) = bytes.last_mut() {
+        *byte = last;
+    }
+    Ok(bytes)
+}
+
+/// Checks that comparing the written file with `count` bytes 7, of which the last is `last`, returns `is`.
+fn expect_sevens(
+    disk: &mut Disk<'_>,
+    alloc: Global,
+    count: usize,
+    last: u8,
+    is: bool,
+) -> Result<(), Unmet> {
+    let bytes = sevens(alloc, count, last)?;
+    expect_found(disk, alloc, bytes.as_slice(), is)
+}
+
+/// Writes a file of 100,000 bytes 7.
+fn write_sevens(disk: &mut Disk<'_>, alloc: Global) -> Result<(), Unmet> {
+    let bytes = sevens(alloc, 100_000, 7)?;
+    value_of("write", disk.write(WRITTEN, bytes.as_slice()))
 }
 
 /// Checks that a file longer than a part is compared to its end, also if only the last byte differs.
 pub(crate) fn a_long_file_is_compared_to_its_end(rt: &HostRuntime) -> Result<(), Unmet> {
     let alloc = rt.alloc();
     let mut disk = Disk { rt };
-    let mut bytes = value_of("vec", vec![in alloc; 7u8; 100_000])?;
-    value_of("write", disk.write(WRITTEN, bytes.as_slice()))?;
-    expect_found(&mut disk, alloc, bytes.as_slice(), true)?;
-    value_of("push", bytes.push(7))?;
-    expect_found(&mut disk, alloc, bytes.as_slice(), false)?;
-    bytes.truncate(99_999);
-    expect_found(&mut disk, alloc, bytes.as_slice(), false)?;
-    value_of("push", bytes.push(8))?;
-    expect_found(&mut disk, alloc, bytes.as_slice(), false)?;
+    write_sevens(&mut disk, alloc)?;
+    expect_sevens(&mut disk, alloc, 100_000, 7, true)?;
+    expect_sevens(&mut disk, alloc, 100_001, 7, false)?;
+    expect_sevens(&mut disk, alloc, 99_999, 7, false)?;
+    expect_sevens(&mut disk, alloc, 100_000, 8, false)?;
     remove(rt)
 }
 
@@ -133,24 +173,61 @@ pub(crate) fn a_file_that_is_not_there_is_unread(rt: &HostRuntime) -> Result<(),
     expect("it cannot be compared", compared)
 }
 
+/// A run of the program over files: its words, and what it has to end with.
+#[derive(Clone, Copy, Drop)]
+struct Run {
+    words: &'static [&'static str],
+    status: u64,
+    out: &'static [u8],
+    err: &'static [u8],
+}
+
+/// A run for each exit status above 0 that docs/OPERATIONS.md lists.
+const STATUSES: &[Run] = &[
+    Run {
+        words: &["warren", "check", ONE_KEY, ORDERS],
+        status: 1,
+        out: b"1 no key \"orders\"\n",
+        err: b"",
+    },
+    Run {
+        words: &[
+            "warren",
+            "check",
+            "definitions/no_binding.json",
+            "guarantees/long_to_q.json",
+        ],
+        status: 2,
+        out: b"1 undecided key\n",
+        err: b"",
+    },
+    Run {
+        words: &["warren", "route", TWO_KEYS, "nowhere", "orders"],
+        status: 3,
+        out: b"",
+        err: b"warren: no exchange\n",
+    },
+    Run {
+        words: &["warren", "check", NO_FILE, ORDERS],
+        status: 4,
+        out: b"",
+        err: b"warren: definitions/nowhere.json: cannot read\n",
+    },
+];
+
+/// Checks each of `runs`.
+fn expect_runs(rt: &HostRuntime, runs: &[Run]) -> Result<(), Unmet> {
+    for run in runs {
+        expect_run(rt, run.words, run.status, run.out, run.err)?;
+    }
+    Ok(())
+}
+
 /// Checks each exit status that docs/OPERATIONS.md lists, over files on disk.
 pub(crate) fn each_status_comes_of_files_of_the_machine(rt: &HostRuntime) -> Result<(), Unmet> {
     write(rt)?;
     remove(rt)?;
-    let broken = ["warren", "check", ONE_KEY, ORDERS];
-    expect_run(rt, broken.as_slice(), 1, b"1 no key \"orders\"\n", b"")?;
-    let undecided = [
-        "warren",
-        "check",
-        "definitions/no_binding.json",
-        "guarantees/long_to_q.json",
-    ];
-    expect_run(rt, undecided.as_slice(), 2, b"1 undecided key\n", b"")?;
-    let refused = ["warren", "route", TWO_KEYS, "nowhere", "orders"];
-    expect_run(rt, refused.as_slice(), 3, b"", b"warren: no exchange\n")?;
-    let unread = ["warren", "check", NO_FILE, ORDERS];
-    let expected = b"warren: definitions/nowhere.json: cannot read\n";
-    expect_run(rt, unread.as_slice(), 4, b"", expected)
+    expect_runs(rt, STATUSES)
 }
 
 /// Returns the words that ask to serve at `address` for three rounds, with a look at the files after each but the last.

@@ -113,6 +113,38 @@ fn expect_unserved<N: Net>(served: &ServeOutcome<N>, status: u64, asked: u64) ->
     )
 }
 
+/// Checks that `out` names the address at which `sockets` listen.
+fn expect_address(alloc: Global, sockets: &Sockets, out: &[u8]) -> Result<(), Unmet> {
+    let address = value_of("Sockets::local_addr", sockets.local_addr())?;
+    let line = value_of(
+        "format",
+        format!(in alloc; "warren: listening on {address}\n"),
+    )?;
+    expect_bytes("the output", out, line.as_bytes())
+}
+
+/// Checks what the sockets of a program that ended did: they were asked for 16 clients, and `out` names their address.
+fn expect_served(alloc: Global, ended: &Ended<Watched<Sockets>>, out: &[u8]) -> Result<(), Unmet> {
+    expect_number("the status", u64::from(ended.status), 0)?;
+    match &ended.service {
+        Some(service) => {
+            expect_number("the number of turns", service.sockets.accepts, 16)?;
+            expect_address(alloc, &service.sockets.sockets, out)
+        }
+        None => Err(Unmet::Call("serve")),
+    }
+}
+
+/// Checks that a client whose server has gone reads the answer to its opening and its publish.
+fn expect_answered<S: io::Read + Drop>(alloc: Global, client: Option<S>) -> Result<(), Unmet> {
+    let Some(mut client) = client else {
+        return Err(Unmet::Call("the client"));
+    };
+    let mut answer: Vec<u8> = Vec::new(alloc);
+    value_of("read_to_end", client.read_to_end(&mut answer))?;
+    expect_opened_and_acked(alloc, answer.as_slice())
+}
+
 /// Checks that a client of `serve` is served: the address is reported, and as many rounds are served as were requested.
 pub(crate) fn serve_tells_where_it_listens_and_ends_after_its_turns<N: Net>(
     net: &N,
@@ -121,25 +153,15 @@ pub(crate) fn serve_tells_where_it_listens_and_ends_after_its_turns<N: Net>(
     let mut out: Vec<u8> = Vec::new(alloc);
     let ServeOutcome {
         ended,
-        mut listener,
+        listener,
         err,
     } = serve(net, alloc, "definitions", FREE, &mut out)?;
-    let Ended { service, status } = ended;
-    expect_number("the status", u64::from(status), 0)?;
     expect("there is no complaint", err.is_empty())?;
-    let service = value_of("serve", service.ok_or(()))?;
-    expect_number("the number of turns", service.sockets.accepts, 16)?;
-    let address = value_of("Sockets::local_addr", service.sockets.sockets.local_addr())?;
-    let line = value_of(
-        "format",
-        format!(in alloc; "warren: listening on {address}\n"),
-    )?;
-    expect_bytes("the output", out.as_slice(), line.as_bytes())?;
-    drop(service);
-    let mut client = value_of("the client", listener.client.take().ok_or(()))?;
-    let mut answer: Vec<u8> = Vec::new(alloc);
-    value_of("read_to_end", client.read_to_end(&mut answer))?;
-    expect_opened_and_acked(alloc, answer.as_slice())
+    let outcome = expect_served(alloc, &ended, out.as_slice());
+    // its socket ends with the server: then the client reads to the end
+    drop(ended);
+    outcome?;
+    expect_answered(alloc, listener.client)
 }
 
 /// Checks that no socket is opened if a file is refused.
