@@ -1,5 +1,5 @@
-"""Checks the pages: that no link leads nowhere, how long the README is, that no sentence has a word of the dialect below, and that a crate's CALLING.md
-quotes a proved caller. Checks the doc comments of what is public in each crate for the same words, and what warrenctl, dev and the Makefile print.
+"""Checks the pages: that no link leads nowhere, that what they say to run is there, how long the README is, that no sentence has a word of the dialect below, and
+that a crate's CALLING.md quotes a proved caller. Checks the doc comments of what is public in each crate for the same words, and what warrenctl, dev and the Makefile print.
 
 The words are short and true, and a reader stops at them. Beside each is what to write instead. Quoted code may have them.
 
@@ -54,6 +54,11 @@ NAMED_LINK = re.compile(r"\[(`[^`]+`)\](?![(:])")
 LEADS = re.compile(r"^\[(`[^`]+`)\]: (\S+)$", re.MULTILINE)
 PLACE = re.compile(r'<a id="([a-z-]+)"></a>')
 NAMED = re.compile(r"\bdocs/[A-Za-z/]+\.md\b")
+# code in a sentence or a block; and what it runs: a target of the Makefile, a module, a file of the examples
+CODE = re.compile(r"`([^`]+)`")
+RUN = re.compile(r"^(?:\$ )?(?:make ([a-z][a-z-]*)|python3 -m ((?:dev|examples)\.[\w.]*\w)|(?:\./)?(examples/[\w./-]+) .)", re.MULTILINE)
+# says what was
+HISTORY = "CHANGELOG.md"
 DOC = re.compile(r"\s*(///(?!/)|//!) ?")
 # what may be between a doc comment and its item
 BETWEEN = re.compile(r"\s*(?:#!?\[.*|//(?![/!]).*)?$")
@@ -102,6 +107,22 @@ def dead_links(root, page, text):
 
 def dead_names(root, page, text):
     yield from (f"{page}: there is no {it}" for it in NAMED.findall(text) if not os.path.exists(os.path.join(root, it)))
+
+
+def is_run(root, target, module, file):
+    """Returns whether one of these that is given can be run here."""
+    if target:
+        return re.search(rf"^(?:[a-z -]+ )?{target}(?: [a-z -]+)?:", text_of(root, "Makefile"), re.MULTILINE)
+    if module:
+        path = os.path.join(root, module.replace(".", "/"))
+        return os.path.exists(f"{path}.py") or os.path.exists(f"{path}/__main__.py")
+    return os.access(os.path.join(root, file), os.X_OK) and not os.path.isdir(os.path.join(root, file))
+
+
+def dead_commands(root, page, text):
+    if page != HISTORY:
+        asked = [it for code in CODE.findall(text) for it in RUN.findall(code)]
+        yield from (f"{page}: there is no {target or module or file} to run" for target, module, file in asked if not is_run(root, target, module, file))
 
 
 def dialect(page, text, more=()):
@@ -189,6 +210,7 @@ def wrong_in(root, page):
     text = text_of(root, page)
     yield from dead_links(root, page, text)
     yield from dead_names(root, page, text)
+    yield from dead_commands(root, page, text)
     yield from dialect(page, text)
     if os.path.basename(page) == "CALLING.md":
         yield from wrong_calling(root, page, text)

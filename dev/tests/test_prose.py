@@ -129,7 +129,7 @@ class Pages(unittest.TestCase):
     def setUp(self):
         self.work = tempfile.TemporaryDirectory()
         self.root = self.work.name
-        for name in ("README.md", "CHANGELOG.md", "CONTRIBUTING.md"):
+        for name in ("README.md", "CHANGELOG.md", "CONTRIBUTING.md", "Makefile"):
             shutil.copy(os.path.join(ROOT, name), self.root)
         shutil.copytree(os.path.join(ROOT, "docs"), os.path.join(self.root, "docs"))
         for name in ("crates", "examples", "tools", "warrenctl", "dev"):
@@ -209,6 +209,13 @@ class Pages(unittest.TestCase):
     def test_a_page_that_is_named_and_not_there(self):
         self.add("docs/inside/TESTING.md", "As docs/PROOFS.md says.")
         self.assertSays("docs/inside/TESTING.md: there is no docs/PROOFS.md")
+
+    def test_a_command_that_is_not_there(self):
+        self.add("docs/COSTS.md", "`make tools`, `python3 -m dev.stores`, `examples/ci/check A B C`; please make toys.")
+        self.assertNotIn("to run", self.said()[1])
+        self.add("docs/COSTS.md", "`make toys`, `python3 -m dev.stores.more`, `examples/ci/run.py A`, `examples/ci A`\n\n```\n$ make puppets\n```")
+        for it in ("toys", "puppets", "dev.stores.more", "examples/ci/run.py", "examples/ci"):
+            self.assertSays(f"docs/COSTS.md: there is no {it} to run\n")
 
     def test_a_long_readme(self):
         self.add("README.md", "\n" * 120)
