@@ -138,7 +138,7 @@ examples: warren
 # Each part needs a RabbitMQ or other packages of Debian, which `make test-packages` names: one that lacks them says so in one line, and passes.
 DEBIAN = gcc man-db zsh rabbitmq-server haproxy stunnel4 openssl prometheus python3-yaml python3-pika python3-aio-pika celery ruby-bunny
 DEBIAN += php-amqplib php-cli librabbitmq-client-java default-jdk-headless golang-go golang-github-rabbitmq-amqp091-go-dev
-AROUND = clean reload deploy metrics parts shovel rabbit agree exports ci takeover unmodified
+AROUND = clean pages reload deploy metrics parts shovel rabbit agree exports ci takeover unmodified
 ONLY = $(AROUND)
 WARRENCTL = out/warrenctl
 

@@ -1,7 +1,7 @@
 """Tries the program and the one file of warrenctl with a RabbitMQ and other programs of Debian: python3 -m dev.around WARREN WARRENCTL [PART ..]
 
 Without a part all are tried. Each runs in a folder of its own that has the examples and no part of warrenctl, so that they take it from the file
-WARRENCTL; `clean` makes a release, and leaves the repository with that. A part whose packages are not installed says so in one line, and passes.
+WARRENCTL; `clean` and `pages` make a release, and leave the repository with that. A part whose packages are not installed says so in one line, and passes.
 Status: 0 all passed; 1 a part failed; 3 the command line is refused.
 """
 
@@ -18,7 +18,7 @@ from warrenctl.fault import Fault
 
 FAILED = 1
 # each part: what runs it, before the program; those of the last list take no program
-RELEASED = {"clean": "dev.clean"}
+RELEASED = {"clean": "dev.clean", "pages": "dev.pages"}
 SCRIPTS = {"deploy": "examples/deploy/run"}
 MODULES = {
     "deploy": ["examples.deploy.ends"],
