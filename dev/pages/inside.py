@@ -57,20 +57,22 @@ def as_run(text, places):
 
 
 class Server:
-    """A command that goes on until it is ended: it is there if it has not ended a while after its first line."""
+    """A command that goes on until it is ended: it is there if it has not ended a while after its first output."""
 
     def __init__(self, text, folder, shown=()):
         begins = "" if re.match(r"\w+=", text) else "exec "
-        how = {"cwd": folder, "stdin": subprocess.DEVNULL, "stdout": subprocess.PIPE, "stderr": subprocess.STDOUT, "text": True}
+        how = {"cwd": folder, "stdin": subprocess.DEVNULL, "stdout": subprocess.PIPE, "stderr": subprocess.STDOUT}
         self.process = subprocess.Popen(["bash", "-c", begins + text], start_new_session=True, **how)
         waits = PATIENCE if shown or "serve" in text else REST
-        self.said = self.process.stdout.readline() if select.select([self.process.stdout], [], [], waits)[0] else ""
+        there = select.select([self.process.stdout], [], [], waits)[0]
+        self.said = os.read(self.process.stdout.fileno(), 65_536).decode("utf-8", "replace") if there else ""
         time.sleep(REST)
         missing = first_missing(shown, self.said)
         self.is_there = self.process.poll() is None and missing is None
 
     def end(self):
-        os.killpg(self.process.pid, signal.SIGKILL)
+        with contextlib.suppress(ProcessLookupError):
+            os.killpg(self.process.pid, signal.SIGKILL)
         self.process.wait()
         self.process.stdout.close()
 
