@@ -27,7 +27,7 @@ TYPED = "a long password\n" * 2
 BEFORE = 'sudo() { "$@"; }\n'
 INSTALLS = ("sha256sum ", "sudo ", "podman ")
 # what goes on until its block is over, and prints when it is ready
-SERVES = re.compile(r"(?:\w+=\w+ )?(?:warren serve|warrenctl metrics|warrenctl front|haproxy|warrenctl depths (?!.*--(?:once|prometheus))) ")
+SERVES = re.compile(r"(?:\w+=\w+ )?(?:warren serve|warrenctl metrics|warrenctl front|haproxy|warrenctl depths(?! .*--(?:once|prometheus))) ")
 # what a page shows of a guarantee that doesn't hold: the status is then 1
 BROKEN = re.compile(r"^\d+ no |: NO: ")
 # the first of these with which a command begins says how it ends, as its page or help does; all others end with 0
