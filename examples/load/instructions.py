@@ -2,7 +2,7 @@
 
 Each PROGRAM is a `warren`, given as a path or as NAME=PATH. Instructions of the system's calls are not counted, so other work on the machine
 changes no figure. Each load is run with few messages and with many, and the difference is divided by the difference of their numbers:
-neither the start of the server nor a login is in a figure. Wants Debian's package `valgrind`, and takes about a minute for each program.
+neither the start of the server nor a login is in a figure. Wants Debian's package `valgrind`, and takes some minutes for each program.
 
 --hold FILE takes the loads of FILE, a JSON object with a figure for each, and fails if a program takes over a tenth more than one of them.
 """
@@ -11,6 +11,7 @@ import argparse
 import json
 import os
 import re
+import resource
 import shutil
 import signal
 import subprocess
@@ -34,6 +35,10 @@ SLACK = 1.1
 FEW, MORE, WINDOW = 1_000, 6_000, 100
 # consumers that stay, and how many of them a channel has
 STAYING, ON_CHANNEL = 1_000, 250
+# clients that publish side by side, and the window of each
+MANY, EACH = 1_000, 20
+# open files of the server and of this process, each of which has a socket for each client
+OPEN_FILES = 3_000
 # bindings of the topic exchange `keys`
 BINDINGS = 1_000
 
@@ -59,6 +64,19 @@ def confirmed(port, count, size=12):
 
 def confirmed_1024(port, count):
     confirmed(port, count, 1024)
+
+
+def confirmed_by_many(port, count):
+    """Publishes messages from many clients, each of which writes its window at once and waits for its acks: a window of each for each client counted."""
+    clients = [publisher(port) for _ in range(MANY)]
+    words = publish("direct", "new", b"x" * 12) * EACH
+    for _ in range(0, count, MANY):
+        for client in clients:
+            client.socket.sendall(words)
+        for client in clients:
+            client.await_acks(EACH)
+    for client in clients:
+        client.close()
 
 
 def acknowledge(consumer, count):
@@ -126,9 +144,13 @@ def come_and_go_behind(port, count):
         client.close()
 
 
+MANY_PUBLISH = f"publish, 12 bytes, {MANY:,} clients of {EACH}"
+# how many messages the loads have for each that they are asked for, other than 1
+TIMES = {MANY_PUBLISH: EACH}
 # the name of each load, its messages, and the load whose instructions are taken off
 LOADS = (
     ("publish, 12 bytes", confirmed, None),
+    (MANY_PUBLISH, confirmed_by_many, None),
     ("publish, 1,024 bytes", confirmed_1024, None),
     ("publish, deliver and ack, 12 bytes", delivered, None),
     (f"publish under a new key, {BINDINGS:,} bindings", under_new_keys, None),
@@ -170,9 +192,9 @@ def instructions(program, folder, files, run, count):
         return int(re.search(r"^(?:totals|summary): (\d+)", file.read(), re.MULTILINE).group(1))
 
 
-def of_message(program, folder, files, run):
+def of_message(program, folder, files, run, times=1):
     few, more = (instructions(program, folder, files, run, count) for count in (FEW, MORE))
-    return (more - few) / (MORE - FEW)
+    return (more - few) / (MORE - FEW) / times
 
 
 def count_all(programs, loads, figures):
@@ -181,7 +203,8 @@ def count_all(programs, loads, figures):
     with tempfile.TemporaryDirectory() as folder:
         files = written_files(folder)
         for name, run, without in loads:
-            counts = [of_message(path, folder, files, run) - (of_message(path, folder, files, without) if without else 0) for _, path in programs]
+            times = TIMES.get(name, 1)
+            counts = [of_message(path, folder, files, run, times) - (of_message(path, folder, files, without) if without else 0) for _, path in programs]
             is_over = name in figures and max(counts) > SLACK * figures[name]
             over += [name] * is_over
             print(f"{name:44}" + "".join(f"{it:12,.0f}" for it in counts) + f"   over {figures.get(name, 0):,}" * is_over, flush=True)
@@ -217,6 +240,8 @@ def parsed():
 
 def main():
     programs, figures = parsed()
+    _, hard = resource.getrlimit(resource.RLIMIT_NOFILE)
+    resource.setrlimit(resource.RLIMIT_NOFILE, (min(hard, OPEN_FILES), hard))
     print(f"{'instructions a message':44}" + "".join(f"{name:>12}" for name, _ in programs), flush=True)
     over = count_all(programs, [load for load in LOADS if not figures or load[0] in figures], figures)
     if over:
