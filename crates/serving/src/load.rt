@@ -16,16 +16,19 @@ pub(crate) struct Load {
     waiting: Vec<usize>,
     /// The sum of these, or less.
     total: usize,
+    /// The slot behind the last one to which a delivery was made in this round; 0 if none was made.
+    end: usize,
 }
 
 impl Model for Load {
-    ghost use Rattle.std.specs.Prelude.{ℕ, List, sum, ◌≤◌};
+    ghost use Rattle.std.specs.Prelude.{ℕ, List};
+    ghost use Rattle.serving.specs.Load.{IsLoad};
 
     ghost Value = { List ℕ };
 
     ghost view = { λ l. l.waiting.items };
 
-    ghost invariant = { λ l. l.total ≤ sum l.waiting.items };
+    ghost invariant = { λ l. IsLoad l.waiting.items l.total l.end };
 }
 
 impl Load {
@@ -34,6 +37,7 @@ impl Load {
         Ok(Load {
             waiting: vec![in alloc; 0; slots]?,
             total: 0,
+            end: 0,
         })
     }
 
@@ -41,8 +45,9 @@ impl Load {
     pub(crate) fn begin(&mut self)
         ensures { (i : ℕ) → slice_index_or self.new i 0 ≡ 0 }
     {
+        self.waiting[..self.end].fill(0);
         self.total = 0;
-        self.waiting.as_mut_slice().fill(0);
+        self.end = 0;
     }
 
     /// Records that `length` bytes wait for the connection of `slot`, to which a delivery was made.
@@ -53,6 +58,7 @@ impl Load {
             let others = self.total.saturating_sub(self.waiting[slot]);
             self.total = others.saturating_add(length);
             self.waiting[slot] = length;
+            self.end = self.end.max(slot + 1);
         }
     }
 
