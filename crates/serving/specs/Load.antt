@@ -22,6 +22,6 @@ Recounts w ps c old new = (new ≡ old) ⊎ ((i : ℕ) × (p : Peer) × At ps i 
 
 -- What is kept of the numbers of all slots: at least `total` waits, and nothing for a slot at or behind `end`.
 pub record IsLoad (waiting : List ℕ) (total : ℕ) (end : ℕ) : Type 0 where
-  pub total : total ≤ sum waiting
+  pub least : total ≤ sum waiting
   pub within : end ≤ length waiting
   pub none : (i : ℕ) → end ≤ i → slice_index_or waiting i 0 ≡ 0

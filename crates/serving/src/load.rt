@@ -1,6 +1,6 @@
 //! How much output waits for the connections to which a round has delivered.
 
-ghost use Rattle.std.specs.Prelude.{◌≡◌, ◌≤◌, ℕ, slice_index_or, slice_set, sum, true};
+ghost use Rattle.std.specs.Prelude.{◌≡◌, ◌≤◌, ◌++◌, ℕ, drop, length, replicate, slice_index_or, slice_set, sum, true};
 ghost use Rattle.serving.specs.Rounds.{enough_output};
 
 use std::alloc::{AllocError, Global};
@@ -31,6 +31,14 @@ impl Model for Load {
     ghost invariant = { λ l. IsLoad l.waiting.items l.total l.end };
 }
 
+/// Clears the first `end` numbers.
+fn clear(numbers: &mut [usize], end: usize)
+    requires { end ≤ length numbers.old }
+    ensures { numbers.new ≡ replicate end 0 ++ drop end numbers.old }
+{
+    numbers[..end].fill(0);
+}
+
 impl Load {
     /// Makes a load without output, for `slots` slots. Fails only if an allocation fails.
     pub(crate) fn new(alloc: Global, slots: usize) -> Result<Load, AllocError> {
@@ -45,7 +53,7 @@ impl Load {
     pub(crate) fn begin(&mut self)
         ensures { (i : ℕ) → slice_index_or self.new i 0 ≡ 0 }
     {
-        self.waiting[..self.end].fill(0);
+        clear(self.waiting.as_mut_slice(), self.end);
         self.total = 0;
         self.end = 0;
     }
