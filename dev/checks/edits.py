@@ -14,7 +14,7 @@ PAGES = ("docs/inside/TESTING.md", "docs/TESTING.md")
 MOST = 139
 MOST_OF_A_CRATE = 10
 # a crate is proved once more for its first edit
-MOST_CRATES = 22
+MOST_CRATES = 23
 NAMED = re.compile(r"`([a-z0-9_]+)`")
 
 

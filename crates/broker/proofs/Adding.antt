@@ -16,10 +16,6 @@ pub record IsFirstOf (n : ℕ) (ks : List Consumer) (k : Consumer) : Type 0 wher
   pub there : (d : Consumer) → get_or ks at d ≡ k
 
 module _ (c count : ℕ) where
-  -- nobody is added
-  pub none_added : (those : ℕ → Consumer → Type 0) (old : Gone) (before : List ℕ) → ((h : ℕ) (k : Consumer) → those h k → ⊥) → AreAdded c those count old before old before
-  none_added those old before none = record { size = refl; stay = λ n q i. i; come = λ h k its. absurd (none h k its); one = λ q s e. inl e }
-
   -- one more is
   pub one_added : (those more : ℕ → Consumer → Type 0) (p : Pick) (queue : ℕ) (old mid new : Gone) (before between after : List ℕ)
       → ((h : ℕ) (k : Consumer) → those h k → more h k) → ((h : ℕ) (k : Consumer) → more h k → those h k ⊎ ((k.queue ≡ queue) × (consumer_at c h k.number ≡ p)))
@@ -80,10 +76,6 @@ in_at (x ∷ xs) zero k lt e = inl (sym e)
 in_at (x ∷ xs) (suc n) k lt e = inr (in_at xs n k (omega (arith, lt)) e)
 
 module _ (c count number : ℕ) where
-  -- of none of them
-  pub first_none : (ks : List Consumer) (gone : Gone) (named : List ℕ) → AreAdded c (λ h k. (h ≡ number) × IsFirstOf 0 ks k) count gone named gone named
-  first_none ks gone named = none_added c count (λ h k. (h ≡ number) × IsFirstOf 0 ks k) gone named (λ h k its. let less = its.1.less in omega (arith, less))
-
   -- of one more
   pub first_more : (index : ℕ) (ks : List Consumer) (s : Seat) (p : Pick) (old mid new : Gone) (before between after : List ℕ) → index < length ks → IsSeatAt ks index s → p ≡ consumer_at c number s.number
       → AreAdded c (λ h k. (h ≡ number) × IsFirstOf index ks k) count old before mid between → AddsLeaver p s.queue count mid between new after
@@ -126,17 +118,9 @@ module _ (c count number : ℕ) where
       first : (k : Consumer) → IsIn k ch.given.consumers → IsFirstOf (length ch.given.consumers) ch.given.consumers k
       first k i = let at = place_of_in k ch.given.consumers i in record { at = at.0; less = at.1; within = at.1; there = at.2 }
 
-  -- where there is no channel
-  pub first_closed : (o : Option Open) (gone : Gone) (named : List ℕ) → o ≡ None → AreAdded c (λ h k. (h ≡ number) × IsConsumerIn o k) count gone named gone named
-  first_closed o gone named is = none_added c count (λ h k. (h ≡ number) × IsConsumerIn o k) gone named (λ h k its. false≢true (ap is_some (sym is ∙ its.1.1)))
-
 -- ---- the consumers of a connection
 
 module _ (c count : ℕ) (l : Running) where
-  -- of none of its channels
-  pub slot_none : (gone : Gone) (named : List ℕ) → AreAdded c (λ h k. (h < 0) × IsConsumerIn (channel_in l h) k) count gone named gone named
-  slot_none gone named = none_added c count (λ h k. (h < 0) × IsConsumerIn (channel_in l h) k) gone named (λ h k its. let less = its.0 in omega (arith, less))
-
   -- of one more
   pub slot_more : (place : ℕ) (o : Option Open) (old mid new : Gone) (before between after : List ℕ) → o ≡ channel_in l place
       → AreAdded c (λ h k. (h < place) × IsConsumerIn (channel_in l h) k) count old before mid between → AreAdded c (λ h k. (h ≡ place) × IsConsumerIn o k) count mid between new after

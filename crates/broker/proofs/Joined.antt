@@ -1,5 +1,5 @@
 -- Consumers that are there after an event: they were there, or it made them.
-use Rattle.broker.proofs.Names.{◌∙◌, ℕ, List, [], ◌∷◌, ◌++◌, Bool, true, false, Option, Some, None, inl, inr, refl, sym, ap, subst, if◌then◌else◌, option_map, is_some, not, ◌==◌, ◌&&◌, eq-eqb, false≢true, same_Some, Text, Topology, IsIn, IsAgreed, Broker, Channel, Connection, with_pair, with_row, Is, Acts, Refuses, Decides, OnConnection, Refusal, Ignored, Of_channel, Of_connection, refusal, channel_or_new, consumer_of, ids_of, Content, BasicConsume, Method, Send, Event, Command, Note, WasConsumer, IsMadeBy, ConsumersAreMade, open_in, running_in, channel_in, channel_at, connection_at, limits_of, Kept, names_of, HasConsumer, next_number, next_consumer, makes_consumer, consumer_to_make, consumed, IsConsumed, Pick}
+use Rattle.broker.proofs.Names.{◌∙◌, ℕ, List, [], ◌∷◌, ◌++◌, Bool, true, false, Option, Some, None, inl, inr, refl, sym, ap, subst, if◌then◌else◌, option_map, is_some, not, ◌==◌, ◌&&◌, eq-eqb, false≢true, same_Some, Text, Topology, IsIn, Broker, Channel, Connection, with_pair, with_row, Is, Acts, Refuses, Decides, OnConnection, Refusal, Ignored, Of_channel, Of_connection, refusal, channel_or_new, consumer_of, ids_of, Content, BasicConsume, Method, Send, Event, Command, Note, WasConsumer, IsMadeBy, ConsumersAreMade, open_in, running_in, channel_in, channel_at, connection_at, limits_of, Kept, names_of, HasConsumer, next_number, next_consumer, makes_consumer, consumer_to_make, consumed, IsConsumed, Pick}
 use Rattle.std.proofs.Common.{◌≡◌, ◌⊎◌}
 use Rattle.model.specs.Broker as seen
 use Rattle.model.specs.declared.methods.Consume.{Consume}
@@ -7,10 +7,6 @@ use Rattle.channels.specs.Open.{Open}
 use Rattle.channels.specs.RunningConnections.{Running}
 use Rattle.commands.specs.State.{broker_of, topology_kept}
 use Rattle.commands.specs.Judged.{IsIgnored}
-
--- each step leaves what is held and what is outstanding in agreement
-abbrev pub StayAgreed : Type 0
-StayAgreed = (t : Topology) (old new : Broker) (e : Event) (sends : List Send) (notes : List Note) → IsAgreed old → Acts t old e sends notes new → IsAgreed new
 
 -- the consumer of channel h of connection c
 abbrev pick_of : ℕ → ℕ → seen.Consumer → Pick

@@ -1,5 +1,5 @@
 -- Queues over which picks go: each in whose line a consumer is awake is marked.
-use Rattle.broker.proofs.Names.{◌∙◌, ◌<◌, ◌≤◌, ◌+◌, ◌*◌, ℕ, List, [], Bool, true, false, length, get_or, set, inl, inr, refl, sym, ap, subst, arith, ◌==◌, eqb-true, eq-eqb, false≢true, leb_tells, length-set, get_or-set_same, get_or-set_other, same_default, bit_of, Differs, Kept, IsPickFrom, Pick, Queue, IsIn, awake_member, line_of, IsAwake, AreKept, QueuesAreMarked, NoneMarked, AllAreEmpty}
+use Rattle.broker.proofs.Names.{◌∙◌, ◌<◌, ◌≤◌, ◌+◌, ◌*◌, ℕ, List, [], Bool, true, false, length, get_or, set, inl, inr, refl, sym, ap, subst, arith, ◌==◌, eqb-true, eq-eqb, false≢true, leb_tells, length-set, get_or-set_same, get_or-set_other, same_default, bit_of, Differs, Kept, IsPickFrom, Pick, Queue, line_of, IsAwake, AreKept, QueuesAreMarked, NoneMarked}
 use Rattle.std.proofs.Common.{◌≡◌}
 use Rattle.broker.proofs.Found.{cannot_pick}
 use Rattle.broker.proofs.Members.{in_items}
@@ -37,17 +37,6 @@ none_passed kept marks from next ready to none unready zeros place p least lt up
 -- the line at the index of a queue is what is borrowed there
 pub borrowed : (lines : List (Queue Pick)) (queue : ℕ) (l : Queue Pick) → queue < length lines → l ≡ get_or lines queue l → line_of lines queue ≡ l
 borrowed lines queue l lt is = same_default lines queue no_line l lt ∙ sym is
-
--- one mark more
-pub marked_more : (lines : List (Queue Pick)) (old new : List ℕ) (queue : ℕ) → length new * 64 ≡ length old * 64 → Differs (bit_of old) (bit_of new) queue 1 → QueuesAreMarked lines old → QueuesAreMarked lines new
-marked_more lines old new queue len d m = record {
-  room = let room = m.room in omega (arith, len, room);
-  awake = λ place p up. go place (m.awake place p up) (place == queue) refl;
-}
-  where
-    go : (place : ℕ) → bit_of old place ≡ 1 → (v : Bool) → (place == queue) ≡ v → bit_of new place ≡ 1
-    go place was true f = ap (bit_of new) (eqb-true place queue f) ∙ d.there
-    go place was false f = d.others place (distinct place queue f) ∙ was
 
 -- one less, of a queue in whose line nobody is awake
 pub marked_less : (lines : List (Queue Pick)) (old new : List ℕ) (queue : ℕ) → length new * 64 ≡ length old * 64 → Differs (bit_of old) (bit_of new) queue 0 → ((p : Pick) → IsAwake (line_of lines queue) p → ⊥) → QueuesAreMarked lines old → QueuesAreMarked lines new
@@ -107,10 +96,3 @@ module _ (lines : List (Queue Pick)) (queue : ℕ) (l : Queue Pick) (lt : queue 
       go : (k : ℕ) → bit_of old k ≡ 1 → (v : Bool) → (k == queue) ≡ v → bit_of new k ≡ 1
       go k up true f = ap (bit_of new) (eqb-true k queue f) ∙ d.there
       go k up false f = d.others k (distinct k queue f) ∙ up
-
--- nobody wants a mark where nobody is
-pub marked_empty : (lines : List (Queue Pick)) (marks : List ℕ) → length lines ≤ length marks * 64 → AllAreEmpty lines → QueuesAreMarked lines marks
-marked_empty lines marks room none = record {
-  room = room;
-  awake = λ place p up. absurd (subst (λ (ms : List _). IsIn (awake_member p) ms) (none place) up);
-}

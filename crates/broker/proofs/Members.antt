@@ -175,17 +175,6 @@ module _ (cannot : Pick → Type 0) where
   ]
   rested_in (m ∷ ms) (n ∷ ns) r p (inr i) = elim (rested_in ms ns r.2 p i) [ inl j ↦ inl (inr j) | inr c ↦ inr c ]
 
-  -- whoever is awake now was awake
-  pub rested_up : (old new : List (Member Pick)) → Rest cannot old new → (p : Pick) → IsIn (awake_member p) new → IsIn (awake_member p) old
-  rested_up [] [] r p i = absurd i
-  rested_up [] (n ∷ ns) r p i = absurd r
-  rested_up (m ∷ ms) [] r p i = absurd r
-  rested_up (m ∷ ms) (n ∷ ns) r p (inl e) = elim r.1 [
-    | inl same ↦ inl (e ∙ ap (λ (q : Pick). record { item = q; awake = n.awake }) r.0 ∙ ap (λ (v : Bool). record { item = m.item; awake = v }) same)
-    | inr rests ↦ absurd (false≢true (sym rests.0 ∙ sym (ap (λ (x : Member Pick). x.awake) e)))
-  ]
-  rested_up (m ∷ ms) (n ∷ ns) r p (inr i) = inr (rested_up ms ns r.2 p i)
-
 -- ---- one is picked
 
 module _ (can cannot : Pick → Type 0) (old new : List (Member Pick)) (x : Pick) (picks : PicksOne can cannot old x new) where
@@ -212,9 +201,6 @@ module _ (can cannot : Pick → Type 0) (old new : List (Member Pick)) (x : Pick
 
   pub picked_in : (p : Pick) → IsIn (asleep_member p) new → IsIn (asleep_member p) old ⊎ cannot p
   picked_in p i = rested_in cannot old picks.middle picks.rest p (in_middle (asleep_member p) i)
-
-  pub picked_up : (p : Pick) → IsIn (awake_member p) new → IsIn (awake_member p) old
-  picked_up p i = rested_up cannot old picks.middle picks.rest p (in_middle (awake_member p) i)
 
   pub picked_last : (kept : Kept) (queue : ℕ) → ((p : Pick) → IsIn (asleep_member p) old ⊎ cannot p → IsPickFrom kept queue p → ⊥) → GoesLast kept queue (items_of old) (items_of new) x
   picked_last kept queue none = record {

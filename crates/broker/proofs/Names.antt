@@ -9,7 +9,6 @@ pub use Rattle.broker.specs.Waiting.{AllInLine, CanGive, IsFirst, IsServedSoon, 
 pub use Rattle.broker.specs.declared.rounds.leaving.Gone.{Gone}
 pub use Rattle.broker.specs.declared.rounds.leaving.Gone.TheVariants.{Nobody, One, Several}
 pub use Rattle.broker.specs.declared.rounds.leaving.Leavers.{Leavers}
-pub use Rattle.channels.proofs.Moving.{changed_to, one_changed}
 pub use Rattle.channels.proofs.Setting.{same_default}
 pub use Rattle.channels.specs.Consumers.{consumer_numbered, next_number}
 pub use Rattle.channels.specs.Moving.{place_now}
@@ -18,7 +17,7 @@ pub use Rattle.channels.specs.RunningConnections.{channel_at, channel_in, channe
 pub use Rattle.commands.proofs.Picking.{pick_from, same_place}
 pub use Rattle.commands.proofs.Remaining.{one_stays, same_stay}
 pub use Rattle.commands.proofs.Stepping.{seen_there}
-pub use Rattle.commands.specs.Ended.{AllConsumersStay, LosesConnection, ReportsEnds}
+pub use Rattle.commands.specs.Ended.{AllConsumersStay, ReportsEnds}
 pub use Rattle.commands.specs.Picked.{CannotTake, IsKeptAs, IsPick, IsPickFrom, TakesAs}
 pub use Rattle.commands.specs.NewConsumers.{IsConsumed, IsNewest, consumed, has_consumer, makes_consumer, next_consumer, consumer_to_make}
 pub use Rattle.commands.specs.State.{ArePlaced, Kept, names_of}
@@ -28,7 +27,7 @@ pub use Rattle.depot.proofs.Naming.{is_in, names-length}
 pub use Rattle.depot.specs.Moving.{AreMoved, goes}
 pub use Rattle.depot.specs.Store.{HasReady, IsStoreWhole, queue_at}
 pub use Rattle.exchange_graph.specs.Marks.{queue_name}
-pub use Rattle.laws.proofs.Counts.{count-append, count-cons, count-map}
+pub use Rattle.laws.proofs.Counts.{count-append, count-map}
 pub use Rattle.laws.specs.Consumers.{ConsumersAreMade, IsMadeBy, WasConsumer}
 pub use Rattle.marks.specs.Sets.{Differs, bit_of}
 pub use Rattle.model.specs.Agreement.{IsAgreed}
@@ -37,7 +36,7 @@ pub use Rattle.model.specs.Consuming.{CanDeliver, MayTake, consumer_of, may_take
 pub use Rattle.model.specs.Deliveries.{channel_after, first_ready, outstanding_after}
 pub use Rattle.model.specs.Entries.{by_channel, is_held_as}
 pub use Rattle.model.specs.Grammar.{Ids, ids_of}
-pub use Rattle.model.specs.Reloading.{NoneIsOrphaned, by_consumer, survived_now, with_all_survived}
+pub use Rattle.model.specs.Reloading.{NoneIsOrphaned, survived_now, with_all_survived}
 pub use Rattle.model.specs.Step.{Acts, Decides, Does, Gets, Ignored, Is, IsDelivery, Of_channel, Of_connection, OnConnection, OnLarge, Performs, Refusal, Refuses, channel_or_new, channels_up_to, empty_publish, paused, refusal, refusal_of_large, with_channel, with_freed}
 pub use Rattle.model.specs.Topology.{AreDistinct, IsIn, Topology, queue_names}
 pub use Rattle.model.specs.Words.{Text}
@@ -50,19 +49,15 @@ pub use Rattle.model.specs.declared.methods.Method.{Method}
 pub use Rattle.model.specs.declared.methods.Method.TheVariants.{BasicAck, BasicCancel, BasicConsume, BasicGet, BasicNack, BasicPublish, BasicQos, BasicRecover, BasicReject, ChannelClose, ChannelCloseOk, ChannelFlow, ChannelOpen, ConfirmSelect, ConnectionClose, ExchangeDeclare, QueueDeclare, QueuePurge}
 pub use Rattle.model.specs.declared.notes.Note.{Note}
 pub use Rattle.replies.specs.Sent.{connection_of_event}
-pub use Rattle.std.proofs.Common.{Bool, Err, List, None, Ok, Option, Result, Some, [], ap, arith, cond, drop, false, filter, find, get_or, if◌then◌else◌, inl, inr, length, ltb, ltb-false, map, min, refl, rules, set, subst, suc, sym, take, true, vec_len, zero, ℕ, ◌*◌, ◌++◌, ◌+◌, ◌-◌, ◌<◌, ◌∙◌, ◌∷◌, ◌≤◌}
+pub use Rattle.std.proofs.Common.{Bool, Err, List, None, Ok, Option, Result, Some, [], ap, arith, cond, drop, false, filter, find, get_or, if◌then◌else◌, inl, inr, length, map, min, refl, set, subst, suc, sym, take, true, zero, ℕ, ◌*◌, ◌++◌, ◌+◌, ◌-◌, ◌<◌, ◌∙◌, ◌∷◌, ◌≤◌}
 pub use Rattle.std.proofs.lemmas.Bool.{eq-eqb, eqb-true, false≢true, lt-ltb}
 pub use Rattle.std.proofs.lemmas.Bool.Decides.{leb_tells}
-pub use Rattle.std.proofs.lemmas.Fn.{filter_same}
-pub use Rattle.std.proofs.lemmas.List.{append-nil, drop_all, drop_at, drop_min, drop_more, get_or-append-add, get_or-map, get_or-set_other, get_or-set_same, get_or_past, length-append, length-drop, length-map, length-set, length-take, set-get_or, take-append-drop, take_all, take_at, take_min}
+pub use Rattle.std.proofs.lemmas.List.{append-nil, get_or-set_other, get_or-set_same, get_or_past, length-set, take_at}
 pub use Rattle.std.proofs.lemmas.List.Elements.{filter-append}
-pub use Rattle.std.proofs.lemmas.List.Sums.{count_by-le-length, length-filter}
-pub use Rattle.std.proofs.lemmas.Map.Made.{lookup-map_values, map_same_pairs}
 pub use Rattle.std.proofs.lemmas.Option.{same_Some}
-pub use Rattle.std.proofs.lemmas.List.Edits.{get_or-remove_above, get_or-remove_below, length-remove}
-pub use Rattle.std.specs.List.{AllWithin, list_any, position_from, remove}
-pub use Rattle.std.specs.Map.{lookup, set_value}
-pub use Rattle.std.specs.Option.{option_copied, option_copied_mut}
-pub use Rattle.std.specs.Prelude.{IfSome, IsOk, OnErr, OnOk, insert, is_ok, is_some, nat_eq, nat_lt, not, option_map, vec_capacity, ◌&&◌, ◌==◌, ◌||◌}
+pub use Rattle.std.specs.List.{list_any}
+pub use Rattle.std.specs.Map.{lookup}
+pub use Rattle.std.specs.Option.{option_copied}
+pub use Rattle.std.specs.Prelude.{IfSome, OnErr, OnOk, is_some, nat_lt, not, option_map, ◌&&◌, ◌==◌, ◌||◌}
 pub use Rattle.waiting_lines.specs.Order.{AllAsleep, Loses, Member, NonePass, Queue, Wakes, all_awake, items_of}
 pub use Rattle.waiting_lines.specs.Picked.{PicksOne, Rest}

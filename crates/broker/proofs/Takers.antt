@@ -1,5 +1,5 @@
 -- Who takes from a queue, and is in its order.
-use Rattle.broker.proofs.Names.{◌∙◌, ◌<◌, ℕ, zero, suc, List, [], ◌∷◌, Bool, true, false, Option, Some, None, length, map, filter, get_or, inl, inr, refl, sym, ap, subst, arith, ◌==◌, ◌&&◌, ◌||◌, nat_lt, list_any, eqb-true, eq-eqb, lt-ltb, false≢true, Text, Topology, IsIn, Channel, Broker, WasConsumer, queue_name, Kept, IsPickFrom, IsNewest, Pick, Queue, line_of, order, is_numbered_of, has_taker, takes_from, is_of, HasConsumer, AllAreConsumers, SameOrders}
+use Rattle.broker.proofs.Names.{◌∙◌, ◌<◌, ℕ, zero, suc, List, [], ◌∷◌, Bool, true, false, Option, Some, None, length, map, filter, get_or, inl, inr, refl, sym, ap, arith, ◌==◌, ◌&&◌, ◌||◌, nat_lt, list_any, eqb-true, eq-eqb, lt-ltb, false≢true, Text, Topology, IsIn, Channel, Broker, queue_name, Kept, IsPickFrom, IsNewest, Pick, Queue, line_of, order, is_numbered_of, has_taker, takes_from, is_of, HasConsumer, AllAreConsumers, SameOrders}
 use Rattle.std.proofs.Common.{◌≡◌}
 use Rattle.std.specs.Str.{bytes_eq}
 use Rattle.std.proofs.lemmas.Bool.{ltb-true}
@@ -104,14 +104,3 @@ orders_same [] [] long same = refl
 orders_same [] (s ∷ ss) long same = absurd (omega (arith, long))
 orders_same (r ∷ rs) [] long same = absurd (omega (arith, long))
 orders_same (r ∷ rs) (s ∷ ss) long same = cc (same zero, orders_same rs ss (omega (arith, long)) (λ at. same (suc at)))
-
--- ---- consumers that stay
-
--- who takes from a queue takes from it still, where its consumer is there still
-pub of_stays : (old new : Kept) (place : ℕ) (p : Pick) → topology_kept new ≡ topology_kept old
-    → ((k : Consumer) → WasConsumer (broker_of old) p.connection p.channel k → WasConsumer (broker_of new) p.connection p.channel k) → is_of old place p ≡ true → is_of new place p ≡ true
-of_stays old new place p is stays its =
-    let has = of_has old place p its in
-    has_of new place p
-    (subst (λ (t : Topology). HasConsumer t (broker_of new) place p) (sym is)
-    (record { consumer = has.consumer; was = stays has.consumer has.was; numbered = has.numbered; within = has.within; named = has.named }))

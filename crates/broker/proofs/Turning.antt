@@ -1,5 +1,5 @@
 -- A broker with its rounds, as its callers see it: who is in the orders of its queues.
-use Rattle.broker.proofs.Names.{◌∙◌, ◌<◌, ◌≤◌, ◌++◌, ℕ, List, [], ◌∷◌, Bool, true, Option, length, filter, inl, inr, sym, ap, subst, arith, append-nil, filter-append, Topology, IsIn, queue_name, Kept, Pick, count_before, AllDistinct, Leavers, Queue, Rounds, line_of, order, is_consumer, takes_from, is_of, remains, HasConsumer, AllAreConsumers, AllAddTheirOwn, AreKept, LeaveLines, SameOrders, GoesOn, with_turn, AllInLine, NobodyIsPutBack, NoneIsLater, WaitersAreConsumers, count_before_at, line_at}
+use Rattle.broker.proofs.Names.{◌∙◌, ◌<◌, ◌≤◌, ◌++◌, ℕ, List, [], ◌∷◌, Bool, true, Option, length, filter, inl, inr, sym, ap, subst, arith, append-nil, filter-append, Topology, IsIn, queue_name, Kept, Pick, count_before, AllDistinct, Leavers, Queue, Rounds, line_of, order, is_consumer, takes_from, is_of, remains, HasConsumer, AllAreConsumers, AllAddTheirOwn, AreKept, LeaveLines, GoesOn, with_turn, AllInLine, NobodyIsPutBack, NoneIsLater, WaitersAreConsumers, count_before_at, line_at}
 use Rattle.std.proofs.Common.{◌≡◌}
 use Rattle.commands.specs.State.{broker_of, topology_kept}
 use Rattle.broker.proofs.Lists.{fewer, filter_twice, stays}
@@ -36,10 +36,6 @@ same_turns kept old new x on = let lines = orders_same old.lines new.lines on.le
 abbrev pub GoRound : Kept → List (Queue Pick) → List (Queue Pick) → Type 0
 GoRound kept old new = (place : ℕ) (test : Pick → Bool) → ((p : Pick) → test p ≡ true → is_of kept place p ≡ true)
     → (came : List Pick) × (filter test (order (line_of new place)) ≡ filter test (order (line_of old place)) ++ came)
-
--- as where all are
-pub round_same : (kept : Kept) (old new : List (Queue Pick)) → SameOrders old new → GoRound kept old new
-round_same kept old new same place test its = ([], ap (filter test) (same place) ∙ sym (append-nil (filter test (order (line_of old place)))))
 
 -- where one comes in
 pub round_joined : (kept : Kept) (old new : List (Queue Pick)) → AllAddTheirOwn kept old new → GoRound kept old new
