@@ -173,24 +173,24 @@ pub(crate) fn a_file_that_is_not_there_is_unread(rt: &HostRuntime) -> Result<(),
     expect("it cannot be compared", compared)
 }
 
-/// A run of the program over files: its words, and what it has to end with.
+/// A command line of the program over files: its words, and what it has to end with.
 #[derive(Clone, Copy, Drop)]
-struct Run {
+struct Command {
     words: &'static [&'static str],
     status: u64,
     out: &'static [u8],
     err: &'static [u8],
 }
 
-/// A run for each exit status above 0 that docs/OPERATIONS.md lists.
-const STATUSES: &[Run] = &[
-    Run {
+/// A command line for each exit status above 0 that docs/OPERATIONS.md lists.
+const STATUSES: &[Command] = &[
+    Command {
         words: &["warren", "check", ONE_KEY, ORDERS],
         status: 1,
         out: b"1 no key \"orders\"\n",
         err: b"",
     },
-    Run {
+    Command {
         words: &[
             "warren",
             "check",
@@ -201,13 +201,13 @@ const STATUSES: &[Run] = &[
         out: b"1 undecided key\n",
         err: b"",
     },
-    Run {
+    Command {
         words: &["warren", "route", TWO_KEYS, "nowhere", "orders"],
         status: 3,
         out: b"",
         err: b"warren: no exchange\n",
     },
-    Run {
+    Command {
         words: &["warren", "check", NO_FILE, ORDERS],
         status: 4,
         out: b"",
@@ -215,10 +215,10 @@ const STATUSES: &[Run] = &[
     },
 ];
 
-/// Checks each of `runs`.
-fn expect_runs(rt: &HostRuntime, runs: &[Run]) -> Result<(), Unmet> {
-    for run in runs {
-        expect_run(rt, run.words, run.status, run.out, run.err)?;
+/// Checks what the program ends with for each of `commands`.
+fn expect_commands(rt: &HostRuntime, commands: &[Command]) -> Result<(), Unmet> {
+    for command in commands {
+        expect_run(rt, command.words, command.status, command.out, command.err)?;
     }
     Ok(())
 }
@@ -227,7 +227,7 @@ fn expect_runs(rt: &HostRuntime, runs: &[Run]) -> Result<(), Unmet> {
 pub(crate) fn each_status_comes_of_files_of_the_machine(rt: &HostRuntime) -> Result<(), Unmet> {
     write(rt)?;
     remove(rt)?;
-    expect_runs(rt, STATUSES)
+    expect_commands(rt, STATUSES)
 }
 
 /// Returns the words that ask to serve at `address` for three rounds, with a look at the files after each but the last.
