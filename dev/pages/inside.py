@@ -123,7 +123,7 @@ def run_block(commands, places, rabbit, folder):
 
 def outcomes(rabbit):
     release = glob.glob(f"{RELEASE}/*")[0]
-    version = re.search(r"warren-(.*)-x86_64\.tar\.gz", " ".join(os.listdir(release))).group(1)
+    version = re.search(r"warren-(\S+)-x86_64\.tar\.gz", " ".join(os.listdir(release))).group(1)
     places = {"USER:PASSWORD": "guest:guest", "VERSION": version, "PASSWORD=..": f"PASSWORD={USER}", "--within 100": "--within 60000"}
     if rabbit:
         places["HOST:15672"] = f"127.0.0.1:{rabbit.management}"
