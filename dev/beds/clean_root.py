@@ -31,7 +31,7 @@ exec chroot "$1/root" /usr/bin/env -i PATH=/usr/sbin:/usr/bin:/sbin:/bin LC_ALL=
 
 
 def run_inside(folder, script, seconds=300):
-    """Runs a script of the shell in such a root, in which `folder` is /mnt, for so many seconds at most. Returns what subprocess says."""
+    """Runs a script of the shell in such a root, in which `folder` is /mnt, for at most `seconds` seconds. Returns what subprocess says."""
     with tempfile.TemporaryDirectory() as place:
         command = ["unshare", "--mount", "sh", "-c", ENTER, "sh", place, folder, script]
         return subprocess.run(command, capture_output=True, text=True, stdin=subprocess.DEVNULL, timeout=seconds)
